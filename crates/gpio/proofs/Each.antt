@@ -1,0 +1,32 @@
+-- What a loop over the entries up to a count needs of `each` and `tally`. Assumes nothing.
+use mathlib.Core.Path.{_≡_, refl}
+use mathlib.Core.Bool.{Bool, true, false, _&&_, cond}
+use Prim.Native.Nat.{ℕ, zero, suc, _+_, _≤_, _<_}
+use native.Mathlib.Numerals.{add-one}
+use native.Mathlib.Omega.{arith}
+use Rattle.gpio.specs.Each.{each, tally}
+
+-- before the first turn
+pub each-none : (p : ℕ → Bool) → true ≡ each 0 p
+unfolding each
+each-none p = refl
+
+-- one turn: so far, and the entry k
+pub each-turn : (p : ℕ → Bool) (k : ℕ) (ok : Bool) → ok ≡ each k p → ok && p k ≡ each (k + 1) p
+unfolding each
+each-turn p k ok e = rw (e, add-one)
+
+-- at the count
+pub each-done : (p : ℕ → Bool) (k n : ℕ) (ok : Bool) → k ≡ n → ok ≡ each k p → ok ≡ each n p
+each-done p k n ok e h = rw e at h
+
+pub tally-none : (p : ℕ → Bool) → 0 ≡ tally 0 p
+unfolding tally
+tally-none p = refl
+
+pub tally-turn : (p : ℕ → Bool) (k n : ℕ) → n ≡ tally k p → n + cond (p k) 1 0 ≡ tally (k + 1) p
+unfolding tally
+tally-turn p k n e = rw (e, add-one)
+
+pub tally-done : (p : ℕ → Bool) (k m n : ℕ) → k ≡ m → n ≡ tally k p → n ≡ tally m p
+tally-done p k m n e h = rw e at h

@@ -1,0 +1,4 @@
+pub mod Window
+pub mod Candidates
+pub mod Each
+pub mod Tab

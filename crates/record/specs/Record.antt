@@ -1,0 +1,173 @@
+-- The description record of docs/INTERFACE.md: what its bytes describe, place by place, and which records are refused.
+-- Assumes nothing.
+use Prim.Native.Nat.{ℕ, _+_, _*_, _-_}
+use mathlib.Core.Bool.{Bool, _&&_, _||_, not, cond}
+use mathlib.Core.List.{List}
+use lib.Dec.{leb, ltb, eqb}
+use lib.IntN.{ℤ, pos, negsuc}
+use lib.ListN.{length, getD}
+use Rattle.gpio.specs.Each.{each}
+use Rattle.gpio.specs.Tab.{tab}
+use Rattle.gpio.specs.declared.candidates.Candidates.{Candidates}
+use Rattle.gpio.specs.declared.candidates.Candidates.the-variants.{Absent, One, Two}
+use Rattle.gpio.specs.declared.candidates.Pin.{Pin}
+use Rattle.slot.specs.declared.description.Board.{Board}
+use Rattle.slot.specs.declared.description.ControlLine.{ControlLine}
+use Rattle.slot.specs.declared.description.ControlLines.{ControlLines}
+use Rattle.slot.specs.declared.description.Chip.{Chip}
+use Rattle.slot.specs.declared.description.ChipSetType.{ChipSetType}
+use Rattle.slot.specs.declared.description.ChipSetType.the-variants.{Single, Banked, Multi}
+use Rattle.slot.specs.declared.description.CsLogic.{CsLogic}
+use Rattle.slot.specs.declared.description.CsLogic.the-variants.{ActiveLow, ActiveHigh, Ignore}
+use Rattle.slot.specs.declared.description.Setting.{Setting}
+use Rattle.slot.specs.declared.description.Setting.the-variants.{NotGiven, Given}
+use Rattle.slot.specs.declared.description.CsConfig.{CsConfig}
+use Rattle.slot.specs.declared.description.CsConfig.the-variants.{ChipSelect, CeOe, CeOeExplicit}
+use Rattle.slot.specs.declared.description.MultiCsConfig.{MultiCsConfig}
+use Rattle.slot.specs.declared.description.Description.{Description}
+use Rattle.slot.specs.declared.refusal.Refusal.the-variants.{OutOfDomain}
+use Rattle.record.specs.declared.Answer.{Answer}
+use Rattle.record.specs.declared.Answer.the-variants.{Described, Refused}
+use Rattle.record.specs.declared.Decoded.{Decoded}
+
+-- "424 bytes"
+abbrev pub size : ℕ
+size = 424
+
+-- the byte at a place
+abbrev pub byteAt : List ℕ → ℕ → ℕ
+byteAt b p = getD b p 0
+
+-- the n bytes from a place
+abbrev pub bytesAt : List ℕ → ℕ → ℕ → List ℕ
+bytesAt b p n = tab n (λ k. byteAt b (p + k))
+
+-- the number of four bytes from a place, low byte first
+abbrev pub fourAt : List ℕ → ℕ → ℕ
+fourAt b p = byteAt b p + 0x100 * byteAt b (p + 1) + 0x1_0000 * byteAt b (p + 2) + 0x100_0000 * byteAt b (p + 3)
+
+-- "255 255 none; g 255 one; g h two"
+abbrev pub candidatesOf : ℕ → ℕ → Candidates
+candidatesOf g h = cond (eqb g 255) Absent (cond (eqb h 255) (One g) (Two g h))
+
+abbrev pub candidatesAt : List ℕ → ℕ → Candidates
+candidatesAt b p = candidatesOf (byteAt b p) (byteAt b (p + 1))
+
+-- a second candidate without a first is none of these
+abbrev pub pairIn : List ℕ → ℕ → Bool
+pairIn b p = not (eqb (byteAt b p) 255) || eqb (byteAt b (p + 1)) 255
+
+-- "0 Single, 1 Banked, 2 Multi"
+abbrev pub setTypeOf : ℕ → ChipSetType
+setTypeOf x = cond (eqb x 0) Single (cond (eqb x 1) Banked Multi)
+
+-- "0 to 4, or 252 to 255 for -4 to -1"
+abbrev pub offsetIn : ℕ → Bool
+offsetIn x = leb x 4 || (leb 252 x && leb x 255)
+
+abbrev pub offsetOf : ℕ → ℤ
+offsetOf x = cond (leb x 4) (pos x) (cond (leb 252 x && leb x 255) (negsuc (255 - x)) (pos 0))
+
+-- "0 active low, 1 active high, 2 ignored"
+abbrev pub logicOf : ℕ → CsLogic
+logicOf x = cond (eqb x 0) ActiveLow (cond (eqb x 1) ActiveHigh Ignore)
+
+-- "or 255 for not given"
+abbrev pub settingOf : ℕ → Setting
+settingOf x = cond (eqb x 255) NotGiven (Given (logicOf x))
+
+abbrev pub logicIn : ℕ → Bool
+logicIn x = leb x 2
+
+abbrev pub settingIn : ℕ → Bool
+settingIn x = leb x 2 || eqb x 255
+
+-- "0 chip selects, 1 ce and oe, 2 explicit ce and oe"
+unfoldable pub csConfigAt : List ℕ → CsConfig
+csConfigAt b =
+    cond (eqb (byteAt b 16) 0)
+    (ChipSelect (logicOf (byteAt b 19)) (settingOf (byteAt b 20)) (settingOf (byteAt b 21)) (settingOf (byteAt b 22)))
+    (cond (eqb (byteAt b 16) 1) CeOe (CeOeExplicit (logicOf (byteAt b 17)) (logicOf (byteAt b 18))))
+
+-- the form is one of the three; a setting that it uses is one of its values, and one that it does not use is 255
+unfoldable pub csConfigIn : List ℕ → Bool
+csConfigIn b =
+    cond (eqb (byteAt b 16) 0)
+    (eqb (byteAt b 17) 255 && eqb (byteAt b 18) 255 && logicIn (byteAt b 19) && settingIn (byteAt b 20) && settingIn (byteAt b 21)
+    && settingIn (byteAt b 22))
+    (cond (eqb (byteAt b 16) 1)
+    (eqb (byteAt b 17) 255 && eqb (byteAt b 18) 255)
+    (eqb (byteAt b 16) 2 && logicIn (byteAt b 17) && logicIn (byteAt b 18))
+    && eqb (byteAt b 19) 255 && eqb (byteAt b 20) 255 && eqb (byteAt b 21) 255 && eqb (byteAt b 22) 255)
+
+unfoldable pub multiAt : List ℕ → MultiCsConfig
+multiAt b = record {
+  select = byteAt b 23;
+  commoned = bytesAt b 28 8;
+  «num_commoned» = byteAt b 24;
+  ignored = bytesAt b 36 8;
+  «num_ignored» = byteAt b 25;
+}
+
+unfoldable pub boardAt : List ℕ → Board
+boardAt b = record {
+  socket = tab 40 (λ k. record { gpios = candidatesAt b (52 + 2 * k) });
+  pins = byteAt b 0;
+  x1 = candidatesAt b 132;
+  x2 = candidatesAt b 134;
+}
+
+-- "three bytes a line: kind, pin, fixed level"
+abbrev pub lineAt : List ℕ → ℕ → ControlLine
+lineAt b p = record { kind = byteAt b p; pin = byteAt b (p + 1) }
+
+unfoldable pub chipAt : List ℕ → ℕ → Chip
+chipAt b p = record {
+  «address_pins» = bytesAt b (p + 8) 24;
+  «num_address_pins» = byteAt b (p + 4);
+  «data_pins» = bytesAt b (p + 32) 16;
+  «num_data_pins» = byteAt b (p + 5);
+  control = record { lines = tab 8 (λ k. lineAt b (p + 48 + 3 * k)); count = byteAt b (p + 6) };
+  size = fourAt b p;
+}
+
+-- what the record describes
+unfoldable pub described : List ℕ → Description
+described b = record {
+  board = boardAt b;
+  «set_type» = setTypeOf (byteAt b 2);
+  «word_bytes» = byteAt b 3;
+  «pin_offset» = offsetOf (byteAt b 4);
+  «max_image_size» = fourAt b 8;
+  chips = tab 4 (λ k. chipAt b (136 + 72 * k));
+  «num_chips» = byteAt b 5;
+  «cs_config» = csConfigAt b;
+  «has_multi» = eqb (byteAt b 7) 1;
+  multi = multiAt b;
+  qualifiers = bytesAt b 44 8;
+  «num_qualifiers» = byteAt b 6;
+}
+
+-- the places that must be 0, and those that are one of a few values
+unfoldable pub headIn : List ℕ → Bool
+headIn b =
+    eqb (byteAt b 1) 0 && leb (byteAt b 2) 2 && offsetIn (byteAt b 4) && leb (byteAt b 7) 1 && eqb (fourAt b 12) 0
+    && eqb (byteAt b 26) 0 && eqb (byteAt b 27) 0
+
+-- the candidates of the socket's pins, of X1 and of X2
+unfoldable pub pairsIn : List ℕ → Bool
+pairsIn b = each 42 (λ k. pairIn b (52 + 2 * k))
+
+-- a chip's places that must be 0
+unfoldable pub chipZeros : List ℕ → ℕ → Bool
+chipZeros b p = eqb (byteAt b (p + 7)) 0 && each 8 (λ k. eqb (byteAt b (p + 50 + 3 * k)) 0)
+
+unfoldable pub wellFormed : List ℕ → Bool
+wellFormed b = eqb (length b) size && headIn b && csConfigIn b && pairsIn b && each 4 (λ k. chipZeros b (136 + 72 * k))
+
+-- the description, or refusal 1
+abbrev pub decodedOf : List ℕ → Decoded
+decodedOf b = record {
+  answer = cond (wellFormed b) Described (Refused OutOfDomain);
+  description = described b;
+}

@@ -1,0 +1,96 @@
+// Numbers at a place of the record. A place past the record's end reads 0, so that each function here
+// answers for any length; `shape` refuses such a record.
+use gpio::candidates::Candidates;
+ghost use mathlib.Core.Path.{_≡_};
+ghost use Prim.Native.Nat.{ℕ, _≤_, _<_};
+ghost use Rattle.record.specs.Record.{byteAt, bytesAt, fourAt, candidatesAt, pairIn};
+
+pub fn byte_at(b: &[u8], p: usize) -> u8
+    ensures { λ r. ⌜ r ≡ byteAt (now (b .entry)) p ⌝ }
+{
+    if p < b.len() {
+        return b[p];
+    }
+    0
+}
+
+fn wide(x: u8) -> u32
+    ensures { λ r. ⌜ r ≡ x ⌝ }
+    ensures { λ r. ⌜ r < 256 ⌝ }
+{
+    x as u32
+}
+
+pub fn four_at(b: &[u8], p: usize) -> u32
+    requires { ⌜ p ≤ 1000 ⌝ }
+    ensures { λ r. ⌜ r ≡ fourAt (now (b .entry)) p ⌝ }
+{
+    let b0 = wide(byte_at(b, p));
+    let b1 = wide(byte_at(b, p + 1));
+    let b2 = wide(byte_at(b, p + 2));
+    let b3 = wide(byte_at(b, p + 3));
+    b0 + 0x100 * b1 + 0x1_0000 * b2 + 0x100_0000 * b3
+}
+
+pub fn eight_at(b: &[u8], p: usize) -> [u8; 8]
+    requires { ⌜ p ≤ 1000 ⌝ }
+    ensures { λ r. ⌜ r ≡ bytesAt (now (b .entry)) p 8 ⌝ }
+{
+    let mut out = [0u8; 8];
+    let mut k: usize = 0;
+    while k < 8 {
+        out[k] = byte_at(b, p + k);
+        k += 1;
+    }
+    out
+}
+
+pub fn sixteen_at(b: &[u8], p: usize) -> [u8; 16]
+    requires { ⌜ p ≤ 1000 ⌝ }
+    ensures { λ r. ⌜ r ≡ bytesAt (now (b .entry)) p 16 ⌝ }
+{
+    let mut out = [0u8; 16];
+    let mut k: usize = 0;
+    while k < 16 {
+        out[k] = byte_at(b, p + k);
+        k += 1;
+    }
+    out
+}
+
+pub fn twenty_four_at(b: &[u8], p: usize) -> [u8; 24]
+    requires { ⌜ p ≤ 1000 ⌝ }
+    ensures { λ r. ⌜ r ≡ bytesAt (now (b .entry)) p 24 ⌝ }
+{
+    let mut out = [0u8; 24];
+    let mut k: usize = 0;
+    while k < 24 {
+        out[k] = byte_at(b, p + k);
+        k += 1;
+    }
+    out
+}
+
+pub fn candidates_at(b: &[u8], p: usize) -> Candidates
+    requires { ⌜ p ≤ 1000 ⌝ }
+    ensures { λ r. ⌜ r ≡ candidatesAt (now (b .entry)) p ⌝ }
+{
+    let g = byte_at(b, p);
+    let h = byte_at(b, p + 1);
+    if g == 255 {
+        return Candidates::Absent;
+    }
+    if h == 255 {
+        return Candidates::One(g);
+    }
+    Candidates::Two(g, h)
+}
+
+pub fn pair_in(b: &[u8], p: usize) -> bool
+    requires { ⌜ p ≤ 1000 ⌝ }
+    ensures { λ r. ⌜ r ≡ pairIn (now (b .entry)) p ⌝ }
+{
+    let g = byte_at(b, p);
+    let h = byte_at(b, p + 1);
+    (g != 255) | (h == 255)
+}

@@ -1,0 +1,88 @@
+-- "Numbers a caller can get": the number and the place of each refusal, in the table's order. Rows without a name there
+-- have one here. Assumes nothing.
+use Prim.Native.Nat.{ℕ, _+_, _*_, _^_}
+use Rattle.gpio.specs.declared.set.GpioSet.{GpioSet}
+use Rattle.slot.specs.declared.refusal.Refusal.{Refusal}
+use Rattle.slot.specs.declared.refusal.Refusal.the-variants.{
+  OutOfDomain,
+  NoSelectLine,
+  UnmappedPin,
+  MissingXPin,
+  MissingAddrPinGpios,
+  RomTooLargeNoCsConfig,
+  NonContiguousSelect,
+  InteriorIgnoredLine,
+  NoValidLayout,
+  IncompatiblePinCount,
+  RomTableTooLarge,
+  InvalidConfig,
+  BadPosition,
+  MissingImageData,
+  ShortImageData,
+  ShortBuffer,
+  WrongSize,
+  UnknownSlotType,
+  MissingLayout,
+  UnknownAlgorithm,
+  BadLayout,
+  XPin,
+  Inconsistent,
+  Unserved,
+  NoActiveLine,
+}
+
+abbrev pub numberOf : Refusal → ℕ
+numberOf OutOfDomain = 1
+numberOf NoSelectLine = 2
+numberOf (UnmappedPin pin) = 3
+numberOf (MissingXPin x) = 4
+numberOf MissingAddrPinGpios = 5
+numberOf RomTooLargeNoCsConfig = 6
+numberOf (NonContiguousSelect gpios) = 7
+numberOf (InteriorIgnoredLine gpio) = 8
+numberOf NoValidLayout = 9
+numberOf IncompatiblePinCount = 10
+numberOf RomTableTooLarge = 11
+numberOf InvalidConfig = 12
+numberOf BadPosition = 13
+numberOf (MissingImageData chip) = 14
+numberOf (ShortImageData chip) = 15
+numberOf ShortBuffer = 16
+numberOf WrongSize = 17
+numberOf UnknownSlotType = 18
+numberOf MissingLayout = 19
+numberOf UnknownAlgorithm = 20
+numberOf BadLayout = 21
+numberOf (XPin x) = 22
+numberOf (Inconsistent rom addr) = 23
+numberOf (Unserved rom addr) = 24
+numberOf NoActiveLine = 25
+
+-- "A refused call returns the number and the place named, else place 0." A GPIO list is its set's 48 bits; a ROM and an
+-- address are the address in the low 32 bits with the ROM above it.
+abbrev pub placeOf : Refusal → ℕ
+placeOf OutOfDomain = 0
+placeOf NoSelectLine = 0
+placeOf (UnmappedPin pin) = pin
+placeOf (MissingXPin x) = x
+placeOf MissingAddrPinGpios = 0
+placeOf RomTooLargeNoCsConfig = 0
+placeOf (NonContiguousSelect gpios) = gpios .bits
+placeOf (InteriorIgnoredLine gpio) = gpio
+placeOf NoValidLayout = 0
+placeOf IncompatiblePinCount = 0
+placeOf RomTableTooLarge = 0
+placeOf InvalidConfig = 0
+placeOf BadPosition = 0
+placeOf (MissingImageData chip) = chip
+placeOf (ShortImageData chip) = chip
+placeOf ShortBuffer = 0
+placeOf WrongSize = 0
+placeOf UnknownSlotType = 0
+placeOf MissingLayout = 0
+placeOf UnknownAlgorithm = 0
+placeOf BadLayout = 0
+placeOf (XPin x) = x
+placeOf (Inconsistent rom addr) = rom * 2 ^ 32 + addr
+placeOf (Unserved rom addr) = rom * 2 ^ 32 + addr
+placeOf NoActiveLine = 0

@@ -1,0 +1,58 @@
+-- slot_context.rs: where a chip's pins come to lie in the board's socket. Assumes nothing.
+use Prim.Native.Nat.{ℕ, _+_, _-_}
+use mathlib.Core.Bool.{Bool, _&&_, _||_, cond}
+use mathlib.Core.List.{List, [], _∷_}
+use lib.Dec.{leb, eqb}
+use lib.IntN.{ℤ, pos, negsuc}
+use Rattle.slot.specs.declared.refusal.Refusal.the-variants.{OutOfDomain, IncompatiblePinCount}
+use Rattle.slot.specs.declared.slot_context.KnownPair.{KnownPair}
+use Rattle.slot.specs.declared.slot_context.OffsetAnswer.{OffsetAnswer}
+use Rattle.slot.specs.declared.slot_context.OffsetAnswer.the-variants.{Offset, Refused}
+use Rattle.slot.specs.declared.slot_context.Socket.{Socket}
+use Rattle.slot.specs.declared.slot_context.Socket.the-variants.{On, Off}
+
+-- "Board pins 24, 28, 32 or 40."
+abbrev pub boardPinsIn : ℕ → Bool
+boardPinsIn n = eqb n 24 || eqb n 28 || eqb n 32 || eqb n 40
+
+abbrev pub pair : ℕ → ℕ → ℤ → KnownPair
+pair chip board o = record { «chip_pins» = chip; «board_pins» = board; offset = o }
+
+-- "ten known pairs of pin counts": chip pins, board pins, offset
+unfoldable pub knownPairs : List KnownPair
+knownPairs =
+    pair 24 24 (pos 0)
+    ∷ pair 28 28 (pos 0)
+    ∷ pair 32 32 (pos 0)
+    ∷ pair 40 40 (pos 0)
+    ∷ pair 24 28 (pos 2)
+    ∷ pair 28 32 (pos 2)
+    ∷ pair 24 32 (pos 4)
+    ∷ pair 28 24 (negsuc 1)
+    ∷ pair 32 28 (negsuc 1)
+    ∷ pair 32 24 (negsuc 3)
+    ∷ []
+
+abbrev pub isFor : KnownPair → ℕ → ℕ → Bool
+isFor p chip board = eqb (p .«chip_pins») chip && eqb (p .«board_pins») board
+
+-- the offset of the pair's row; "no socket offset" is 10
+unfoldable pub offsetFrom : List KnownPair → ℕ → ℕ → OffsetAnswer
+offsetFrom [] chip board = Refused IncompatiblePinCount
+offsetFrom (p ∷ ps) chip board = cond (isFor p chip board) (Offset (p .offset)) (offsetFrom ps chip board)
+
+-- "the chip's pin count may be any byte"; a board that is none of the four is 1
+abbrev pub offsetAnswer : ℕ → ℕ → OffsetAnswer
+offsetAnswer chip board = cond (boardPinsIn board) (offsetFrom knownPairs chip board) (Refused OutOfDomain)
+
+-- "The offset is -4 to 4." Four more than that, 0 to 8, so that no number is below 0; 255 for any other
+abbrev pub raisedOf : ℤ → ℕ
+raisedOf (pos n) = cond (leb n 4) (n + 4) 255
+raisedOf (negsuc n) = cond (leb n 3) (3 - n) 255
+
+-- the socket pin is the chip pin plus the offset; off the socket below 1 and above the board's pins
+abbrev pub onSocket : ℕ → ℕ → Socket
+onSocket place board = cond (leb 1 place && leb place board) (On place) Off
+
+abbrev pub socketOf : ℕ → ℕ → ℕ → Socket
+socketOf pin raised board = onSocket (pin + raised - 4) board
