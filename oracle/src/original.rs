@@ -1,5 +1,6 @@
 //! The original behind the engine's calls: cases become its records, its answers plain numbers.
 
+use std::cell::Cell;
 use std::panic::{AssertUnwindSafe, catch_unwind};
 
 use onerom_config::chip::{ChipType, ControlLine};
@@ -51,9 +52,27 @@ const ROLES: [SelectRole; 9] = [
     SelectRole::HalfSelect,
 ];
 
+thread_local! {
+    static IN_ORIGINAL: Cell<bool> = const { Cell::new(false) };
+}
+
+/// A panic of the original is an answer, its message is not; any other panic is a fault here and
+/// keeps its message.
+pub fn quiet_panics() {
+    let usual = std::panic::take_hook();
+    std::panic::set_hook(Box::new(move |why| {
+        if !IN_ORIGINAL.get() {
+            usual(why);
+        }
+    }));
+}
+
 /// Runs a call of the original; a panic is an answer of its own.
 fn told<T>(call: impl FnOnce() -> Told<T>) -> Told<T> {
-    catch_unwind(AssertUnwindSafe(call)).unwrap_or(Err(Failure::Panic))
+    IN_ORIGINAL.set(true);
+    let answer = catch_unwind(AssertUnwindSafe(call)).unwrap_or(Err(Failure::Panic));
+    IN_ORIGINAL.set(false);
+    answer
 }
 
 fn refusal(number: u64, place: u64) -> Failure {
@@ -93,14 +112,11 @@ fn cs_config(settings: &Settings) -> CsConfig {
 
 fn chip_types(slot: &Description) -> Vec<ChipType> {
     let chip_type = |(n, chip): (usize, &crate::description::Chip)| {
-        let size = chip.size as usize;
-        if n > 0 {
-            // Only the size of a later chip is ever looked at.
-            return ChipType::new(&[], &[], &[], &[], size);
-        }
         let lines: Vec<ControlLine> =
             chip.control.iter().map(|&(kind, pin)| ControlLine::new(kind, pin)).collect();
-        ChipType::new(&chip.address_pins, &chip.data_pins, &lines, &slot.qualifiers, size)
+        let qualifiers = if n == 0 { &slot.qualifiers[..] } else { &[] };
+        let size = chip.size as usize;
+        ChipType::new(&chip.address_pins, &chip.data_pins, &lines, qualifiers, size)
     };
     slot.chips.iter().enumerate().map(chip_type).collect()
 }

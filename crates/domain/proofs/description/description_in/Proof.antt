@@ -1,0 +1,20 @@
+-- `description_in` meets its contract. Assumes nothing.
+use mathlib.Core.Path.{_≡_, _∙_, ap}
+use mir.Syntax.{w8}
+use mir.Val.{toZ, ofZ}
+use Rattle.slot.specs.SlotContext.{raisedOf}
+use Rattle.domain.specs.Domain.{descriptionIn}
+use borrow.Author.Needs.{needs}
+use Rattle.domain.proofs.description.description_in.Statement.{statement}
+use Rattle.domain.proofs.description.description_in.Tie as tie
+
+returns : tie.Need-returns
+unfolding descriptionIn
+returns c =
+    let o = c .before .before .before .before .before .before .before .before .before .before .before .before .before .args .d .«pin_offset» in
+    let back : toZ w8 (ofZ w8 o) ≡ o = search needs in
+    let e : c .before .before .raised .result ≡ raisedOf o = c .before .before .raised .ensures ∙ ap raisedOf back in
+    rw (c .board-in .ensures, c .before .chips-in .ensures, e, c .before .before .before .before .before .is-multi .ensures, c .before .before .before .before .before .before .multi-in .ensures)
+
+pub description-in-spec : {M : Type 1} → statement M
+description-in-spec = tie.close (tie.spec (λ c κs. search needs) (λ c κs. search needs) (λ c κs. search needs) (λ c κs. search needs) (λ c κs. search needs) returns)

@@ -1,0 +1,90 @@
+// A description in the domain. Every number of it is tested, whether or not the call uses it.
+use crate::chip::chip_in;
+use crate::lists::all_between;
+use gpio::candidates::Pin;
+use slot::description::Board;
+use slot::description::Chip;
+use slot::description::ChipSetType;
+use slot::description::Description;
+use slot::description::MultiCsConfig;
+use slot::slot_context;
+ghost use mathlib.Core.Path.{_≡_};
+ghost use Prim.Native.Nat.{ℕ, _<_};
+ghost use Rattle.domain.specs.Domain.{socketIn, boardIn, multiIn, isMulti, chipsIn, descriptionIn};
+
+fn socket_in(b: Board) -> bool
+    ensures { λ r. ⌜ r ≡ socketIn b ⌝ }
+{
+    let socket = b.socket;
+    let mut ok = true;
+    let mut k: usize = 0;
+    while k < 40 {
+        let pin = socket[k];
+        let gpios = pin.gpios;
+        ok = ok & gpios.in_domain();
+        k += 1;
+    }
+    ok
+}
+
+fn board_in(b: Board) -> bool
+    ensures { λ r. ⌜ r ≡ boardIn b ⌝ }
+{
+    let x1 = b.x1;
+    let x2 = b.x2;
+    slot_context::board_pins_in(b.pins) & socket_in(b) & x1.in_domain() & x2.in_domain()
+}
+
+fn multi_in(m: MultiCsConfig) -> bool
+    ensures { λ r. ⌜ r ≡ multiIn m ⌝ }
+{
+    let commoned = m.commoned;
+    let ignored = m.ignored;
+    let select_in = m.select <= 5;
+    let commoned_in = (m.num_commoned <= 6) & all_between(&commoned, m.num_commoned, 0, 5);
+    let ignored_in = (m.num_ignored <= 6) & all_between(&ignored, m.num_ignored, 0, 5);
+    select_in & commoned_in & ignored_in
+}
+
+pub fn is_multi(t: ChipSetType) -> bool
+    ensures { λ r. ⌜ r ≡ isMulti t ⌝ }
+{
+    match t {
+        ChipSetType::Single => false,
+        ChipSetType::Banked => false,
+        ChipSetType::Multi => true,
+    }
+}
+
+// The chips up to the count; those past it count for nothing.
+fn chips_in(chips: [Chip; 4], count: u8, word_bytes: u8) -> bool
+    ensures { λ r. ⌜ r ≡ chipsIn chips count «word_bytes» ⌝ }
+{
+    let n = count as usize;
+    let mut ok = true;
+    let mut k: usize = 0;
+    while k < 4 {
+        let chip = chips[k];
+        ok = ok & ((n <= k) | chip_in(chip, word_bytes));
+        k += 1;
+    }
+    ok
+}
+
+// Whether a description is in the domain, the qualifier list and the searches' own counts aside.
+pub fn description_in(d: Description) -> bool
+    ensures { λ r. ⌜ r ≡ descriptionIn d ⌝ }
+{
+    let board = d.board;
+    let chips = d.chips;
+    let multi = d.multi;
+    let set_type = d.set_type;
+    let w = d.word_bytes;
+    let n = d.num_chips;
+    let size_in = (256 <= d.max_image_size) & (d.max_image_size <= 0x10_0000);
+    let numbers_in = ((w == 1) | (w == 2)) & size_in;
+    let multi_fits = (!d.has_multi | multi_in(multi)) & (!is_multi(set_type) | d.has_multi);
+    let offset_in = slot_context::raised(d.pin_offset) <= 8;
+    let chips_fit = (1 <= n) & (n <= 4) & chips_in(chips, n, w);
+    board_in(board) & numbers_in & offset_in & chips_fit & multi_fits
+}

@@ -1,0 +1,26 @@
+//! Seeded cases inside 01's domain.
+
+mod leaves;
+mod slots;
+mod tables;
+mod wiring;
+
+use crate::case::Case;
+use crate::random::Random;
+
+/// The case of a number under a seed; kinds take turns.
+pub fn case(seed: u64, number: u64, kinds: &[u64]) -> Case {
+    let mut random = Random::of_case(seed, number);
+    let kind = kinds[(number % kinds.len() as u64) as usize];
+    match kind {
+        1 => leaves::window(&mut random),
+        2 => leaves::offset(&mut random),
+        3 => Case::Preference(random.chance(50), random.chance(50)),
+        4 => leaves::multi_select(&mut random),
+        5 => Case::AddressSearch(Box::new(wiring::description(&mut random).write())),
+        6 => slots::select_search(&mut random),
+        7 => slots::build(&mut random),
+        8 => tables::read_back(&mut random),
+        _ => slots::chain(&mut random),
+    }
+}

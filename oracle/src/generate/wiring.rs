@@ -1,0 +1,419 @@
+//! Descriptions of slots: a chip in a socket, wired to GPIOs as boards are, and now and then not.
+
+use super::leaves;
+use crate::case::MultiSelect;
+use crate::description::{
+    BANKED, Chip, Description, IGNORED, MULTI, Multi, NO_PIN, NONE, Pin, SINGLE, Settings,
+};
+use crate::model::{domain, multi};
+use crate::random::Random;
+
+const TABLES: [u32; 12] = [
+    256, 257, 511, 512, 1000, 1024, 2048, 4095, 4096, 8192, 16384, 65536,
+];
+
+pub fn description(random: &mut Random) -> Description {
+    let mut slot = unwired(random);
+    let tokens = order(random, &slot);
+    wire(random, &mut slot, &tokens);
+    second_candidates(random, &mut slot, &tokens);
+    faults(random, &mut slot);
+    within_choices(random, &mut slot);
+    slot
+}
+
+fn set_and_chips(random: &mut Random) -> (u8, usize) {
+    let set_type = random.pick(&[SINGLE, SINGLE, SINGLE, BANKED, BANKED, MULTI, MULTI]);
+    let right = random.chance(93);
+    let chips = match (set_type, right) {
+        (SINGLE, true) => 1,
+        (SINGLE, false) => random.from_to(2, 4),
+        (BANKED, true) => random.from_to(2, 4),
+        (BANKED, false) => 1,
+        (_, true) => random.from_to(2, 3),
+        (_, false) => random.pick(&[1, 4]),
+    };
+    (set_type, chips)
+}
+
+fn largest_table(random: &mut Random) -> u32 {
+    match random.below(20) {
+        0 => 1 << 20,
+        1 => 1 << 19,
+        2 => random.from_to(256, 1 << 20) as u32,
+        3..=5 => random.from_to(256, 4096) as u32,
+        _ => random.pick(&TABLES),
+    }
+}
+
+/// A description with all its numbers but the GPIOs.
+fn unwired(random: &mut Random) -> Description {
+    let (set_type, chips) = set_and_chips(random);
+    let word_bytes = if random.chance(65) { 1 } else { 2 };
+    let largest_table = largest_table(random);
+    let chip = chip(random, word_bytes);
+    let total = chip.address_pins.len() + chip.data_pins.len() + chip.control.len();
+    let kinds: Vec<u8> = chip.control.iter().map(|line| line.0).collect();
+    let settings = fitting_settings(random, &kinds);
+    let has_multi = set_type == MULTI || random.chance(8);
+    let multi = has_multi.then(|| multi_config(random, &kinds, &settings));
+    let board_pins = match total {
+        0..=24 => random.pick(&[24, 28, 32, 40]),
+        25..=32 => random.pick(&[28, 32, 40, 40]),
+        _ => 40,
+    };
+    let mut slot = Description {
+        board_pins,
+        set_type,
+        word_bytes,
+        offset: offset(random),
+        largest_table,
+        settings,
+        multi,
+        qualifiers: qualifiers(random, chip.address_pins.len() + 1 - usize::from(word_bytes)),
+        socket: [NO_PIN; 40],
+        x: [NO_PIN; 2],
+        chips: vec![chip; chips],
+    };
+    seat(random, &mut slot);
+    if random.chance(30) {
+        later_chips(random, &mut slot);
+    }
+    sizes(random, &mut slot);
+    slot
+}
+
+/// Gives the later chips lines of their own: both searches go by chip 0's.
+fn later_chips(random: &mut Random, slot: &mut Description) {
+    for n in 1..slot.chips.len() {
+        let mut own = chip(random, slot.word_bytes);
+        own.address_pins.fill_with(|| random.from_to(1, 40) as u8);
+        own.data_pins.fill_with(|| random.from_to(1, 40) as u8);
+        for line in &mut own.control {
+            line.1 = random.from_to(1, 40) as u8;
+        }
+        slot.chips[n] = own;
+    }
+}
+
+fn offset(random: &mut Random) -> i16 {
+    match random.below(10) {
+        0..=5 => 0,
+        6..=7 => random.pick(&[2, 4, -2, -4]),
+        _ => random.from_to(0, 8) as i16 - 4,
+    }
+}
+
+/// A chip by its counts; pins and size come later.
+fn chip(random: &mut Random, word_bytes: u8) -> Chip {
+    let lines = match random.below(100) {
+        0..=49 => random.from_to(2, 8),
+        50..=79 => random.from_to(7, 11),
+        80..=92 => random.from_to(12, 19),
+        _ => random.from_to(1, 23),
+    };
+    let data = if random.chance(90) { 8 * usize::from(word_bytes) } else { random.from_to(1, 16) };
+    let kinds = leaves::kinds(random);
+    Chip {
+        size: 0,
+        address_pins: vec![1; lines + usize::from(word_bytes) - 1],
+        data_pins: vec![1; data],
+        control: kinds.iter().map(|&kind| (kind, 1)).collect(),
+    }
+}
+
+fn fitting_settings(random: &mut Random, kinds: &[u8]) -> Settings {
+    let by_enable = kinds.iter().any(|&kind| kind < 2);
+    let form = match (random.chance(85), by_enable) {
+        (true, true) => random.pick(&[1, 1, 2]),
+        (true, false) => 0,
+        (false, _) => random.below(3) as u8,
+    };
+    let mut settings = leaves::settings(random, form);
+    if form == 0 && settings.lines[2] == IGNORED && random.chance(60) {
+        settings.lines[2] = 0;
+    }
+    settings
+}
+
+fn multi_config(random: &mut Random, kinds: &[u8], primary: &Settings) -> Multi {
+    let form = primary.form;
+    let case = MultiSelect {
+        kinds: kinds.to_vec(),
+        primary: *primary,
+        secondary: leaves::settings(random, form),
+    };
+    if let (true, Ok(found)) = (random.chance(60), multi::select(&case)) {
+        return found;
+    }
+    let mut named: Vec<u8> = kinds.iter().copied().filter(|&kind| kind < 6).collect();
+    random.shuffle(&mut named);
+    let select = named.pop().unwrap_or(random.below(6) as u8);
+    let split = random.below(named.len() + 1);
+    let ignored = named.split_off(split);
+    let stray = |random: &mut Random, mut list: Vec<u8>| {
+        if random.chance(4) {
+            list.push(random.below(6) as u8);
+        }
+        list.truncate(6);
+        list
+    };
+    Multi {
+        select,
+        commoned: stray(random, named),
+        ignored: stray(random, ignored),
+    }
+}
+
+fn qualifiers(random: &mut Random, lines: usize) -> Vec<u8> {
+    if !random.chance(18) {
+        return Vec::new();
+    }
+    let count = random.from_to(1, lines.min(8));
+    let start = random.below(lines - count + 1);
+    let mut list: Vec<u8> = (start..start + count).map(|line| line as u8).collect();
+    random.shuffle(&mut list);
+    list.truncate(random.from_to(1, count));
+    if list.len() < 8 && random.chance(10) {
+        list.push(list[0]);
+    }
+    list
+}
+
+/// Gives each line of chip 0 a pin: on the socket while there are pins, and now and then off it.
+fn seat(random: &mut Random, slot: &mut Description) {
+    let on = |pin: &u8| slot.socket_pin(*pin).is_some();
+    let (mut free, mut off): (Vec<u8>, Vec<u8>) = (1..=40u8).partition(on);
+    random.shuffle(&mut free);
+    random.shuffle(&mut off);
+    let shares_a_minus_1 = slot.word_bytes == 2 && random.chance(60);
+    let over = if random.chance(20) { random.from_to(1, 3) } else { 0 };
+    let stray = random.chance(3);
+    let chip = &mut slot.chips[0];
+    let mut take = |random: &mut Random| free.pop().unwrap_or(random.from_to(1, 40) as u8);
+    chip.address_pins.fill_with(|| take(random));
+    chip.data_pins.fill_with(|| take(random));
+    for line in &mut chip.control {
+        line.1 = take(random);
+    }
+    if shares_a_minus_1 {
+        chip.address_pins[0] = chip.data_pins[chip.data_pins.len() - 1];
+    }
+    for _ in 0..over.min(off.len()) {
+        let line = random.below(chip.address_pins.len());
+        chip.address_pins[line] = off.pop().expect("as many as there are");
+    }
+    if let (true, Some(pin)) = (stray, off.pop()) {
+        let line = random.below(chip.data_pins.len());
+        chip.data_pins[line] = pin;
+    }
+    if random.chance(5) {
+        let line = random.below(chip.address_pins.len());
+        chip.address_pins[line] = random.pick(&chip.data_pins);
+    }
+    let first = chip.clone();
+    slot.chips.fill(first);
+}
+
+/// Sizes: all that the lines reach, less, more, odd, no power of two, nothing.
+fn sizes(random: &mut Random, slot: &mut Description) {
+    let word = u32::from(slot.word_bytes);
+    let lines = slot.chip0().address_pins.len() + 1 - slot.word_bytes as usize;
+    let reach = (slot.largest_table / word).ilog2() as usize;
+    let full = word << lines.min(reach);
+    for chip in &mut slot.chips {
+        let some = random.below(full as usize + 1) as u32;
+        let size = match random.below(20) {
+            0 => 0,
+            1 => 1,
+            2 => some | 1,
+            3 => full / 4 * 3,
+            4 => some,
+            5 => full / 2,
+            6 => full * 2,
+            7 => full + 1 + some,
+            8 => 1 << random.below(12),
+            9 => 1 << lines.min(16),
+            _ => full,
+        };
+        chip.size = size.min(1 << 17);
+    }
+    if random.chance(1) && random.chance(20) {
+        slot.chips[0].size = 1 << 24;
+    }
+}
+
+/// A thing to be wired, in the order of its GPIO.
+#[derive(Debug, Clone, Copy, PartialEq, Eq)]
+enum Token {
+    Pin(u8),
+    X(usize),
+    Gap,
+}
+
+fn pins_of(slot: &Description, kinds: &[u8]) -> Vec<Token> {
+    let lines = slot.chip0().control.iter();
+    lines.filter(|line| kinds.contains(&line.0)).map(|line| Token::Pin(line.1)).collect()
+}
+
+fn mix(random: &mut Random, tokens: &mut [Token]) {
+    match random.below(4) {
+        0 => tokens.reverse(),
+        1 => {}
+        _ => random.shuffle(tokens),
+    }
+}
+
+/// The select lines side by side, or with a gap, or with an ignored line among them.
+fn select_block(random: &mut Random, slot: &Description, excess: &[Token]) -> Vec<Token> {
+    let mut block = match slot.multi.as_ref().filter(|_| slot.set_type == MULTI) {
+        Some(multi) => {
+            let mut kinds = multi.commoned.clone();
+            kinds.push(multi.select);
+            if random.chance(25) {
+                kinds.extend(&multi.ignored);
+            }
+            let mut block = pins_of(slot, &kinds);
+            block.extend([Token::X(1), Token::X(2)].iter().take(slot.chips.len().max(2) - 1));
+            block
+        }
+        None => {
+            let active = crate::model::select::active_lines(slot);
+            active.iter().map(|line| Token::Pin(line.1)).collect()
+        }
+    };
+    block.extend(excess);
+    mix(random, &mut block);
+    let gaps = random.pick(&[0, 0, 0, 0, 0, 1, 1, 2, 3]);
+    for _ in 0..gaps {
+        let place = random.from_to(0, block.len());
+        block.insert(place, Token::Gap);
+    }
+    block
+}
+
+/// All pins in the order of their GPIOs: data, selects and address lines, each in one block.
+fn order(random: &mut Random, slot: &Description) -> Vec<Token> {
+    let chip = slot.chip0();
+    let lines = &chip.address_pins[usize::from(slot.word_bytes) - 1..];
+    let reach = (slot.largest_table / u32::from(slot.word_bytes)).ilog2() as usize;
+    let (used, excess) = lines.split_at(lines.len().min(reach));
+    let tokens = |pins: &[u8]| -> Vec<Token> { pins.iter().map(|&pin| Token::Pin(pin)).collect() };
+    let select = select_block(random, slot, &tokens(excess));
+    let mut address = tokens(used);
+    if slot.set_type == BANKED {
+        address.extend([Token::X(1), Token::X(2)]);
+    }
+    mix(random, &mut address);
+    if random.chance(20) {
+        let place = random.from_to(0, address.len());
+        address.insert(place, Token::Gap);
+    }
+    if slot.set_type != MULTI && slot.set_type != BANKED {
+        address.extend([Token::X(1), Token::X(2)]);
+    }
+    let mut data = tokens(&chip.data_pins);
+    mix(random, &mut data);
+    match random.below(6) {
+        0 | 1 => [address, select, data].concat(),
+        2 => [select, data, address].concat(),
+        _ => [data, select, address].concat(),
+    }
+}
+
+fn place_of(slot: &mut Description, token: Token) -> Option<&mut Pin> {
+    match token {
+        Token::Pin(pin) => {
+            let socket_pin = slot.socket_pin(pin)?;
+            Some(&mut slot.socket[usize::from(socket_pin) - 1])
+        }
+        Token::X(number) => Some(&mut slot.x[number - 1]),
+        Token::Gap => None,
+    }
+}
+
+fn wire(random: &mut Random, slot: &mut Description, tokens: &[Token]) {
+    let last = 48usize.saturating_sub(tokens.len());
+    let start = match random.below(6) {
+        0 => 0,
+        1 => last,
+        2 => last.min(16),
+        _ => random.from_to(0, last),
+    };
+    let mut gpio = start;
+    for &token in tokens {
+        let next = (gpio % 48) as u8;
+        match place_of(slot, token) {
+            Some(pin) if *pin == NO_PIN => *pin = [next, NONE],
+            Some(_) => continue,
+            // A line off the socket leaves its GPIO to the next.
+            None if token != Token::Gap => continue,
+            None => {}
+        }
+        gpio += 1;
+    }
+    for pin in &mut slot.socket {
+        if *pin == NO_PIN && random.chance(40) {
+            *pin = [random.gpio(), NONE];
+        }
+    }
+}
+
+/// Gives some pins a second candidate: X pins and a Multi set's select more often than others.
+fn second_candidates(random: &mut Random, slot: &mut Description, tokens: &[Token]) {
+    let count = match random.below(200) {
+        0..=69 => 0,
+        70..=159 => random.from_to(1, 4),
+        160..=195 => random.from_to(5, 10),
+        _ => random.from_to(11, 20),
+    };
+    let mut chosen = tokens.to_vec();
+    random.shuffle(&mut chosen);
+    if let Some(multi) = slot.multi.as_ref().filter(|_| random.chance(30)) {
+        chosen.splice(..0, pins_of(slot, &[multi.select]));
+    }
+    if random.chance(40) {
+        chosen.splice(..0, [Token::X(1), Token::X(2)]);
+    }
+    for &token in chosen.iter().take(count) {
+        add_second(random, slot, token);
+    }
+}
+
+fn add_second(random: &mut Random, slot: &mut Description, token: Token) {
+    let near = random.from_to(0, 6) as i16 - 3;
+    let any = random.gpio();
+    let other = random.pick(&[any, any, any, 15, 16, 31, 32, 47]);
+    let is_near = random.chance(40);
+    let swap = random.chance(50);
+    if let Some(pin) = place_of(slot, token).filter(|pin| pin[0] != NONE) {
+        let beside = (i16::from(pin[0]) + near).clamp(0, 47) as u8;
+        let second = if is_near { beside } else { other };
+        if second != pin[0] {
+            *pin = if swap { [second, pin[0]] } else { [pin[0], second] };
+        }
+    }
+}
+
+fn faults(random: &mut Random, slot: &mut Description) {
+    if random.chance(5) {
+        let pin = random.below(usize::from(slot.board_pins));
+        slot.socket[pin] = NO_PIN;
+    }
+    if random.chance(6) {
+        slot.x[random.below(2)] = NO_PIN;
+    }
+    if random.chance(8) {
+        let pin = random.below(usize::from(slot.board_pins));
+        slot.socket[pin] = [random.pick(&[0, 15, 16, 31, 32, 45, 46, 47]), NONE];
+    }
+}
+
+/// Takes second candidates away until no search lists more than 16.
+fn within_choices(random: &mut Random, slot: &mut Description) {
+    while !domain::description(slot) {
+        let pin = random.below(42);
+        let pin = if pin < 40 { &mut slot.socket[pin] } else { &mut slot.x[pin - 40] };
+        pin[1] = NONE;
+    }
+}
