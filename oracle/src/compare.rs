@@ -8,7 +8,7 @@ use crate::case::Case;
 use crate::model::Model;
 use crate::original::Original;
 use crate::tally::{Outcome, name, outcome};
-use crate::{Run, generate};
+use crate::{Run, differences, generate};
 
 struct Group {
     count: u64,
@@ -16,24 +16,30 @@ struct Group {
     example: [String; 3],
 }
 
-type Groups = BTreeMap<(u64, Outcome, Outcome), Group>;
+/// By the number in docs/DIFFERENCES.md, the kind and both outcomes.
+type Groups = BTreeMap<(Option<u32>, u64, Outcome, Outcome), Group>;
 
+/// Fails if a difference is on no list.
 pub fn compare(run: &Run) -> ExitCode {
     let mut groups = Groups::new();
+    let mut equal = 0;
     for number in 0..run.count {
         let case = generate::case(run.seed, number, &run.kinds);
         let (original, model) = (answer(&Original, &case), answer(&Model, &case));
-        if original != model {
+        if original == model {
+            equal += 1;
+        } else {
             note(&mut groups, &case, original, model);
         }
     }
-    print(&groups);
-    println!("{} cases, {} groups of differences", run.count, groups.len());
-    ExitCode::SUCCESS
+    let unlisted = print(&groups);
+    println!("{} cases, {equal} equal, {unlisted} different and not listed", run.count);
+    if unlisted == 0 { ExitCode::SUCCESS } else { ExitCode::FAILURE }
 }
 
 fn note(groups: &mut Groups, case: &Case, original: String, model: String) {
-    let key = (case.kind(), outcome(&original).1, outcome(&model).1);
+    let listed = differences::number(case, &original, &model);
+    let key = (listed, case.kind(), outcome(&original).1, outcome(&model).1);
     let example = [case.line(), original, model];
     let group = groups.entry(key).or_insert_with(|| Group {
         count: 0,
@@ -45,15 +51,22 @@ fn note(groups: &mut Groups, case: &Case, original: String, model: String) {
     }
 }
 
-fn print(groups: &Groups) {
-    for ((kind, original, model), group) in groups {
-        println!(
-            "kind {kind}: original {}, 01 {}: {} cases",
-            name(*original),
-            name(*model),
-            group.count
-        );
-        let [case, original, model] = &group.example;
-        println!("  case     {case}\n  original {original}\n  01       {model}");
+/// Prints the groups, the unlisted ones with a case; answers how many cases are unlisted.
+fn print(groups: &Groups) -> u64 {
+    let mut unlisted = 0;
+    for ((listed, kind, original, model), group) in groups {
+        let place = match listed {
+            Some(number) => format!("difference {number}"),
+            None => "NOT LISTED".into(),
+        };
+        let (original, model) = (name(*original), name(*model));
+        let count = group.count;
+        println!("{place}: kind {kind}, original {original}, 01 {model}: {count} cases");
+        if listed.is_none() {
+            unlisted += group.count;
+            let [case, original, model] = &group.example;
+            println!("  case     {case}\n  original {original}\n  01       {model}");
+        }
     }
+    unlisted
 }

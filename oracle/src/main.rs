@@ -17,6 +17,8 @@ mod tally;
 #[cfg(original)]
 mod compare;
 #[cfg(original)]
+mod differences;
+#[cfg(original)]
 mod original;
 #[cfg(original)]
 mod stand_in;
@@ -37,7 +39,7 @@ use case::Case;
 use engine::Engine;
 
 const USAGE: &str = "oracle answer | oracle model | oracle generate SEED COUNT [KINDS] | \
-    oracle compare SEED COUNT [KINDS] | oracle tally";
+    oracle compare SEED COUNT [KINDS] | oracle differences | oracle tally";
 
 fn main() -> ExitCode {
     #[cfg(original)]
@@ -47,6 +49,7 @@ fn main() -> ExitCode {
     let done = match words[..] {
         ["answer"] => answer_original(),
         ["model"] => answer_with(&model::Model).map(|()| ExitCode::SUCCESS),
+        ["differences"] => Ok(print_differences()),
         ["tally"] => tally().map(|()| ExitCode::SUCCESS),
         ["generate", seed, count, ref kinds @ ..] => match run(seed, count, kinds) {
             Some(run) => generate(&run).map(|()| ExitCode::SUCCESS),
@@ -126,14 +129,29 @@ fn compare_run(run: &Run) -> ExitCode {
     compare::compare(run)
 }
 
+#[cfg(original)]
+fn print_differences() -> ExitCode {
+    differences::print();
+    ExitCode::SUCCESS
+}
+
+#[cfg(not(original))]
+fn skipped() -> ExitCode {
+    println!("original sources not found: skipped");
+    ExitCode::SUCCESS
+}
+
 #[cfg(not(original))]
 fn answer_original() -> io::Result<ExitCode> {
-    println!("original sources not found: skipped");
-    Ok(ExitCode::SUCCESS)
+    Ok(skipped())
 }
 
 #[cfg(not(original))]
 fn compare_run(_run: &Run) -> ExitCode {
-    println!("original sources not found: skipped");
-    ExitCode::SUCCESS
+    skipped()
+}
+
+#[cfg(not(original))]
+fn print_differences() -> ExitCode {
+    skipped()
 }

@@ -2,16 +2,14 @@
 -- description; the socket's 40 places all are. Assumes nothing.
 use Prim.Native.Nat.{ℕ, _+_, _^_}
 use mathlib.Core.Bool.{Bool, true, false, _&&_, _||_, not}
-use mathlib.Core.List.{List, []}
+use mathlib.Core.List.{List}
 use lib.Dec.{leb, ltb, eqb}
 use lib.ListN.{getD}
 use Rattle.gpio.specs.Each.{each}
 use Rattle.gpio.specs.Candidates.{candidatesIn}
-use Rattle.gpio.specs.declared.candidates.Candidates.the-variants.{Absent}
-use Rattle.gpio.specs.declared.candidates.Pin.{Pin}
+use Rattle.slot.specs.Description.{noPin, noChip, lineAt, kindAt}
 use Rattle.slot.specs.SlotContext.{boardPinsIn, raisedOf}
 use Rattle.slot.specs.declared.description.Board.{Board}
-use Rattle.slot.specs.declared.description.ControlLine.{ControlLine}
 use Rattle.slot.specs.declared.description.ControlLines.{ControlLines}
 use Rattle.slot.specs.declared.description.Chip.{Chip}
 use Rattle.slot.specs.declared.description.ChipSetType.{ChipSetType}
@@ -23,24 +21,11 @@ abbrev pub between : ℕ → ℕ → ℕ → Bool
 between low high x = leb low x && leb x high
 
 -- "Board pins 24, 28, 32 or 40. GPIO 0 to 47." "A pin's two candidates differ."
-abbrev pub noPin : Pin
-noPin = record { gpios = Absent }
-
 unfoldable pub socketIn : Board → Bool
 socketIn b = each 40 (λ k. candidatesIn (getD (b .socket) k noPin .gpios))
 
 abbrev pub boardIn : Board → Bool
 boardIn b = boardPinsIn (b .pins) && socketIn b && candidatesIn (b .x1) && candidatesIn (b .x2)
-
--- a chip's control lines
-abbrev pub noLine : ControlLine
-noLine = record { kind = 0; pin = 0 }
-
-abbrev pub lineAt : ControlLines → ℕ → ControlLine
-lineAt c k = getD (c .lines) k noLine
-
-abbrev pub kindAt : ControlLines → ℕ → ℕ
-kindAt c k = lineAt c k .kind
 
 -- "0 to 8 control lines, kinds 0 to 5 at most once each"
 unfoldable pub lineIn : ControlLines → ℕ → Bool
@@ -66,16 +51,6 @@ chipIn c w =
     && (between 1 16 (c .«num_data_pins») && pinsIn (c .«data_pins») (c .«num_data_pins»))
     && controlIn (c .control)
     && leb (c .size) (2 ^ 24)
-
-abbrev pub noChip : Chip
-noChip = record {
-  «address_pins» = [];
-  «num_address_pins» = 0;
-  «data_pins» = [];
-  «num_data_pins» = 0;
-  control = record { lines = []; count = 0 };
-  size = 0;
-}
 
 unfoldable pub chipsIn : List Chip → ℕ → ℕ → Bool
 chipsIn chips n w = each 4 (λ k. leb n k || chipIn (getD chips k noChip) w)

@@ -8,7 +8,8 @@ ghost use mathlib.Core.Bool.{not};
 ghost use Prim.Native.Nat.{ℕ};
 ghost use lib.Dec.{eqb};
 ghost use Rattle.gpio.specs.Each.{each};
-ghost use Rattle.domain.specs.Domain.{lineAt, kindAt, lineIn, linesIn, controlIn, chipIn};
+ghost use Rattle.slot.specs.Description.{lineAt, kindAt};
+ghost use Rattle.domain.specs.Domain.{lineIn, linesIn, controlIn, chipIn};
 
 // A control line, or one of kind 0 at pin 0 past the array's end.
 pub fn control_line(c: ControlLines, k: usize) -> ControlLine

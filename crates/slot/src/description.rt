@@ -2,6 +2,8 @@
 // numbers by value. A count stands beside each array; entries past it count for nothing.
 use gpio::candidates::Candidates;
 use gpio::candidates::Pin;
+ghost use mathlib.Core.Path.{_≡_};
+ghost use Rattle.slot.specs.Description.{chip0};
 
 // The board's socket and its two X pins.
 pub struct Board {
@@ -95,4 +97,14 @@ pub struct Description {
     // Lines in use whose all being high deselects the chip, by index; none: no qualifiers.
     pub qualifiers: [u8; 8],
     pub num_qualifiers: u8,
+}
+
+impl Description {
+    // The chip by whose pins and lines the searches go.
+    pub fn chip0(self) -> Chip
+        ensures { λ r. ⌜ r ≡ chip0 self ⌝ }
+    {
+        let chips = self.chips;
+        chips[0]
+    }
 }

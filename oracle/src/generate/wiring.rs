@@ -378,6 +378,18 @@ fn second_candidates(random: &mut Random, slot: &mut Description, tokens: &[Toke
     for &token in chosen.iter().take(count) {
         add_second(random, slot, token);
     }
+    if random.below(150) == 0 {
+        crowd(random, slot);
+    }
+}
+
+/// Second candidates for all address lines or all data lines, up to the most that is allowed.
+fn crowd(random: &mut Random, slot: &mut Description) {
+    let chip = slot.chip0();
+    let pins = if random.chance(50) { &chip.address_pins } else { &chip.data_pins };
+    for pin in pins.clone() {
+        add_second(random, slot, Token::Pin(pin));
+    }
 }
 
 fn add_second(random: &mut Random, slot: &mut Description, token: Token) {

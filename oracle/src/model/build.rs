@@ -99,6 +99,19 @@ fn word(bytes: &[u8], number: u64, word_bytes: usize) -> u32 {
     taken.iter().rev().fold(0, |word, &byte| word << 8 | u32::from(byte))
 }
 
+/// The chips' bytes, all there.
+fn chip_bytes(slot: &Description, job: &Job) -> Told<Vec<Vec<u8>>> {
+    let images = &job.images[..slot.chips.len()];
+    if let Some(chip) = images.iter().position(|image| !image.present) {
+        return refused(14, chip as u64);
+    }
+    let mut pairs = slot.chips.iter().zip(images);
+    if let Some(chip) = pairs.position(|(chip, image)| image.length < chip.size) {
+        return refused(15, chip as u64);
+    }
+    Ok(images.iter().map(|image| image.bytes()).collect())
+}
+
 pub fn table(slot: &Description, job: &Job) -> Told<Vec<u8>> {
     let word_bytes = usize::from(slot.word_bytes);
     let length = (1u64 << job.address.pins) * word_bytes as u64;
@@ -106,20 +119,10 @@ pub fn table(slot: &Description, job: &Job) -> Told<Vec<u8>> {
         return refused(11, 0);
     }
     let places = places(slot, job)?;
-    let images = &job.images[..slot.chips.len()];
-    if let Some(chip) = images.iter().position(|image| !image.present) {
-        return refused(14, chip as u64);
-    }
-    let short = |(chip, image): (&crate::description::Chip, &crate::slot::ChipBytes)| {
-        image.length < chip.size
-    };
-    if let Some(chip) = slot.chips.iter().zip(images).position(short) {
-        return refused(15, chip as u64);
-    }
+    let bytes = chip_bytes(slot, job)?;
     if (job.table_length as u64) < length {
         return refused(16, 0);
     }
-    let bytes: Vec<Vec<u8>> = images.iter().map(|image| image.bytes()).collect();
     let pad = if word_bytes == 1 { PAD } else { PAD << 8 | PAD };
     let mut table = Vec::with_capacity(length as usize);
     for index in 0..1u64 << job.address.pins {

@@ -159,13 +159,29 @@ pub fn recover(slot: &Slot, data: &[u8], lent: Lent) -> Told<Recovered> {
     if (lent.output as u64) < bytes || (lent.marks as u64) < words {
         return refused(16, 0);
     }
-    let (any, high) = forced(slot, &window);
-    let mut kept: Vec<Vec<Option<u64>>> =
-        roms.iter().map(|rom| vec![None; rom.words as usize]).collect();
-    for (index, entry) in data.chunks(window.word_bytes as usize).enumerate() {
+    let forced = forced(slot, &window);
+    let picked = |index| {
+        let free = index & forced.0 == forced.1;
+        picked(set_type, roms.len(), &pick, index).filter(|_| free)
+    };
+    let kept = keep(data, window.word_bytes as usize, &roms, picked)?;
+    collect(&kept, window.word_bytes as usize)
+}
+
+/// The values of each ROM's words, by address; none where no entry has come.
+type Kept = Vec<Vec<Option<u64>>>;
+
+/// Goes through the entries in rising index order and keeps the first value of each word.
+fn keep(
+    data: &[u8],
+    word_bytes: usize,
+    roms: &[RomPlaces],
+    picked: impl Fn(u64) -> Option<usize>,
+) -> Told<Kept> {
+    let mut kept: Kept = roms.iter().map(|rom| vec![None; rom.words as usize]).collect();
+    for (index, entry) in data.chunks(word_bytes).enumerate() {
         let index = index as u64;
-        let Some(chip) = picked(set_type, roms.len(), &pick, index).filter(|_| index & any == high)
-        else {
+        let Some(chip) = picked(index) else {
             continue;
         };
         let address = gather(&roms[chip].address, index);
@@ -177,7 +193,7 @@ pub fn recover(slot: &Slot, data: &[u8], lent: Lent) -> Told<Recovered> {
             _ => {}
         }
     }
-    collect(&kept, window.word_bytes as usize)
+    Ok(kept)
 }
 
 fn plugin(data: &[u8], lent: Lent) -> Told<Recovered> {
@@ -194,7 +210,7 @@ fn word(rom: usize, address: u64) -> u64 {
     ((rom as u64) << 32) + address
 }
 
-fn collect(kept: &[Vec<Option<u64>>], word_bytes: usize) -> Told<Recovered> {
+fn collect(kept: &Kept, word_bytes: usize) -> Told<Recovered> {
     let mut roms = Vec::new();
     let mut marks = 0;
     for (rom, words) in kept.iter().enumerate() {

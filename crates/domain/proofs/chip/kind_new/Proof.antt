@@ -6,7 +6,7 @@ use Rattle.gpio.specs.Each.{each}
 use Rattle.gpio.proofs.Each.{each-none, each-turn, each-done}
 use mathlib.Core.Bool.{not}
 use lib.Dec.{eqb}
-use Rattle.domain.specs.Domain.{kindAt}
+use Rattle.slot.specs.Description.{kindAt}
 use borrow.Author.Needs.{needs}
 use Rattle.domain.proofs.chip.kind_new.Statement.{statement}
 use Rattle.domain.proofs.chip.kind_new.Tie as tie

@@ -7,7 +7,8 @@ use Rattle.gpio.proofs.Each.{each-none, each-turn, each-done}
 use mathlib.Core.Bool.{_||_}
 use lib.Dec.{leb}
 use lib.ListN.{getD}
-use Rattle.domain.specs.Domain.{chipIn, chipsIn, noChip}
+use Rattle.slot.specs.Description.{noChip}
+use Rattle.domain.specs.Domain.{chipIn, chipsIn}
 use borrow.Author.Needs.{needs}
 use Rattle.domain.proofs.description.chips_in.Statement.{statement}
 use Rattle.domain.proofs.description.chips_in.Tie as tie

@@ -6,7 +6,8 @@ use Rattle.gpio.specs.Each.{each}
 use Rattle.gpio.proofs.Each.{each-none, each-turn, each-done}
 use lib.ListN.{getD}
 use Rattle.gpio.specs.Candidates.{candidatesIn}
-use Rattle.domain.specs.Domain.{socketIn, noPin}
+use Rattle.slot.specs.Description.{noPin}
+use Rattle.domain.specs.Domain.{socketIn}
 use borrow.Author.Needs.{needs}
 use Rattle.domain.proofs.description.socket_in.Statement.{statement}
 use Rattle.domain.proofs.description.socket_in.Tie as tie

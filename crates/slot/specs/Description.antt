@@ -1,0 +1,37 @@
+-- Parts of a description by place. What stands past an array's end is all 0. Assumes nothing.
+use Prim.Native.Nat.{ℕ}
+use mathlib.Core.List.{[]}
+use lib.ListN.{getD}
+use Rattle.gpio.specs.declared.candidates.Candidates.the-variants.{Absent}
+use Rattle.gpio.specs.declared.candidates.Pin.{Pin}
+use Rattle.slot.specs.declared.description.ControlLine.{ControlLine}
+use Rattle.slot.specs.declared.description.ControlLines.{ControlLines}
+use Rattle.slot.specs.declared.description.Chip.{Chip}
+use Rattle.slot.specs.declared.description.Description.{Description}
+
+abbrev pub noPin : Pin
+noPin = record { gpios = Absent }
+
+abbrev pub noLine : ControlLine
+noLine = record { kind = 0; pin = 0 }
+
+abbrev pub noChip : Chip
+noChip = record {
+  «address_pins» = [];
+  «num_address_pins» = 0;
+  «data_pins» = [];
+  «num_data_pins» = 0;
+  control = record { lines = []; count = 0 };
+  size = 0;
+}
+
+-- a chip's control line, and its kind
+abbrev pub lineAt : ControlLines → ℕ → ControlLine
+lineAt c k = getD (c .lines) k noLine
+
+abbrev pub kindAt : ControlLines → ℕ → ℕ
+kindAt c k = lineAt c k .kind
+
+-- "The searches .. go by chip 0's pins and lines."
+abbrev pub chip0 : Description → Chip
+chip0 d = getD (d .chips) 0 noChip

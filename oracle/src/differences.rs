@@ -1,0 +1,232 @@
+//! The places where the original and document 01 part, numbered as in docs/DIFFERENCES.md: how a
+//! case is known to belong to one, and the smallest case of each.
+
+use crate::answer::answer;
+use crate::case::{Build, Case, MultiSelect, ReadBack};
+use crate::description::{BANKED, Chip, Description, NO_PIN, NONE, SINGLE, Settings};
+use crate::layout::{AddressLayout, SelectLayout};
+use crate::model::{Model, address};
+use crate::original::Original;
+use crate::slot::{ChipBytes, FIRST_PLUGIN, Slot};
+use crate::tally::{Outcome, outcome};
+
+/// The difference that a case with these two answers shows; none if it is on no list.
+pub fn number(case: &Case, original: &str, model: &str) -> Option<u32> {
+    let (was, wanted) = (outcome(original).1, outcome(model).1);
+    match (case, wanted) {
+        (Case::MultiSelect(_), Outcome::Refused(25)) => (was == Outcome::Panic).then_some(1),
+        (Case::Build(case), Outcome::Refused(wanted)) => {
+            let slot = Description::read(&case.record)?;
+            build_number(&slot, &case.address, wanted, was)
+        }
+        (Case::ReadBack(_), Outcome::Refused(16)) => (!matches!(was, Outcome::Panic)).then_some(9),
+        (Case::Chain(record, _), Outcome::Refused(wanted)) => {
+            let slot = Description::read(record)?;
+            let address = address::search(&slot).ok()?;
+            chain_number(&slot, &address, wanted, was)
+        }
+        _ => None,
+    }
+}
+
+fn build_number(
+    slot: &Description,
+    address: &AddressLayout,
+    wanted: u64,
+    was: Outcome,
+) -> Option<u32> {
+    let below = |gpio: Option<u8>| gpio.is_none_or(|gpio| gpio < address.base);
+    let lone_bank = slot.set_type == BANKED && slot.chips.len() == 1;
+    match (wanted, was) {
+        (11, Outcome::Panic) if address.pins >= 32 => Some(2),
+        (12, Outcome::Panic) if lone_bank && below(address.x1) => Some(3),
+        (13, Outcome::Panic) => Some(4),
+        (13, Outcome::Refused(12)) => Some(5),
+        (13, Outcome::Refused(14)) => Some(6),
+        (15, Outcome::Success | Outcome::Panic) => Some(7),
+        (16, Outcome::Success) => Some(8),
+        _ => None,
+    }
+}
+
+/// In the chain a table that 01 does not build can go on to the read-back.
+fn chain_number(
+    slot: &Description,
+    address: &AddressLayout,
+    wanted: u64,
+    was: Outcome,
+) -> Option<u32> {
+    match (wanted, was) {
+        (15, Outcome::Refused(21..=24)) => Some(7),
+        (16, _) => None,
+        _ => build_number(slot, address, wanted, was),
+    }
+}
+
+/// Prints the smallest case of each difference with both answers.
+pub fn print() {
+    for (number, case) in smallest() {
+        println!("difference {number}");
+        println!("  case     {}", case.line());
+        println!("  original {}", answer(&Original, &case));
+        println!("  01       {}", answer(&Model, &case));
+    }
+}
+
+pub fn smallest() -> Vec<(u32, Case)> {
+    vec![
+        (1, no_select()),
+        (2, build(|case, _| case.address.pins = 32)),
+        (3, build(|_, slot| slot.set_type = BANKED)),
+        (4, build(|case, _| case.address.base = 1)),
+        (5, build(line_out_of_reach_of_two_chips)),
+        (6, build(line_out_of_reach_without_bytes)),
+        (7, build(|_, slot| slot.chips[0].size = 2)),
+        (7, build(one_byte_for_two_words)),
+        (8, build(|case, _| case.table_length = 0)),
+        (9, plugin_without_room()),
+    ]
+}
+
+/// Single, one chip of one byte, one address line and one data line on GPIO 0, a table of one
+/// entry, changed in what a difference is about.
+fn build(change: fn(&mut Build, &mut Description)) -> Case {
+    let chip = Chip {
+        size: 1,
+        address_pins: vec![1],
+        data_pins: vec![1],
+        control: Vec::new(),
+    };
+    let mut slot = Description {
+        board_pins: 24,
+        set_type: SINGLE,
+        word_bytes: 1,
+        offset: 0,
+        largest_table: 256,
+        settings: by_enable(),
+        multi: None,
+        qualifiers: Vec::new(),
+        socket: [NO_PIN; 40],
+        x: [NO_PIN; 2],
+        chips: vec![chip],
+    };
+    let mut case = one_entry();
+    change(&mut case, &mut slot);
+    *case.record = slot.write();
+    Case::Build(Box::new(case))
+}
+
+fn by_enable() -> Settings {
+    Settings {
+        form: 1,
+        lines: [NONE; 6],
+    }
+}
+
+fn one_entry() -> Build {
+    let image = ChipBytes {
+        present: true,
+        length: 1,
+        seed: 0,
+    };
+    Build {
+        record: Box::new([0; crate::description::LENGTH]),
+        address: AddressLayout {
+            base: 0,
+            pins: 0,
+            x1: None,
+            x2: None,
+            lines: vec![0],
+            excess: Vec::new(),
+        },
+        select: SelectLayout {
+            base: 0,
+            base_data_pin: 0,
+            base_cs_pin: 0,
+            cs_pins: 0,
+            ignore: None,
+            qualifier: None,
+            data: vec![0],
+            select: Vec::new(),
+            commoned: Vec::new(),
+        },
+        images: [image; 4],
+        table_length: 1,
+    }
+}
+
+fn line_out_of_reach_of_two_chips(case: &mut Build, slot: &mut Description) {
+    case.address.lines[0] = 32;
+    slot.chips.push(slot.chips[0].clone());
+}
+
+fn line_out_of_reach_without_bytes(case: &mut Build, _slot: &mut Description) {
+    case.address.lines[0] = 32;
+    case.images[0].present = false;
+}
+
+fn one_byte_for_two_words(case: &mut Build, slot: &mut Description) {
+    slot.chips[0].size = 2;
+    case.address.pins = 1;
+    case.table_length = 2;
+}
+
+fn no_select() -> Case {
+    Case::MultiSelect(MultiSelect {
+        kinds: Vec::new(),
+        primary: by_enable(),
+        secondary: by_enable(),
+    })
+}
+
+fn plugin_without_room() -> Case {
+    let slot = Slot {
+        size: 1,
+        kind: FIRST_PLUGIN,
+        has_layout: false,
+        address_algorithm: 0,
+        address_base: 0,
+        base_address_pin: 0,
+        pins: 0,
+        data_algorithm: 0,
+        data_base: 0,
+        base_data_pin: 0,
+        dma_algorithm: 0,
+        bit_mode: 0,
+        select_algorithm: 0,
+        select_base: 0,
+        first_select_pin: 0,
+        overrides: Vec::new(),
+        x: [NO_PIN; 2],
+        roms: Vec::new(),
+    };
+    Case::ReadBack(Box::new(ReadBack {
+        slot,
+        output_length: 0,
+        mark_length: 0,
+        data: vec![0],
+    }))
+}
+
+#[cfg(test)]
+mod tests {
+    use super::*;
+
+    #[test]
+    fn each_smallest_case_shows_its_difference() {
+        for (wanted, case) in smallest() {
+            let (original, model) = (answer(&Original, &case), answer(&Model, &case));
+            assert_ne!(original, model, "{wanted}");
+            assert_eq!(number(&case, &original, &model), Some(wanted));
+        }
+    }
+
+    #[test]
+    fn a_case_line_reads_back_as_itself() {
+        for number in 0..900 {
+            let line = crate::generate::case(5, number, &[1, 2, 3, 4, 5, 6, 7, 8, 9]).line();
+            let read = Case::read(&line).map(|case| case.line());
+            assert_eq!(read, Some(line));
+        }
+    }
+}
