@@ -31,12 +31,21 @@ fn main() {
     let source = sources().join("rust/gen/src");
     println!("cargo:rerun-if-changed={}", source.display());
     if !all_there(&source) {
-        println!("cargo:warning=original sources not found at {}", source.display());
+        println!(
+            "cargo:warning=original sources not found at {}",
+            source.display()
+        );
         return;
     }
     let out = PathBuf::from(env::var("OUT_DIR").expect("cargo sets OUT_DIR"));
-    write(&out.join("image.rs"), &image_items(&source.join("image.rs")));
-    write(&out.join("rom_slot.rs"), &rom_slot_items(&source.join("v2/rom_slot.rs")));
+    write(
+        &out.join("image.rs"),
+        &image_items(&source.join("image.rs")),
+    );
+    write(
+        &out.join("rom_slot.rs"),
+        &rom_slot_items(&source.join("v2/rom_slot.rs")),
+    );
     write(&out.join("original.rs"), &module_list(&source, &out));
     println!("cargo:rustc-cfg=original");
 }
@@ -52,8 +61,12 @@ fn sources() -> PathBuf {
 }
 
 fn all_there(source: &Path) -> bool {
-    let whole = WHOLE.iter().map(|name| source.join(format!("v2/{name}.rs")));
-    let cut = ["image.rs", "v2/rom_slot.rs"].iter().map(|name| source.join(name));
+    let whole = WHOLE
+        .iter()
+        .map(|name| source.join(format!("v2/{name}.rs")));
+    let cut = ["image.rs", "v2/rom_slot.rs"]
+        .iter()
+        .map(|name| source.join(name));
     whole.chain(cut).all(|file| file.is_file())
 }
 
@@ -114,7 +127,10 @@ fn image_items(file: &Path) -> String {
 fn rom_slot_items(file: &Path) -> String {
     let text = read(file);
     let mut items = String::from(ROM_SLOT_HEAD);
-    for head in ["pub(crate) fn bytes_per_word(", "pub(crate) fn table_entries("] {
+    for head in [
+        "pub(crate) fn bytes_per_word(",
+        "pub(crate) fn table_entries(",
+    ] {
         items.push_str(item(&text, head));
     }
     items
@@ -145,8 +161,13 @@ fn item<'a>(text: &'a str, head: &str) -> &'a str {
 
 fn start_of(text: &str, head: &str) -> usize {
     let inside = format!("\n{head}");
-    let at = text.find(&inside).unwrap_or_else(|| panic!("no item begins with {head:?}"));
-    assert!(!text[at + 1..].contains(&inside), "{head:?} begins two items");
+    let at = text
+        .find(&inside)
+        .unwrap_or_else(|| panic!("no item begins with {head:?}"));
+    assert!(
+        !text[at + 1..].contains(&inside),
+        "{head:?} begins two items"
+    );
     at + 1
 }
 

@@ -117,7 +117,9 @@ fn read_back(engine: &dyn Engine, case: &ReadBack) -> Told<Vec<u64>> {
         output: case.output_length as usize,
         marks: case.mark_length as usize,
     };
-    Ok(recovered_fields(&engine.read_back(&case.slot, &case.data, lent)?))
+    Ok(recovered_fields(
+        &engine.read_back(&case.slot, &case.data, lent)?,
+    ))
 }
 
 fn recovered_fields(recovered: &Recovered) -> Vec<u64> {

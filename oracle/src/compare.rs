@@ -33,8 +33,15 @@ pub fn compare(run: &Run) -> ExitCode {
         }
     }
     let unlisted = print(&groups);
-    println!("{} cases, {equal} equal, {unlisted} different and not listed", run.count);
-    if unlisted == 0 { ExitCode::SUCCESS } else { ExitCode::FAILURE }
+    println!(
+        "{} cases, {equal} equal, {unlisted} different and not listed",
+        run.count
+    );
+    if unlisted == 0 {
+        ExitCode::SUCCESS
+    } else {
+        ExitCode::FAILURE
+    }
 }
 
 fn note(groups: &mut Groups, case: &Case, original: String, model: String) {

@@ -121,7 +121,9 @@ impl Description {
     /// The chip pin's place in the socket, if it has one.
     pub fn socket_pin(&self, chip_pin: u8) -> Option<u8> {
         let pin = i16::from(chip_pin) + self.offset;
-        (1..=i16::from(self.board_pins)).contains(&pin).then_some(pin as u8)
+        (1..=i16::from(self.board_pins))
+            .contains(&pin)
+            .then_some(pin as u8)
     }
 
     pub fn candidates(&self, socket_pin: u8) -> Pin {
@@ -147,7 +149,11 @@ fn read_multi(bytes: &[u8; LENGTH]) -> Option<Option<Multi>> {
 fn read_chips(bytes: &[u8; LENGTH]) -> Option<Vec<Chip>> {
     let count = usize::from(bytes[5]);
     (count <= 4).then_some(())?;
-    bytes[136..].chunks_exact(72).take(count).map(read_chip).collect()
+    bytes[136..]
+        .chunks_exact(72)
+        .take(count)
+        .map(read_chip)
+        .collect()
 }
 
 fn read_chip(bytes: &[u8]) -> Option<Chip> {

@@ -3,7 +3,7 @@
 
 use crate::answer::answer;
 use crate::case::{Build, Case, MultiSelect, ReadBack};
-use crate::description::{BANKED, Chip, Description, NO_PIN, NONE, SINGLE, Settings};
+use crate::description::{BANKED, Chip, Description, MULTI, Multi, NO_PIN, NONE, SINGLE, Settings};
 use crate::layout::{AddressLayout, SelectLayout};
 use crate::model::{Model, address};
 use crate::original::Original;
@@ -77,8 +77,10 @@ pub fn smallest() -> Vec<(u32, Case)> {
     vec![
         (1, no_select()),
         (2, build(|case, _| case.address.pins = 32)),
+        (2, found_table_of_32_pins()),
         (3, build(|_, slot| slot.set_type = BANKED)),
         (4, build(|case, _| case.address.base = 1)),
+        (4, found_select_below_the_base()),
         (5, build(line_out_of_reach_of_two_chips)),
         (6, build(line_out_of_reach_without_bytes)),
         (7, build(|_, slot| slot.chips[0].size = 2)),
@@ -88,16 +90,15 @@ pub fn smallest() -> Vec<(u32, Case)> {
     ]
 }
 
-/// Single, one chip of one byte, one address line and one data line on GPIO 0, a table of one
-/// entry, changed in what a difference is about.
-fn build(change: fn(&mut Build, &mut Description)) -> Case {
+/// Single, one chip of one byte, one address line and one data line.
+fn plain() -> Description {
     let chip = Chip {
         size: 1,
         address_pins: vec![1],
         data_pins: vec![1],
         control: Vec::new(),
     };
-    let mut slot = Description {
+    Description {
         board_pins: 24,
         set_type: SINGLE,
         word_bytes: 1,
@@ -109,11 +110,54 @@ fn build(change: fn(&mut Build, &mut Description)) -> Case {
         socket: [NO_PIN; 40],
         x: [NO_PIN; 2],
         chips: vec![chip],
-    };
+    }
+}
+
+/// A build of a table of one entry, changed in what a difference is about.
+fn build(change: fn(&mut Build, &mut Description)) -> Case {
+    let mut slot = plain();
     let mut case = one_entry();
     change(&mut case, &mut slot);
     *case.record = slot.write();
     Case::Build(Box::new(case))
+}
+
+/// Wires the first socket pins, one GPIO each.
+fn wire(slot: &mut Description, gpios: impl IntoIterator<Item = u8>) {
+    for (pin, gpio) in slot.socket.iter_mut().zip(gpios) {
+        *pin = [gpio, NONE];
+    }
+}
+
+/// Address lines on GPIOs 0 and 31, data on 1, ce on 2.
+fn found_table_of_32_pins() -> Case {
+    let mut slot = plain();
+    slot.chips[0].address_pins = vec![1, 2];
+    slot.chips[0].data_pins = vec![3];
+    slot.chips[0].control = vec![(0, 4)];
+    wire(&mut slot, [0, 31, 1, 2]);
+    Case::Chain(Box::new(slot.write()), one_entry().images)
+}
+
+/// Eight address lines on GPIOs 8 to 15, four data lines on 0 to 3. The address search takes X1 at
+/// 16 and the select's first candidate, 17; the select search takes 6 and 7.
+fn found_select_below_the_base() -> Case {
+    let mut slot = plain();
+    slot.set_type = MULTI;
+    slot.largest_table = 1024;
+    slot.chips[0].address_pins = (1..=8).collect();
+    slot.chips[0].data_pins = (9..=12).collect();
+    slot.chips[0].control = vec![(0, 13)];
+    slot.multi = Some(Multi {
+        select: 0,
+        commoned: Vec::new(),
+        ignored: Vec::new(),
+    });
+    wire(&mut slot, (8..=15).chain(0..=3));
+    slot.socket[12] = [17, 7];
+    slot.x[0] = [16, 6];
+    slot.chips.push(slot.chips[0].clone());
+    Case::Chain(Box::new(slot.write()), one_entry().images)
 }
 
 fn by_enable() -> Settings {

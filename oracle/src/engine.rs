@@ -6,6 +6,7 @@ use crate::layout::{AddressLayout, SelectLayout};
 use crate::slot::{ChipBytes, Slot};
 
 #[derive(Debug, Clone, Copy, PartialEq, Eq)]
+#[cfg_attr(not(original), allow(dead_code))]
 pub enum Failure {
     Refused { number: u64, place: u64 },
     Panic,

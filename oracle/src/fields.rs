@@ -7,8 +7,10 @@ pub struct Fields {
 impl Fields {
     /// The numbers of a line; none where something else stands in it.
     pub fn of(line: &str) -> Option<Self> {
-        let numbers: Option<Vec<u64>> =
-            line.split_ascii_whitespace().map(|word| word.parse().ok()).collect();
+        let numbers: Option<Vec<u64>> = line
+            .split_ascii_whitespace()
+            .map(|word| word.parse().ok())
+            .collect();
         Some(Self {
             numbers: numbers?.into_iter(),
         })

@@ -56,7 +56,10 @@ fn fill(fields: &mut Vec<u64>, bytes: &[u8], places: usize) {
 }
 
 fn fill_lines(fields: &mut Vec<u64>, lines: &[Line], places: usize) {
-    let flat: Vec<u8> = lines.iter().flat_map(|&(role, gpio)| [role, gpio]).collect();
+    let flat: Vec<u8> = lines
+        .iter()
+        .flat_map(|&(role, gpio)| [role, gpio])
+        .collect();
     fill(fields, &flat, 2 * places);
 }
 
@@ -144,5 +147,9 @@ impl SelectLayout {
 
 fn read_lines(bytes: &[u8], count: u8) -> Option<Vec<Line>> {
     let used = bytes.get(..2 * usize::from(count))?;
-    Some(used.chunks_exact(2).map(|pair| (pair[0], pair[1])).collect())
+    Some(
+        used.chunks_exact(2)
+            .map(|pair| (pair[0], pair[1]))
+            .collect(),
+    )
 }

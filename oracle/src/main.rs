@@ -82,8 +82,10 @@ fn run(seed: &str, count: &str, kinds: &[&str]) -> Option<Run> {
         [digits] => digits,
         _ => return None,
     };
-    let kinds: Option<Vec<u64>> =
-        digits.chars().map(|digit| digit.to_digit(10).map(u64::from)).collect();
+    let kinds: Option<Vec<u64>> = digits
+        .chars()
+        .map(|digit| digit.to_digit(10).map(u64::from))
+        .collect();
     Some(Run {
         seed: seed.parse().ok()?,
         count: count.parse().ok()?,
@@ -94,7 +96,11 @@ fn run(seed: &str, count: &str, kinds: &[&str]) -> Option<Run> {
 fn generate(run: &Run) -> io::Result<()> {
     let mut out = BufWriter::new(io::stdout().lock());
     for number in 0..run.count {
-        writeln!(out, "{}", generate::case(run.seed, number, &run.kinds).line())?;
+        writeln!(
+            out,
+            "{}",
+            generate::case(run.seed, number, &run.kinds).line()
+        )?;
     }
     out.flush()
 }

@@ -112,11 +112,20 @@ fn cs_config(settings: &Settings) -> CsConfig {
 
 fn chip_types(slot: &Description) -> Vec<ChipType> {
     let chip_type = |(n, chip): (usize, &crate::description::Chip)| {
-        let lines: Vec<ControlLine> =
-            chip.control.iter().map(|&(kind, pin)| ControlLine::new(kind, pin)).collect();
+        let lines: Vec<ControlLine> = chip
+            .control
+            .iter()
+            .map(|&(kind, pin)| ControlLine::new(kind, pin))
+            .collect();
         let qualifiers = if n == 0 { &slot.qualifiers[..] } else { &[] };
         let size = chip.size as usize;
-        ChipType::new(&chip.address_pins, &chip.data_pins, &lines, qualifiers, size)
+        ChipType::new(
+            &chip.address_pins,
+            &chip.data_pins,
+            &lines,
+            qualifiers,
+            size,
+        )
     };
     slot.chips.iter().enumerate().map(chip_type).collect()
 }
@@ -252,7 +261,10 @@ fn to_original_select(layout: &SelectLayout) -> CsDataLayout {
 
 fn from_original_select(layout: CsDataLayout) -> SelectLayout {
     let line = |line: &SelectLine| (place(&ROLES, &line.role), line.gpio);
-    assert_eq!(usize::from(layout.num_data_pins), layout.data_pin_gpios.len());
+    assert_eq!(
+        usize::from(layout.num_data_pins),
+        layout.data_pin_gpios.len()
+    );
     SelectLayout {
         base: layout.gpio_base,
         base_data_pin: layout.base_data_pin,
@@ -276,7 +288,15 @@ fn chips(slot: &Description, job: &Job) -> Vec<Chip> {
         .map(|(index, (chip_type, image))| {
             let data = image.present.then(|| image.bytes());
             let spec = ChipTypeSpec(chip_type);
-            Chip::new(index, String::new(), None, spec, cs_config(&slot.settings), data, None)
+            Chip::new(
+                index,
+                String::new(),
+                None,
+                spec,
+                cs_config(&slot.settings),
+                data,
+                None,
+            )
         })
         .collect()
 }
@@ -382,7 +402,11 @@ fn marks(slot: &Slot, roms: &[Vec<u8>]) -> u64 {
     let plugin = (crate::slot::FIRST_PLUGIN..=crate::slot::LAST_PLUGIN).contains(&slot.kind);
     let word_bytes = usize::from(slot.bit_mode) + 1;
     let words = |rom: &Vec<u8>| (rom.len() / word_bytes) as u64;
-    if plugin { 0 } else { roms.iter().map(words).sum() }
+    if plugin {
+        0
+    } else {
+        roms.iter().map(words).sum()
+    }
 }
 
 impl Engine for Original {
@@ -405,8 +429,12 @@ impl Engine for Original {
     }
 
     fn multi_select(&self, case: &MultiSelect) -> Told<Multi> {
-        let lines: Vec<ControlLine> =
-            case.kinds.iter().zip(1..).map(|(&kind, pin)| ControlLine::new(kind, pin)).collect();
+        let lines: Vec<ControlLine> = case
+            .kinds
+            .iter()
+            .zip(1..)
+            .map(|(&kind, pin)| ControlLine::new(kind, pin))
+            .collect();
         let chip = ChipType::new(&[], &[], &lines, &[], 0);
         let (primary, secondary) = (cs_config(&case.primary), cs_config(&case.secondary));
         told(|| {

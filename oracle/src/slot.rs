@@ -64,7 +64,12 @@ impl Slot {
         for n in 0..4 {
             let rom = self.roms.get(n).unwrap_or(&NO_ROM);
             fields.extend([u64::from(rom.has_map), u64::from(rom.size)]);
-            fields.extend(rom.address.iter().chain(&rom.data).map(|&byte| u64::from(byte)));
+            fields.extend(
+                rom.address
+                    .iter()
+                    .chain(&rom.data)
+                    .map(|&byte| u64::from(byte)),
+            );
         }
         fields
     }

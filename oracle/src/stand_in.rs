@@ -54,7 +54,10 @@ impl PartialOrd<LargestTable> for usize {
 pub const MAX_IMAGE_SIZE: LargestTable = LargestTable;
 
 #[derive(Debug)]
-#[allow(dead_code, reason = "the original fills in fields that no answer shows")]
+#[allow(
+    dead_code,
+    reason = "the original fills in fields that no answer shows"
+)]
 pub enum Error {
     UnsupportedBoardConfig { board: Board, reason: String },
     UnsupportedBoardChipType { board: Board, chip_type: ChipType },

@@ -1,19 +1,17 @@
 -- Document 01, "Domain": what a description holds, sentence by sentence. Entries of a list past its count are no part of the
 -- description; the socket's 40 places all are. Assumes nothing.
 use Prim.Native.Nat.{ℕ, _+_, _^_}
-use mathlib.Core.Bool.{Bool, true, false, _&&_, _||_, not}
+use mathlib.Core.Bool.{Bool, _&&_, _||_, not}
 use mathlib.Core.List.{List}
 use lib.Dec.{leb, ltb, eqb}
 use lib.ListN.{getD}
 use Rattle.gpio.specs.Each.{each}
 use Rattle.gpio.specs.Candidates.{candidatesIn}
-use Rattle.slot.specs.Description.{noPin, noChip, lineAt, kindAt}
+use Rattle.slot.specs.Description.{isMulti, noPin, noChip, lineAt, kindAt}
 use Rattle.slot.specs.SlotContext.{boardPinsIn, raisedOf}
 use Rattle.slot.specs.declared.description.Board.{Board}
 use Rattle.slot.specs.declared.description.ControlLines.{ControlLines}
 use Rattle.slot.specs.declared.description.Chip.{Chip}
-use Rattle.slot.specs.declared.description.ChipSetType.{ChipSetType}
-use Rattle.slot.specs.declared.description.ChipSetType.the-variants.{Single, Banked, Multi}
 use Rattle.slot.specs.declared.description.MultiCsConfig.{MultiCsConfig}
 use Rattle.slot.specs.declared.description.Description.{Description}
 
@@ -64,11 +62,6 @@ multiIn m =
     leb (m .select) 5
     && (leb (m .«num_commoned») 6 && kindsIn (m .commoned) (m .«num_commoned»))
     && (leb (m .«num_ignored») 6 && kindsIn (m .ignored) (m .«num_ignored»))
-
-abbrev pub isMulti : ChipSetType → Bool
-isMulti Single = false
-isMulti Banked = false
-isMulti Multi = true
 
 -- "Word bytes w is 1 or 2."
 abbrev pub wordBytesIn : ℕ → Bool

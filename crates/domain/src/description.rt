@@ -1,16 +1,14 @@
 // A description in the domain. Every number of it is tested, whether or not the call uses it.
 use crate::chip::chip_in;
 use crate::lists::all_between;
-use gpio::candidates::Pin;
 use slot::description::Board;
 use slot::description::Chip;
-use slot::description::ChipSetType;
 use slot::description::Description;
 use slot::description::MultiCsConfig;
 use slot::slot_context;
 ghost use mathlib.Core.Path.{_≡_};
 ghost use Prim.Native.Nat.{ℕ, _<_};
-ghost use Rattle.domain.specs.Domain.{socketIn, boardIn, multiIn, isMulti, chipsIn, descriptionIn};
+ghost use Rattle.domain.specs.Domain.{socketIn, boardIn, multiIn, chipsIn, descriptionIn};
 
 fn socket_in(b: Board) -> bool
     ensures { λ r. ⌜ r ≡ socketIn b ⌝ }
@@ -46,16 +44,6 @@ fn multi_in(m: MultiCsConfig) -> bool
     select_in & commoned_in & ignored_in
 }
 
-pub fn is_multi(t: ChipSetType) -> bool
-    ensures { λ r. ⌜ r ≡ isMulti t ⌝ }
-{
-    match t {
-        ChipSetType::Single => false,
-        ChipSetType::Banked => false,
-        ChipSetType::Multi => true,
-    }
-}
-
 // The chips up to the count; those past it count for nothing.
 fn chips_in(chips: [Chip; 4], count: u8, word_bytes: u8) -> bool
     ensures { λ r. ⌜ r ≡ chipsIn chips count «word_bytes» ⌝ }
@@ -83,7 +71,7 @@ pub fn description_in(d: Description) -> bool
     let n = d.num_chips;
     let size_in = (256 <= d.max_image_size) & (d.max_image_size <= 0x10_0000);
     let numbers_in = ((w == 1) | (w == 2)) & size_in;
-    let multi_fits = (!d.has_multi | multi_in(multi)) & (!is_multi(set_type) | d.has_multi);
+    let multi_fits = (!d.has_multi | multi_in(multi)) & (!set_type.is_multi() | d.has_multi);
     let offset_in = slot_context::raised(d.pin_offset) <= 8;
     let chips_fit = (1 <= n) & (n <= 4) & chips_in(chips, n, w);
     board_in(board) & numbers_in & offset_in & chips_fit & multi_fits

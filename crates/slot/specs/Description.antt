@@ -1,5 +1,6 @@
 -- Parts of a description by place. What stands past an array's end is all 0. Assumes nothing.
 use Prim.Native.Nat.{ℕ}
+use mathlib.Core.Bool.{Bool, true, false}
 use mathlib.Core.List.{[]}
 use lib.ListN.{getD}
 use Rattle.gpio.specs.declared.candidates.Candidates.the-variants.{Absent}
@@ -7,7 +8,19 @@ use Rattle.gpio.specs.declared.candidates.Pin.{Pin}
 use Rattle.slot.specs.declared.description.ControlLine.{ControlLine}
 use Rattle.slot.specs.declared.description.ControlLines.{ControlLines}
 use Rattle.slot.specs.declared.description.Chip.{Chip}
+use Rattle.slot.specs.declared.description.ChipSetType.{ChipSetType}
+use Rattle.slot.specs.declared.description.ChipSetType.the-variants.{Single, Banked, Multi}
 use Rattle.slot.specs.declared.description.Description.{Description}
+
+abbrev pub isSingle : ChipSetType → Bool
+isSingle Single = true
+isSingle Banked = false
+isSingle Multi = false
+
+abbrev pub isMulti : ChipSetType → Bool
+isMulti Single = false
+isMulti Banked = false
+isMulti Multi = true
 
 abbrev pub noPin : Pin
 noPin = record { gpios = Absent }

@@ -3,7 +3,7 @@
 use gpio::candidates::Candidates;
 use gpio::candidates::Pin;
 ghost use mathlib.Core.Path.{_≡_};
-ghost use Rattle.slot.specs.Description.{chip0};
+ghost use Rattle.slot.specs.Description.{isSingle, isMulti, chip0};
 
 // The board's socket and its two X pins.
 pub struct Board {
@@ -39,6 +39,28 @@ pub enum ChipSetType {
     Single,
     Banked,
     Multi,
+}
+
+impl ChipSetType {
+    pub fn is_single(self) -> bool
+        ensures { λ r. ⌜ r ≡ isSingle self ⌝ }
+    {
+        match self {
+            ChipSetType::Single => true,
+            ChipSetType::Banked => false,
+            ChipSetType::Multi => false,
+        }
+    }
+
+    pub fn is_multi(self) -> bool
+        ensures { λ r. ⌜ r ≡ isMulti self ⌝ }
+    {
+        match self {
+            ChipSetType::Single => false,
+            ChipSetType::Banked => false,
+            ChipSetType::Multi => true,
+        }
+    }
 }
 
 // How a control line is read.

@@ -9,15 +9,27 @@ pub fn window(random: &mut Random) -> Case {
     if random.chance(20) {
         return Case::Window(random.byte(), random.byte());
     }
-    let base = if random.chance(50) { random.pick(&edges) } else { random.gpio() };
-    let span = if random.chance(50) { random.pick(&edges) } else { random.gpio() };
+    let base = if random.chance(50) {
+        random.pick(&edges)
+    } else {
+        random.gpio()
+    };
+    let span = if random.chance(50) {
+        random.pick(&edges)
+    } else {
+        random.gpio()
+    };
     Case::Window(base, span)
 }
 
 pub fn offset(random: &mut Random) -> Case {
     let pins = [24, 28, 32, 40];
     let board = random.pick(&pins);
-    let chip = if random.chance(80) { random.pick(&pins) } else { random.byte() };
+    let chip = if random.chance(80) {
+        random.pick(&pins)
+    } else {
+        random.byte()
+    };
     Case::Offset(chip, board)
 }
 

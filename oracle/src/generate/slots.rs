@@ -17,16 +17,18 @@ fn within_qualifiers(slot: &mut Description, layout: &AddressLayout) {
 
 fn any_layout(random: &mut Random) -> AddressLayout {
     let x = |random: &mut Random| random.chance(70).then(|| random.gpio());
-    let lines = random.from_to(0, 16);
+    let lines = random.between(0, 16);
     let excess = random.pick(&[0, 0, 1, 1, 2, 3, 8]);
     let near = random.below(40);
     AddressLayout {
         base: random.gpio(),
-        pins: random.from_to(0, 48) as u8,
+        pins: random.between(0, 48) as u8,
         x1: x(random),
         x2: x(random),
         lines: (0..lines).map(|_| random.gpio()).collect(),
-        excess: (0..excess).map(|_| (near + random.below(8)) as u8).collect(),
+        excess: (0..excess)
+            .map(|_| (near + random.below(8)) as u8)
+            .collect(),
     }
 }
 

@@ -3,30 +3,25 @@
 use super::{slots, wiring};
 use crate::answer::fitted;
 use crate::case::{Case, ReadBack};
-use crate::description::{Description, NONE};
+use crate::description::{Description, NONE, Pin, SINGLE};
 use crate::engine::Job;
 use crate::layout::{AddressLayout, SelectLayout};
 use crate::model::build;
 use crate::random::Random;
-use crate::slot::Slot;
+use crate::slot::{SINGLE_RAM, SINGLE_ROM, Slot};
 
 /// Layouts over a small window: lines, X pins and the select on different GPIOs of it.
 pub fn layouts(random: &mut Random, slot: &Description) -> (AddressLayout, SelectLayout) {
-    let pins = random.from_to(3, 8);
-    let base = random.from_to(0, 40);
-    let pins = pins.min(48 - base);
+    let base = random.between(0, 40);
+    let pins = random.between(3, 8).min(48 - base);
     let mut window: Vec<u8> = (base..base + pins).map(|gpio| gpio as u8).collect();
     random.shuffle(&mut window);
-    let (x1, x2, first) = (window.pop(), window.pop(), window.pop().unwrap_or(base as u8));
-    if slot.set_type == 0 || random.chance(20) {
+    let (x1, x2) = (window.pop(), window.pop());
+    let first = window.pop().unwrap_or(base as u8);
+    if slot.set_type == SINGLE || random.chance(20) {
         window.extend(x1.iter().chain(&x2));
     }
-    window.truncate(random.from_to(1, window.len().max(1)));
-    let word_bits = 8 * usize::from(slot.word_bytes);
-    let data_start = random.from_to(0, 48 - word_bits);
-    let mut data: Vec<u8> = (data_start..data_start + word_bits).map(|g| g as u8).collect();
-    random.shuffle(&mut data);
-    let select_base = if data_start < 16 { 0 } else { 16 };
+    window.truncate(random.between(1, window.len().max(1)));
     let address = AddressLayout {
         base: base as u8,
         pins: pins as u8,
@@ -35,27 +30,36 @@ pub fn layouts(random: &mut Random, slot: &Description) -> (AddressLayout, Selec
         lines: window,
         excess: Vec::new(),
     };
-    let select = SelectLayout {
-        base: select_base,
-        base_data_pin: data_start as u8 - select_base,
-        base_cs_pin: first.saturating_sub(select_base),
+    (address, select_layout(random, slot, first))
+}
+
+/// A layout with one select line and the data lines of a word side by side, in any order.
+fn select_layout(random: &mut Random, slot: &Description, first: u8) -> SelectLayout {
+    let bits = 8 * slot.word_bytes;
+    let start = random.between(0, 48 - usize::from(bits)) as u8;
+    let mut data: Vec<u8> = (start..start + bits).collect();
+    random.shuffle(&mut data);
+    let base = if start < 16 { 0 } else { 16 };
+    SelectLayout {
+        base,
+        base_data_pin: start - base,
+        base_cs_pin: first.saturating_sub(base),
         cs_pins: 1,
         ignore: None,
         qualifier: None,
         data,
         select: vec![(random.below(6) as u8, first)],
         commoned: Vec::new(),
-    };
-    (address, select)
+    }
 }
 
 /// Changes one to three numbers of a pair of layouts.
 pub fn damage_layouts(random: &mut Random, address: &mut AddressLayout, select: &mut SelectLayout) {
-    for _ in 0..random.from_to(1, 3) {
+    for _ in 0..random.between(1, 3) {
         match random.below(16) {
             0 => address.base = random.gpio(),
             1 => address.base = (address.base + 1).min(47),
-            2 => address.pins = random.from_to(0, 48) as u8,
+            2 => address.pins = random.between(0, 48) as u8,
             3 => address.pins = address.pins.saturating_sub(2),
             4 => address.x1 = None,
             5 => address.x2 = None,
@@ -63,12 +67,17 @@ pub fn damage_layouts(random: &mut Random, address: &mut AddressLayout, select: 
             7 => address.x2 = Some(random.gpio()),
             8 => change(random, &mut address.lines),
             9 => change(random, &mut select.data),
-            10 => select.data.truncate(random.from_to(1, select.data.len())),
+            10 => select.data.truncate(random.between(1, select.data.len())),
             11 => select.base_data_pin = random.gpio(),
             12 => select.base_data_pin = select.base_data_pin.saturating_sub(1),
             13 => select.select.clear(),
-            14 => select.select.iter_mut().for_each(|line| line.1 = (line.1 + 9) % 48),
-            _ => address.lines.truncate(random.from_to(0, address.lines.len())),
+            14 => select
+                .select
+                .iter_mut()
+                .for_each(|line| line.1 = (line.1 + 9) % 48),
+            _ => address
+                .lines
+                .truncate(random.between(0, address.lines.len())),
         }
     }
 }
@@ -88,6 +97,17 @@ fn words_fit(random: &mut Random, slot: &mut Description, lines: usize) {
 }
 
 pub fn read_back(random: &mut Random) -> Case {
+    let mut case = good_read_back(random);
+    if random.chance(60) {
+        for _ in 0..random.between(1, 2) {
+            damage(random, &mut case);
+        }
+    }
+    Case::ReadBack(Box::new(case))
+}
+
+/// A table as the build makes it, or any bytes where the build refuses, and the record to read it.
+fn good_read_back(random: &mut Random) -> ReadBack {
     let mut slot = wiring::description(random);
     let (address, select) = layouts(random, &slot);
     words_fit(random, &mut slot, address.lines.len());
@@ -103,31 +123,29 @@ pub fn read_back(random: &mut Random) -> Case {
     let table = build::table(&slot, &job);
     let data = table.unwrap_or_else(|_| (0..length).map(|_| random.byte()).collect());
     let mut record = fitted(&slot, &address, &select, data.len());
-    record.kind = if record.kind == 0 { random.below(2) as u8 } else { record.kind };
+    if record.kind == SINGLE_ROM && random.chance(50) {
+        record.kind = SINGLE_RAM;
+    }
     record.data_algorithm = random.below(2) as u8;
-    let outside = |random: &mut Random| {
-        let gpio = random.gpio();
-        let position = gpio.wrapping_sub(address.base);
-        if position < address.pins { NONE } else { gpio }
-    };
-    let (out1, out2) = (outside(random), outside(random));
-    record.x = [x_pin(random, address.x1, out1), x_pin(random, address.x2, out2)];
-    let room = slot.chips.iter().map(|chip| chip.size).sum::<u32>().max(length as u32);
-    let mut case = ReadBack {
+    record.x = [
+        x_pin(random, address.x1, &address),
+        x_pin(random, address.x2, &address),
+    ];
+    let sizes: u32 = slot.chips.iter().map(|chip| chip.size).sum();
+    let room = sizes.max(length as u32);
+    ReadBack {
         slot: record,
         output_length: room,
         mark_length: room,
         data,
-    };
-    if random.chance(60) {
-        for _ in 0..random.from_to(1, 2) {
-            damage(random, &mut case);
-        }
     }
-    Case::ReadBack(Box::new(case))
 }
 
-fn x_pin(random: &mut Random, inside: Option<u8>, outside: u8) -> [u8; 2] {
+/// An X pin with its GPIO of the window and perhaps another outside it, in either order.
+fn x_pin(random: &mut Random, inside: Option<u8>, window: &AddressLayout) -> Pin {
+    let any = random.gpio();
+    let is_outside = any.wrapping_sub(window.base) >= window.pins;
+    let outside = if is_outside { any } else { NONE };
     match (inside, outside) {
         (Some(gpio), NONE) => [gpio, NONE],
         (Some(gpio), other) if random.chance(50) => [other, gpio],
@@ -147,11 +165,11 @@ fn damage(random: &mut Random, case: &mut ReadBack) {
             case.data.pop();
             slot.size = case.data.len() as u32;
         }
-        3 => slot.kind = random.from_to(7, 255) as u8,
+        3 => slot.kind = random.between(7, 255) as u8,
         4 => slot.kind = random.below(7) as u8,
         5 => slot.has_layout = false,
         6 => slot.address_algorithm = random.byte(),
-        7 => slot.data_algorithm = random.from_to(2, 255) as u8,
+        7 => slot.data_algorithm = random.between(2, 255) as u8,
         8 => slot.dma_algorithm = random.byte(),
         9 => slot.bit_mode = random.byte(),
         10 => slot.bit_mode ^= 1,

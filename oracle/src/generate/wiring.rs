@@ -27,10 +27,10 @@ fn set_and_chips(random: &mut Random) -> (u8, usize) {
     let right = random.chance(93);
     let chips = match (set_type, right) {
         (SINGLE, true) => 1,
-        (SINGLE, false) => random.from_to(2, 4),
-        (BANKED, true) => random.from_to(2, 4),
+        (SINGLE, false) => random.between(2, 4),
+        (BANKED, true) => random.between(2, 4),
         (BANKED, false) => 1,
-        (_, true) => random.from_to(2, 3),
+        (_, true) => random.between(2, 3),
         (_, false) => random.pick(&[1, 4]),
     };
     (set_type, chips)
@@ -40,8 +40,8 @@ fn largest_table(random: &mut Random) -> u32 {
     match random.below(20) {
         0 => 1 << 20,
         1 => 1 << 19,
-        2 => random.from_to(256, 1 << 20) as u32,
-        3..=5 => random.from_to(256, 4096) as u32,
+        2 => random.between(256, 1 << 20) as u32,
+        3..=5 => random.between(256, 4096) as u32,
         _ => random.pick(&TABLES),
     }
 }
@@ -70,7 +70,10 @@ fn unwired(random: &mut Random) -> Description {
         largest_table,
         settings,
         multi,
-        qualifiers: qualifiers(random, chip.address_pins.len() + 1 - usize::from(word_bytes)),
+        qualifiers: qualifiers(
+            random,
+            chip.address_pins.len() + 1 - usize::from(word_bytes),
+        ),
         socket: [NO_PIN; 40],
         x: [NO_PIN; 2],
         chips: vec![chip; chips],
@@ -87,10 +90,10 @@ fn unwired(random: &mut Random) -> Description {
 fn later_chips(random: &mut Random, slot: &mut Description) {
     for n in 1..slot.chips.len() {
         let mut own = chip(random, slot.word_bytes);
-        own.address_pins.fill_with(|| random.from_to(1, 40) as u8);
-        own.data_pins.fill_with(|| random.from_to(1, 40) as u8);
+        own.address_pins.fill_with(|| random.between(1, 40) as u8);
+        own.data_pins.fill_with(|| random.between(1, 40) as u8);
         for line in &mut own.control {
-            line.1 = random.from_to(1, 40) as u8;
+            line.1 = random.between(1, 40) as u8;
         }
         slot.chips[n] = own;
     }
@@ -100,19 +103,23 @@ fn offset(random: &mut Random) -> i16 {
     match random.below(10) {
         0..=5 => 0,
         6..=7 => random.pick(&[2, 4, -2, -4]),
-        _ => random.from_to(0, 8) as i16 - 4,
+        _ => random.between(0, 8) as i16 - 4,
     }
 }
 
 /// A chip by its counts; pins and size come later.
 fn chip(random: &mut Random, word_bytes: u8) -> Chip {
     let lines = match random.below(100) {
-        0..=49 => random.from_to(2, 8),
-        50..=79 => random.from_to(7, 11),
-        80..=92 => random.from_to(12, 19),
-        _ => random.from_to(1, 23),
+        0..=49 => random.between(2, 8),
+        50..=79 => random.between(7, 11),
+        80..=92 => random.between(12, 19),
+        _ => random.between(1, 23),
     };
-    let data = if random.chance(90) { 8 * usize::from(word_bytes) } else { random.from_to(1, 16) };
+    let data = if random.chance(90) {
+        8 * usize::from(word_bytes)
+    } else {
+        random.between(1, 16)
+    };
     let kinds = leaves::kinds(random);
     Chip {
         size: 0,
@@ -169,11 +176,11 @@ fn qualifiers(random: &mut Random, lines: usize) -> Vec<u8> {
     if !random.chance(18) {
         return Vec::new();
     }
-    let count = random.from_to(1, lines.min(8));
+    let count = random.between(1, lines.min(8));
     let start = random.below(lines - count + 1);
     let mut list: Vec<u8> = (start..start + count).map(|line| line as u8).collect();
     random.shuffle(&mut list);
-    list.truncate(random.from_to(1, count));
+    list.truncate(random.between(1, count));
     if list.len() < 8 && random.chance(10) {
         list.push(list[0]);
     }
@@ -187,10 +194,14 @@ fn seat(random: &mut Random, slot: &mut Description) {
     random.shuffle(&mut free);
     random.shuffle(&mut off);
     let shares_a_minus_1 = slot.word_bytes == 2 && random.chance(60);
-    let over = if random.chance(20) { random.from_to(1, 3) } else { 0 };
+    let over = if random.chance(20) {
+        random.between(1, 3)
+    } else {
+        0
+    };
     let stray = random.chance(3);
     let chip = &mut slot.chips[0];
-    let mut take = |random: &mut Random| free.pop().unwrap_or(random.from_to(1, 40) as u8);
+    let mut take = |random: &mut Random| free.pop().unwrap_or(random.between(1, 40) as u8);
     chip.address_pins.fill_with(|| take(random));
     chip.data_pins.fill_with(|| take(random));
     for line in &mut chip.control {
@@ -253,7 +264,10 @@ enum Token {
 
 fn pins_of(slot: &Description, kinds: &[u8]) -> Vec<Token> {
     let lines = slot.chip0().control.iter();
-    lines.filter(|line| kinds.contains(&line.0)).map(|line| Token::Pin(line.1)).collect()
+    lines
+        .filter(|line| kinds.contains(&line.0))
+        .map(|line| Token::Pin(line.1))
+        .collect()
 }
 
 fn mix(random: &mut Random, tokens: &mut [Token]) {
@@ -274,7 +288,11 @@ fn select_block(random: &mut Random, slot: &Description, excess: &[Token]) -> Ve
                 kinds.extend(&multi.ignored);
             }
             let mut block = pins_of(slot, &kinds);
-            block.extend([Token::X(1), Token::X(2)].iter().take(slot.chips.len().max(2) - 1));
+            block.extend(
+                [Token::X(1), Token::X(2)]
+                    .iter()
+                    .take(slot.chips.len().max(2) - 1),
+            );
             block
         }
         None => {
@@ -286,7 +304,7 @@ fn select_block(random: &mut Random, slot: &Description, excess: &[Token]) -> Ve
     mix(random, &mut block);
     let gaps = random.pick(&[0, 0, 0, 0, 0, 1, 1, 2, 3]);
     for _ in 0..gaps {
-        let place = random.from_to(0, block.len());
+        let place = random.between(0, block.len());
         block.insert(place, Token::Gap);
     }
     block
@@ -306,7 +324,7 @@ fn order(random: &mut Random, slot: &Description) -> Vec<Token> {
     }
     mix(random, &mut address);
     if random.chance(20) {
-        let place = random.from_to(0, address.len());
+        let place = random.between(0, address.len());
         address.insert(place, Token::Gap);
     }
     if slot.set_type != MULTI && slot.set_type != BANKED {
@@ -338,7 +356,7 @@ fn wire(random: &mut Random, slot: &mut Description, tokens: &[Token]) {
         0 => 0,
         1 => last,
         2 => last.min(16),
-        _ => random.from_to(0, last),
+        _ => random.between(0, last),
     };
     let mut gpio = start;
     for &token in tokens {
@@ -363,9 +381,9 @@ fn wire(random: &mut Random, slot: &mut Description, tokens: &[Token]) {
 fn second_candidates(random: &mut Random, slot: &mut Description, tokens: &[Token]) {
     let count = match random.below(200) {
         0..=69 => 0,
-        70..=159 => random.from_to(1, 4),
-        160..=195 => random.from_to(5, 10),
-        _ => random.from_to(11, 20),
+        70..=159 => random.between(1, 4),
+        160..=195 => random.between(5, 10),
+        _ => random.between(11, 20),
     };
     let mut chosen = tokens.to_vec();
     random.shuffle(&mut chosen);
@@ -386,14 +404,18 @@ fn second_candidates(random: &mut Random, slot: &mut Description, tokens: &[Toke
 /// Second candidates for all address lines or all data lines, up to the most that is allowed.
 fn crowd(random: &mut Random, slot: &mut Description) {
     let chip = slot.chip0();
-    let pins = if random.chance(50) { &chip.address_pins } else { &chip.data_pins };
+    let pins = if random.chance(50) {
+        &chip.address_pins
+    } else {
+        &chip.data_pins
+    };
     for pin in pins.clone() {
         add_second(random, slot, Token::Pin(pin));
     }
 }
 
 fn add_second(random: &mut Random, slot: &mut Description, token: Token) {
-    let near = random.from_to(0, 6) as i16 - 3;
+    let near = random.between(0, 6) as i16 - 3;
     let any = random.gpio();
     let other = random.pick(&[any, any, any, 15, 16, 31, 32, 47]);
     let is_near = random.chance(40);
@@ -402,7 +424,11 @@ fn add_second(random: &mut Random, slot: &mut Description, token: Token) {
         let beside = (i16::from(pin[0]) + near).clamp(0, 47) as u8;
         let second = if is_near { beside } else { other };
         if second != pin[0] {
-            *pin = if swap { [second, pin[0]] } else { [pin[0], second] };
+            *pin = if swap {
+                [second, pin[0]]
+            } else {
+                [pin[0], second]
+            };
         }
     }
 }
@@ -425,7 +451,11 @@ fn faults(random: &mut Random, slot: &mut Description) {
 fn within_choices(random: &mut Random, slot: &mut Description) {
     while !domain::description(slot) {
         let pin = random.below(42);
-        let pin = if pin < 40 { &mut slot.socket[pin] } else { &mut slot.x[pin - 40] };
+        let pin = if pin < 40 {
+            &mut slot.socket[pin]
+        } else {
+            &mut slot.x[pin - 40]
+        };
         pin[1] = NONE;
     }
 }

@@ -24,7 +24,11 @@ fn line_pins(slot: &Description) -> &[u8] {
 
 fn x_pin(slot: &Description, number: usize) -> Told<Pin> {
     let pin = slot.x[number - 1];
-    if is_mapped(pin) { Ok(pin) } else { refused(4, number as u64) }
+    if is_mapped(pin) {
+        Ok(pin)
+    } else {
+        refused(4, number as u64)
+    }
 }
 
 /// The pins that the search chooses for: the lines in order, then X1, X2.

@@ -16,7 +16,10 @@ pub fn gather(positions: &[u32], number: u64) -> u64 {
 
 /// Bit k of the number goes to `positions[k]`; bits that meet are joined.
 fn scatter(positions: &[u32], number: u32) -> u32 {
-    let bits = positions.iter().enumerate().map(|(k, &position)| (number >> k & 1) << position);
+    let bits = positions
+        .iter()
+        .enumerate()
+        .map(|(k, &position)| (number >> k & 1) << position);
     bits.fold(0, |joined, bit| joined | bit)
 }
 
@@ -96,7 +99,10 @@ fn word_at(words: u64, address: u64) -> Option<u64> {
 fn word(bytes: &[u8], number: u64, word_bytes: usize) -> u32 {
     let start = number as usize * word_bytes;
     let taken = &bytes[start..start + word_bytes];
-    taken.iter().rev().fold(0, |word, &byte| word << 8 | u32::from(byte))
+    taken
+        .iter()
+        .rev()
+        .fold(0, |word, &byte| word << 8 | u32::from(byte))
 }
 
 /// The chips' bytes, all there.

@@ -124,7 +124,10 @@ fn gpios(gpios: &[u8]) -> bool {
 }
 
 pub fn address_layout(slot: &Description, layout: &AddressLayout) -> bool {
-    let x = [layout.x1, layout.x2].iter().flatten().all(|&gpio| gpio <= LAST_GPIO);
+    let x = [layout.x1, layout.x2]
+        .iter()
+        .flatten()
+        .all(|&gpio| gpio <= LAST_GPIO);
     layout.base <= LAST_GPIO
         && layout.pins <= 48
         && x
@@ -151,10 +154,15 @@ fn qualifiers(slot: &Description, layout: &AddressLayout) -> bool {
 }
 
 pub fn select_layout(layout: &SelectLayout) -> bool {
-    let lines = |list: &[Line]| list.iter().all(|&(role, gpio)| role <= 8 && gpio <= LAST_GPIO);
+    let lines = |list: &[Line]| {
+        list.iter()
+            .all(|&(role, gpio)| role <= 8 && gpio <= LAST_GPIO)
+    };
     let bases = [layout.base, layout.base_data_pin, layout.base_cs_pin];
     gpios(&bases)
-        && layout.qualifier.is_none_or(|qualifier| qualifier.base_pin <= LAST_GPIO)
+        && layout
+            .qualifier
+            .is_none_or(|qualifier| qualifier.base_pin <= LAST_GPIO)
         && (1..=16).contains(&layout.data.len())
         && gpios(&layout.data)
         && layout.select.len() <= 30

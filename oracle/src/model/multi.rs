@@ -33,7 +33,12 @@ pub fn reads(kind: u8, settings: &Settings) -> u8 {
 }
 
 pub fn select(case: &MultiSelect) -> Told<Multi> {
-    let named: Vec<u8> = case.kinds.iter().copied().filter(|&kind| kind < 6).collect();
+    let named: Vec<u8> = case
+        .kinds
+        .iter()
+        .copied()
+        .filter(|&kind| kind < 6)
+        .collect();
     if let [only] = named[..] {
         return Ok(Multi {
             select: only,
@@ -41,10 +46,12 @@ pub fn select(case: &MultiSelect) -> Told<Multi> {
             ignored: Vec::new(),
         });
     }
-    let (unused, used): (Vec<u8>, Vec<u8>) =
-        named.iter().partition(|&&kind| reads(kind, &case.secondary) == IGNORED);
-    let (ignored, commoned) =
-        unused.iter().partition(|&&kind| reads(kind, &case.primary) == IGNORED);
+    let (unused, used): (Vec<u8>, Vec<u8>) = named
+        .iter()
+        .partition(|&&kind| reads(kind, &case.secondary) == IGNORED);
+    let (ignored, commoned) = unused
+        .iter()
+        .partition(|&&kind| reads(kind, &case.primary) == IGNORED);
     match used.last() {
         Some(&select) => Ok(Multi {
             select,

@@ -17,7 +17,8 @@ struct Window {
 
 impl Window {
     fn position(&self, gpio: u32) -> Option<u32> {
-        gpio.checked_sub(self.base).filter(|&position| position < self.pins)
+        gpio.checked_sub(self.base)
+            .filter(|&position| position < self.pins)
     }
 }
 
@@ -60,7 +61,9 @@ fn window(slot: &Slot, length: usize) -> Told<Window> {
 }
 
 fn up_to_end(map: &[u8; 32]) -> impl Iterator<Item = u32> + '_ {
-    map.iter().take_while(|&&gpio| gpio != NONE).map(|&gpio| u32::from(gpio))
+    map.iter()
+        .take_while(|&&gpio| gpio != NONE)
+        .map(|&gpio| u32::from(gpio))
 }
 
 fn rom_places(rom: &Rom, window: &Window) -> Told<RomPlaces> {
@@ -68,10 +71,13 @@ fn rom_places(rom: &Rom, window: &Window) -> Told<RomPlaces> {
         return refused(19, 0);
     }
     let bits = 8 * window.word_bytes;
-    let data_position =
-        |gpio: u32| gpio.checked_sub(window.data_base).filter(|&position| position < bits);
-    let address: Option<Vec<u32>> =
-        up_to_end(&rom.address).map(|gpio| window.position(gpio)).collect();
+    let data_position = |gpio: u32| {
+        gpio.checked_sub(window.data_base)
+            .filter(|&position| position < bits)
+    };
+    let address: Option<Vec<u32>> = up_to_end(&rom.address)
+        .map(|gpio| window.position(gpio))
+        .collect();
     let data: Option<Vec<u32>> = up_to_end(&rom.data).map(data_position).collect();
     match (address, data) {
         (Some(address), Some(data)) if data.len() == bits as usize => {
@@ -88,7 +94,9 @@ fn rom_places(rom: &Rom, window: &Window) -> Told<RomPlaces> {
 
 fn x_position(pin: Pin, number: u64, window: &Window) -> Told<u32> {
     let given = pin.iter().filter(|&&gpio| gpio != NONE);
-    let inside: Vec<u32> = given.filter_map(|&gpio| window.position(u32::from(gpio))).collect();
+    let inside: Vec<u32> = given
+        .filter_map(|&gpio| window.position(u32::from(gpio)))
+        .collect();
     match inside[..] {
         [only] => Ok(only),
         _ => refused(22, number),
@@ -151,8 +159,11 @@ pub fn recover(slot: &Slot, data: &[u8], lent: Lent) -> Told<Recovered> {
         _ => return refused(18, 0),
     };
     let window = window(slot, data.len())?;
-    let roms: Vec<RomPlaces> =
-        slot.roms.iter().map(|rom| rom_places(rom, &window)).collect::<Told<_>>()?;
+    let roms: Vec<RomPlaces> = slot
+        .roms
+        .iter()
+        .map(|rom| rom_places(rom, &window))
+        .collect::<Told<_>>()?;
     let pick = pick(slot, set_type, &window)?;
     let words: u64 = roms.iter().map(|rom| rom.words).sum();
     let bytes = words * u64::from(window.word_bytes);
@@ -178,14 +189,20 @@ fn keep(
     roms: &[RomPlaces],
     picked: impl Fn(u64) -> Option<usize>,
 ) -> Told<Kept> {
-    let mut kept: Kept = roms.iter().map(|rom| vec![None; rom.words as usize]).collect();
+    let mut kept: Kept = roms
+        .iter()
+        .map(|rom| vec![None; rom.words as usize])
+        .collect();
     for (index, entry) in data.chunks(word_bytes).enumerate() {
         let index = index as u64;
         let Some(chip) = picked(index) else {
             continue;
         };
         let address = gather(&roms[chip].address, index);
-        let stored = entry.iter().rev().fold(0, |word, &byte| word << 8 | u64::from(byte));
+        let stored = entry
+            .iter()
+            .rev()
+            .fold(0, |word, &byte| word << 8 | u64::from(byte));
         let value = gather(&roms[chip].data, stored);
         match kept[chip].get_mut(address as usize) {
             Some(place @ None) => *place = Some(value),

@@ -10,8 +10,13 @@ const CS1: u8 = 2;
 
 /// The active lines of Single and Banked: kind and chip pin, in the chip's order.
 pub fn active_lines(slot: &Description) -> Vec<(u8, u8)> {
-    let active = |&&(kind, _): &&(u8, u8)| kind < 6 && multi::reads(kind, &slot.settings) != IGNORED;
-    slot.chip0().control.iter().filter(active).copied().collect()
+    let active = |kind: u8| kind < 6 && multi::reads(kind, &slot.settings) != IGNORED;
+    slot.chip0()
+        .control
+        .iter()
+        .filter(|line| active(line.0))
+        .copied()
+        .collect()
 }
 
 /// What the search chooses for, and what stays fixed over its choices.
@@ -28,7 +33,9 @@ struct Listed {
 }
 
 fn chip_pin(slot: &Description, pin: u8) -> Told<Pin> {
-    let found = slot.socket_pin(pin).map(|socket_pin| slot.candidates(socket_pin));
+    let found = slot
+        .socket_pin(pin)
+        .map(|socket_pin| slot.candidates(socket_pin));
     match found.filter(|&pin| is_mapped(pin)) {
         Some(candidates) => Ok(candidates),
         None => refused(3, u64::from(pin)),
@@ -141,7 +148,10 @@ fn judge(listed: &Listed, gpios: &[u8]) -> Verdict {
     if !window_fits(base, highest(all) + 1 - base) {
         return Verdict::Window;
     }
-    let score = (preference(listed.qualifiers != 0, ignore.is_some()), span(all));
+    let score = (
+        preference(listed.qualifiers != 0, ignore.is_some()),
+        span(all),
+    );
     Verdict::Fits(score, layout(listed, gpios, base, ignore))
 }
 
@@ -200,5 +210,7 @@ pub fn search(slot: &Description, address: Option<&AddressLayout>) -> Told<Selec
         (None, None) => (9, 0),
     };
     let (number, place) = nothing;
-    best.map_or(Err(Failure::Refused { number, place }), |(_, layout)| Ok(layout))
+    best.map_or(Err(Failure::Refused { number, place }), |(_, layout)| {
+        Ok(layout)
+    })
 }

@@ -76,10 +76,15 @@ pub enum OneromAlgDmaConfig {
 
 #[derive(Debug, Clone)]
 pub enum OneromAlgCsConfig {
-    AlgCs0 { gpio_base: u8, first_rom_cs_base: u8 },
+    AlgCs0 {
+        gpio_base: u8,
+        first_rom_cs_base: u8,
+    },
     AlgCs1 {},
     AlgCs2 {},
-    Unknown { alg: u32 },
+    Unknown {
+        alg: u32,
+    },
 }
 
 #[derive(Debug, Clone)]

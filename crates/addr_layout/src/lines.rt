@@ -1,0 +1,156 @@
+// The pins that the address search lists: chip 0's address lines in order, those past the table's reach too, then X1 and
+// X2 where they pick a bank or a chip. An address line that overhangs the socket is fly-leaded to an X pin.
+use domain::description::description_in;
+use domain::lists::entry;
+use listing::Listed;
+use slot::description::Board;
+use slot::description::Description;
+use slot::refusal::Refusal;
+use slot::slot_context;
+use slot::slot_context::Socket;
+ghost use mathlib.Core.Path.{_≡_};
+ghost use Prim.Native.Nat.{ℕ, _≤_};
+ghost use Rattle.gpio.specs.Each.{tally};
+ghost use Rattle.gpio.specs.Tab.{tab};
+ghost use Rattle.listing.specs.Listing.{twos, count};
+ghost use Rattle.addr_layout.specs.Listing.{isOff, firstPin, lines, lineSocket, offBefore, flyLead, overhanging, lineListed, xPins, addrListed, inDomain};
+
+// 1 for a line off the socket, else 0.
+fn off(s: Socket) -> u32
+    ensures { λ r. ⌜ r ≡ count (isOff s) ⌝ }
+    ensures { λ r. ⌜ r ≤ 1 ⌝ }
+{
+    match s {
+        Socket::On(_) => 0,
+        Socket::Off => 1,
+    }
+}
+
+// The address pin of line 0: in 16-bit mode the data side serves address pin 0.
+pub fn first_pin(d: Description) -> u8
+    ensures { λ r. ⌜ r ≡ firstPin d ⌝ }
+    ensures { λ r. ⌜ r ≤ 1 ⌝ }
+{
+    if d.word_bytes == 2 { 1 } else { 0 }
+}
+
+// How many address lines chip 0 has.
+pub fn num_lines(d: Description) -> u8
+    ensures { λ r. ⌜ r ≡ lines d ⌝ }
+{
+    let chip = d.chip0();
+    let first = first_pin(d);
+    let n = chip.num_address_pins;
+    if n < first {
+        return 0;
+    }
+    n - first
+}
+
+// The socket pin under the `n`-th address line.
+fn line_socket(d: Description, n: usize) -> Socket
+    requires { ⌜ n ≤ 255 ⌝ }
+    ensures { λ r. ⌜ r ≡ lineSocket d n ⌝ }
+{
+    let board = d.board;
+    let chip = d.chip0();
+    let pins = chip.address_pins;
+    let pin = entry(&pins, first_pin(d) as usize + n);
+    let raised = slot_context::raised(d.pin_offset);
+    slot_context::socket_pin(pin, raised, board.pins)
+}
+
+// How many lines before the `n`-th overhang the socket.
+fn off_before(d: Description, n: usize) -> u32
+    requires { ⌜ n ≤ 255 ⌝ }
+    ensures { λ r. ⌜ r ≡ offBefore d n ⌝ }
+{
+    let mut passed: u32 = 0;
+    let mut k: usize = 0;
+    while k < n {
+        passed += off(line_socket(d, k));
+        k += 1;
+    }
+    passed
+}
+
+// The X pin of an overhanging line: X1 for the first, X2 for the second.
+fn fly_lead(b: Board, before: u32) -> Listed
+    ensures { λ r. ⌜ r ≡ flyLead b before ⌝ }
+{
+    if before == 0 {
+        return listing::x_listed(b, 1);
+    }
+    if before == 1 {
+        return listing::x_listed(b, 2);
+    }
+    Listed::Fault(Refusal::NoValidLayout)
+}
+
+// A line off the socket.
+fn overhanging(d: Description, n: usize) -> Listed
+    requires { ⌜ n ≤ 255 ⌝ }
+    ensures { λ r. ⌜ r ≡ overhanging d n ⌝ }
+{
+    let board = d.board;
+    let set_type = d.set_type;
+    if set_type.is_single() {
+        return fly_lead(board, off_before(d, n));
+    }
+    Listed::Fault(Refusal::NoValidLayout)
+}
+
+// The candidates of the `n`-th address line, or its fault.
+pub fn line_listed(d: Description, n: usize) -> Listed
+    requires { ⌜ n ≤ 255 ⌝ }
+    ensures { λ r. ⌜ r ≡ lineListed d n ⌝ }
+{
+    let board = d.board;
+    let s = line_socket(d, n);
+    match s {
+        Socket::On(pin) => {
+            let gpios = listing::candidates_at(board, pin);
+            listing::or_fault(gpios, Refusal::UnmappedPin(pin))
+        }
+        Socket::Off => overhanging(d, n),
+    }
+}
+
+// The two-candidate pins among the lines.
+fn line_twos(d: Description) -> u32
+    ensures { λ r. ⌜ r ≡ twos (tab (lines d) (λ n. lineListed d n)) ⌝ }
+    ensures { λ r. ⌜ r ≤ 255 ⌝ }
+{
+    let count = num_lines(d) as usize;
+    let mut bits: u32 = 0;
+    let mut n: usize = 0;
+    while n < count {
+        bits += listing::bits(line_listed(d, n));
+        n += 1;
+    }
+    bits
+}
+
+// The two-candidate pins among X1 and X2.
+fn x_twos(d: Description) -> u32
+    ensures { λ r. ⌜ r ≡ twos (xPins d) ⌝ }
+    ensures { λ r. ⌜ r ≤ 2 ⌝ }
+{
+    let board = d.board;
+    let set_type = d.set_type;
+    if set_type.is_single() {
+        return 0;
+    }
+    let x1 = listing::bits(listing::x_listed(board, 1));
+    if d.num_chips < 3 {
+        return x1;
+    }
+    x1 + listing::bits(listing::x_listed(board, 2))
+}
+
+// Whether the address search takes the description.
+pub fn in_domain(d: Description) -> bool
+    ensures { λ r. ⌜ r ≡ inDomain d ⌝ }
+{
+    description_in(d) & (line_twos(d) + x_twos(d) <= 16)
+}
