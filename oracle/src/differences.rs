@@ -91,7 +91,7 @@ pub fn smallest() -> Vec<(u32, Case)> {
 }
 
 /// Single, one chip of one byte, one address line and one data line.
-fn plain() -> Description {
+pub fn plain() -> Description {
     let chip = Chip {
         size: 1,
         address_pins: vec![1],
@@ -123,7 +123,7 @@ fn build(change: fn(&mut Build, &mut Description)) -> Case {
 }
 
 /// Wires the first socket pins, one GPIO each.
-fn wire(slot: &mut Description, gpios: impl IntoIterator<Item = u8>) {
+pub fn wire(slot: &mut Description, gpios: impl IntoIterator<Item = u8>) {
     for (pin, gpio) in slot.socket.iter_mut().zip(gpios) {
         *pin = [gpio, NONE];
     }
@@ -167,7 +167,7 @@ fn by_enable() -> Settings {
     }
 }
 
-fn one_entry() -> Build {
+pub fn one_entry() -> Build {
     let image = ChipBytes {
         present: true,
         length: 1,

@@ -3,6 +3,8 @@
 extern crate alloc;
 
 mod answer;
+#[cfg(all(test, original))]
+mod bench_cases;
 mod case;
 mod description;
 mod engine;

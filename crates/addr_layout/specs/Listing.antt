@@ -1,7 +1,7 @@
 -- addr_layout.rs: the pins that the address search lists. Assumes nothing.
 use Prim.Native.Nat.{ℕ, _+_, _-_}
-use mathlib.Core.Bool.{Bool, true, false, _&&_, cond}
-use mathlib.Core.List.{List, [], _∷_, _++_}
+use mathlib.Core.Bool.{Bool, true, false, _&&_, not, cond}
+use mathlib.Core.List.{List, _++_}
 use lib.Dec.{leb, eqb}
 use lib.ListN.{getD}
 use Rattle.gpio.specs.Each.{tally}
@@ -14,7 +14,7 @@ use Rattle.slot.specs.declared.refusal.Refusal.the-variants.{NoValidLayout, Unm
 use Rattle.slot.specs.declared.slot_context.Socket.{Socket}
 use Rattle.slot.specs.declared.slot_context.Socket.the-variants.{On, Off}
 use Rattle.domain.specs.Domain.{descriptionIn}
-use Rattle.listing.specs.Listing.{candidatesAt, orFault, xListed, twos}
+use Rattle.listing.specs.Listing.{candidatesAt, orFault, xListed, xPins, twos}
 use Rattle.listing.specs.declared.Listed.{Listed}
 use Rattle.listing.specs.declared.Listed.the-variants.{Gpios, Fault}
 
@@ -52,15 +52,9 @@ atSocket d n Off = overhanging d n
 unfoldable pub lineListed : Description → ℕ → Listed
 lineListed d n = atSocket d n (lineSocket d n)
 
--- "Banked and Multi add X1, and X2 with 3 chips or more."
-abbrev pub xPins : Description → List Listed
-xPins d =
-    cond (isSingle (d .«set_type»)) []
-    (xListed (d .board) 1 ∷ cond (leb 3 (d .«num_chips»)) (xListed (d .board) 2 ∷ []) [])
-
--- "Lines go in order, excess included, then X1, X2"
+-- "Banked and Multi add X1, and X2 with 3 chips or more. Lines go in order, excess included, then X1, X2"
 unfoldable pub addrListed : Description → List Listed
-addrListed d = tab (lines d) (λ n. lineListed d n) ++ xPins d
+addrListed d = tab (lines d) (λ n. lineListed d n) ++ xPins (d .board) (not (isSingle (d .«set_type»))) (leb 3 (d .«num_chips»))
 
 -- "At most 16 two-candidate pins among those a search lists"
 unfoldable pub inDomain : Description → Bool

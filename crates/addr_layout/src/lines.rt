@@ -13,7 +13,7 @@ ghost use Prim.Native.Nat.{ℕ, _≤_};
 ghost use Rattle.gpio.specs.Each.{tally};
 ghost use Rattle.gpio.specs.Tab.{tab};
 ghost use Rattle.listing.specs.Listing.{twos, count};
-ghost use Rattle.addr_layout.specs.Listing.{isOff, firstPin, lines, lineSocket, offBefore, flyLead, overhanging, lineListed, xPins, addrListed, inDomain};
+ghost use Rattle.addr_layout.specs.Listing.{isOff, firstPin, lines, lineSocket, offBefore, flyLead, overhanging, lineListed, inDomain};
 
 // 1 for a line off the socket, else 0.
 fn off(s: Socket) -> u32
@@ -131,26 +131,12 @@ fn line_twos(d: Description) -> u32
     bits
 }
 
-// The two-candidate pins among X1 and X2.
-fn x_twos(d: Description) -> u32
-    ensures { λ r. ⌜ r ≡ twos (xPins d) ⌝ }
-    ensures { λ r. ⌜ r ≤ 2 ⌝ }
-{
-    let board = d.board;
-    let set_type = d.set_type;
-    if set_type.is_single() {
-        return 0;
-    }
-    let x1 = listing::bits(listing::x_listed(board, 1));
-    if d.num_chips < 3 {
-        return x1;
-    }
-    x1 + listing::bits(listing::x_listed(board, 2))
-}
-
 // Whether the address search takes the description.
 pub fn in_domain(d: Description) -> bool
     ensures { λ r. ⌜ r ≡ inDomain d ⌝ }
 {
-    description_in(d) & (line_twos(d) + x_twos(d) <= 16)
+    let board = d.board;
+    let set_type = d.set_type;
+    let x_twos = listing::x_twos(board, !set_type.is_single(), 3 <= d.num_chips);
+    description_in(d) & (line_twos(d) + x_twos <= 16)
 }

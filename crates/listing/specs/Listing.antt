@@ -28,6 +28,10 @@ orFault (Two g h) fault = Gpios (Two g h)
 abbrev pub xListed : Board → ℕ → Listed
 xListed b x = cond (eqb x 1) (orFault (b .x1) (MissingXPin 1)) (orFault (b .x2) (MissingXPin 2))
 
+-- X1 where a search needs it, and X2 where it needs both
+abbrev pub xPins : Board → Bool → Bool → List Listed
+xPins b one both = cond one (xListed b 1 ∷ cond both (xListed b 2 ∷ []) []) []
+
 -- "one without GPIO or off the socket without its X counts none"
 abbrev pub twoListed : Listed → Bool
 twoListed (Gpios c) = two c

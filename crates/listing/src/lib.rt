@@ -4,7 +4,7 @@ use slot::description::Board;
 use slot::refusal::Refusal;
 ghost use mathlib.Core.Path.{_≡_};
 ghost use Prim.Native.Nat.{ℕ, _≤_};
-ghost use Rattle.listing.specs.Listing.{candidatesAt, orFault, xListed, twoListed, count};
+ghost use Rattle.listing.specs.Listing.{candidatesAt, orFault, xListed, xPins, twoListed, count, twos};
 
 // A listed pin.
 pub enum Listed {
@@ -67,4 +67,19 @@ pub fn bits(l: Listed) -> u32
     ensures { λ r. ⌜ r ≤ 1 ⌝ }
 {
     if is_two(l) { 1 } else { 0 }
+}
+
+// The two-candidate pins among X1, where `one` asks for it, and X2, where `both` does too.
+pub fn x_twos(b: Board, one: bool, both: bool) -> u32
+    ensures { λ r. ⌜ r ≡ twos (xPins b one both) ⌝ }
+    ensures { λ r. ⌜ r ≤ 2 ⌝ }
+{
+    if !one {
+        return 0;
+    }
+    let x1 = bits(x_listed(b, 1));
+    if !both {
+        return x1;
+    }
+    x1 + bits(x_listed(b, 2))
 }

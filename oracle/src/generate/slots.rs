@@ -10,7 +10,7 @@ use crate::slot::ChipBytes;
 
 /// Shortens the qualifier list until it is in the domain of the layout.
 fn within_qualifiers(slot: &mut Description, layout: &AddressLayout) {
-    while !domain::address_layout(slot, layout) {
+    while !slot.qualifiers.is_empty() && !domain::address_layout(slot, layout) {
         slot.qualifiers.pop();
     }
 }

@@ -56,7 +56,8 @@ fn select_layout(random: &mut Random, slot: &Description, first: u8) -> SelectLa
 /// Changes one to three numbers of a pair of layouts.
 pub fn damage_layouts(random: &mut Random, address: &mut AddressLayout, select: &mut SelectLayout) {
     for _ in 0..random.between(1, 3) {
-        match random.below(16) {
+        match random.below(18) {
+            16 | 17 => to_the_edge(random, address, select),
             0 => address.base = random.gpio(),
             1 => address.base = (address.base + 1).min(47),
             2 => address.pins = random.between(0, 48) as u8,
@@ -78,6 +79,27 @@ pub fn damage_layouts(random: &mut Random, address: &mut AddressLayout, select: 
             _ => address
                 .lines
                 .truncate(random.between(0, address.lines.len())),
+        }
+    }
+}
+
+/// Puts a line at position 31 or 32.
+fn to_the_edge(random: &mut Random, address: &mut AddressLayout, select: &mut SelectLayout) {
+    let edge = random.pick(&[31, 31, 32]);
+    address.base = random.below(16) as u8;
+    let gpio = address.base + edge;
+    match random.below(5) {
+        0 => address.x1 = Some(gpio),
+        1 => address.x2 = Some(gpio),
+        2 => select.select = vec![(0, gpio)],
+        3 => {
+            select.base = 0;
+            select.base_data_pin = address.base;
+            select.data[0] = gpio;
+        }
+        _ => {
+            address.lines.pop();
+            address.lines.push(gpio);
         }
     }
 }
@@ -218,14 +240,20 @@ fn shift_bases(random: &mut Random, slot: &mut Slot) {
     }
 }
 
-/// Overrides of every kind, in and out of the window, two on one GPIO in either order.
+/// Overrides of every kind, in and out of the window, at times low and high on one GPIO.
 fn force(random: &mut Random, slot: &mut Slot) {
     for _ in 0..random.pick(&[1, 1, 2, 3, 64]) {
+        let near = random.below(10) as u8;
         let gpio = match random.chance(80) {
-            true => slot.address_base.wrapping_add(random.below(10) as u8) % 64,
+            true => slot.address_base.wrapping_add(near) % 64,
             false => random.below(64) as u8,
         };
         slot.overrides.push((random.below(4) as u8) << 6 | gpio);
+        if random.chance(30) {
+            let order = random.pick(&[[2, 3], [3, 2]]);
+            slot.overrides
+                .extend(order.map(|kind: u8| kind << 6 | gpio));
+        }
     }
     slot.overrides.truncate(64);
 }

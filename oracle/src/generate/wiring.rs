@@ -280,26 +280,14 @@ fn mix(random: &mut Random, tokens: &mut [Token]) {
 
 /// The select lines side by side, or with a gap, or with an ignored line among them.
 fn select_block(random: &mut Random, slot: &Description, excess: &[Token]) -> Vec<Token> {
-    let mut block = match slot.multi.as_ref().filter(|_| slot.set_type == MULTI) {
-        Some(multi) => {
-            let mut kinds = multi.commoned.clone();
-            kinds.push(multi.select);
-            if random.chance(25) {
-                kinds.extend(&multi.ignored);
-            }
-            let mut block = pins_of(slot, &kinds);
-            block.extend(
-                [Token::X(1), Token::X(2)]
-                    .iter()
-                    .take(slot.chips.len().max(2) - 1),
-            );
-            block
+    let mut block = select_pins(slot);
+    if let Some(multi) = slot.multi.as_ref().filter(|_| slot.set_type == MULTI) {
+        if random.chance(35) {
+            block.extend(pins_of(slot, &multi.ignored));
         }
-        None => {
-            let active = crate::model::select::active_lines(slot);
-            active.iter().map(|line| Token::Pin(line.1)).collect()
-        }
-    };
+        let x_pins = slot.chips.len().max(2) - 1;
+        block.extend([Token::X(1), Token::X(2)].iter().take(x_pins));
+    }
     block.extend(excess);
     mix(random, &mut block);
     let gaps = random.pick(&[0, 0, 0, 0, 0, 1, 1, 2, 3]);
@@ -377,7 +365,7 @@ fn wire(random: &mut Random, slot: &mut Description, tokens: &[Token]) {
     }
 }
 
-/// Gives some pins a second candidate: X pins and a Multi set's select more often than others.
+/// Gives some pins a second candidate: X pins and select lines more often than others.
 fn second_candidates(random: &mut Random, slot: &mut Description, tokens: &[Token]) {
     let count = match random.below(200) {
         0..=69 => 0,
@@ -387,8 +375,12 @@ fn second_candidates(random: &mut Random, slot: &mut Description, tokens: &[Toke
     };
     let mut chosen = tokens.to_vec();
     random.shuffle(&mut chosen);
-    if let Some(multi) = slot.multi.as_ref().filter(|_| random.chance(30)) {
-        chosen.splice(..0, pins_of(slot, &[multi.select]));
+    if random.chance(40) {
+        let mut selects = select_pins(slot);
+        let ignored = slot.multi.as_ref().map(|multi| &multi.ignored[..]);
+        selects.extend(pins_of(slot, ignored.unwrap_or_default()));
+        random.shuffle(&mut selects);
+        chosen.splice(..0, selects);
     }
     if random.chance(40) {
         chosen.splice(..0, [Token::X(1), Token::X(2)]);
@@ -398,6 +390,21 @@ fn second_candidates(random: &mut Random, slot: &mut Description, tokens: &[Toke
     }
     if random.below(150) == 0 {
         crowd(random, slot);
+    }
+}
+
+/// The pins of the lines that select, Multi's commoned ones included.
+fn select_pins(slot: &Description) -> Vec<Token> {
+    match slot.multi.as_ref().filter(|_| slot.set_type == MULTI) {
+        Some(multi) => {
+            let mut kinds = multi.commoned.clone();
+            kinds.push(multi.select);
+            pins_of(slot, &kinds)
+        }
+        None => {
+            let active = crate::model::select::active_lines(slot);
+            active.iter().map(|line| Token::Pin(line.1)).collect()
+        }
     }
 }
 
