@@ -1,5 +1,6 @@
 //! Seeded cases inside 01's domain.
 
+mod faults;
 mod leaves;
 mod slots;
 mod tables;

@@ -1,6 +1,6 @@
 //! Layouts that no search found, and records for read-back: good ones and damaged copies.
 
-use super::{slots, wiring};
+use super::{faults, slots, wiring};
 use crate::answer::fitted;
 use crate::case::{Case, ReadBack};
 use crate::description::{Description, NONE, Pin, SINGLE};
@@ -8,7 +8,7 @@ use crate::engine::Job;
 use crate::layout::{AddressLayout, SelectLayout};
 use crate::model::build;
 use crate::random::Random;
-use crate::slot::{SINGLE_RAM, SINGLE_ROM, Slot};
+use crate::slot::{SINGLE_RAM, SINGLE_ROM};
 
 /// Layouts over a small window: lines, X pins and the select on different GPIOs of it.
 pub fn layouts(random: &mut Random, slot: &Description) -> (AddressLayout, SelectLayout) {
@@ -120,9 +120,14 @@ fn words_fit(random: &mut Random, slot: &mut Description, lines: usize) {
 
 pub fn read_back(random: &mut Random) -> Case {
     let mut case = good_read_back(random);
-    if random.chance(60) {
-        for _ in 0..random.between(1, 2) {
-            damage(random, &mut case);
+    match random.below(10) {
+        0..=3 => {}
+        4 | 5 => faults::any(random, &mut case),
+        6 | 7 => faults::other(random, &mut case),
+        8 => faults::neighbours(random, &mut case),
+        _ => {
+            faults::other(random, &mut case);
+            faults::any(random, &mut case);
         }
     }
     Case::ReadBack(Box::new(case))
@@ -173,105 +178,5 @@ fn x_pin(random: &mut Random, inside: Option<u8>, window: &AddressLayout) -> Pin
         (Some(gpio), other) if random.chance(50) => [other, gpio],
         (Some(gpio), other) => [gpio, other],
         (None, other) => [other, NONE],
-    }
-}
-
-fn damage(random: &mut Random, case: &mut ReadBack) {
-    let slot = &mut case.slot;
-    match random.below(28) {
-        0 => slot.size = slot.size.wrapping_add(1),
-        1 => {
-            case.data.pop();
-        }
-        2 => {
-            case.data.pop();
-            slot.size = case.data.len() as u32;
-        }
-        3 => slot.kind = random.between(7, 255) as u8,
-        4 => slot.kind = random.below(7) as u8,
-        5 => slot.has_layout = false,
-        6 => slot.address_algorithm = random.byte(),
-        7 => slot.data_algorithm = random.between(2, 255) as u8,
-        8 => slot.dma_algorithm = random.byte(),
-        9 => slot.bit_mode = random.byte(),
-        10 => slot.bit_mode ^= 1,
-        11 => slot.select_algorithm = random.byte() % 4,
-        12 => shift_bases(random, slot),
-        13 => slot.pins = random.pick(&[0, 31, 32, 33, 63, 64, 255]),
-        14 => slot.address_base = random.byte(),
-        15 => {
-            slot.roms.pop();
-        }
-        16 => slot.x[random.below(2)] = random.pick(&[[NONE, NONE], [0, NONE], [20, 21]]),
-        17 => slot.first_select_pin = random.byte(),
-        18 => case.output_length = case.output_length.saturating_sub(random.below(64) as u32),
-        19 => case.mark_length /= 2,
-        20..=21 => flip(random, &mut case.data),
-        22..=23 => force(random, slot),
-        _ => damage_rom(random, slot),
-    }
-}
-
-fn flip(random: &mut Random, data: &mut [u8]) {
-    if !data.is_empty() {
-        data[random.below(data.len())] ^= 1 << random.below(8);
-    }
-}
-
-/// Splits a base otherwise, keeping its sum or breaking it.
-fn shift_bases(random: &mut Random, slot: &mut Slot) {
-    let moved = random.below(8) as u8;
-    let high = random.chance(50);
-    match random.below(3) {
-        0 if high => slot.base_address_pin = 255 - slot.address_base.saturating_sub(1),
-        0 => {
-            let moved = moved.min(slot.address_base);
-            slot.address_base -= moved;
-            slot.base_address_pin = moved;
-        }
-        1 if high => slot.base_data_pin = 255 - slot.data_base.saturating_sub(1),
-        1 => slot.base_data_pin = slot.base_data_pin.saturating_sub(moved),
-        _ if high => slot.first_select_pin = 255,
-        _ => {
-            let moved = moved.min(slot.select_base);
-            slot.select_base -= moved;
-            slot.first_select_pin = moved;
-        }
-    }
-}
-
-/// Overrides of every kind, in and out of the window, at times low and high on one GPIO.
-fn force(random: &mut Random, slot: &mut Slot) {
-    for _ in 0..random.pick(&[1, 1, 2, 3, 64]) {
-        let near = random.below(10) as u8;
-        let gpio = match random.chance(80) {
-            true => slot.address_base.wrapping_add(near) % 64,
-            false => random.below(64) as u8,
-        };
-        slot.overrides.push((random.below(4) as u8) << 6 | gpio);
-        if random.chance(30) {
-            let order = random.pick(&[[2, 3], [3, 2]]);
-            slot.overrides
-                .extend(order.map(|kind: u8| kind << 6 | gpio));
-        }
-    }
-    slot.overrides.truncate(64);
-}
-
-fn damage_rom(random: &mut Random, slot: &mut Slot) {
-    if slot.roms.is_empty() {
-        return;
-    }
-    let which = random.below(slot.roms.len());
-    let rom = &mut slot.roms[which];
-    let place = random.below(6);
-    match random.below(7) {
-        0 => rom.has_map = false,
-        1 => rom.address[place] = random.gpio(),
-        2 => rom.address[place] = NONE,
-        3 => rom.data[place] = random.pick(&[NONE, 0, 47, 200]),
-        4 => rom.address[place] = rom.address[place + 1],
-        5 => rom.data[place] = rom.data[place + 1],
-        _ => rom.size = random.pick(&[0, 1, 3, 64, 300, 1 << 24]),
     }
 }

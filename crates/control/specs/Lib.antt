@@ -1,0 +1,3 @@
+pub mod CsConfig
+pub mod AlgPreference
+pub mod MultiCsConfig

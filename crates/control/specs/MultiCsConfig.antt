@@ -1,0 +1,95 @@
+-- multi_cs_config.rs: the part of each control line in a Multi set. Assumes nothing.
+use Prim.Native.Nat.{ℕ, zero, suc, _+_}
+use mathlib.Core.Bool.{Bool, true, false, _||_, not, cond}
+use lib.Dec.{leb, eqb}
+use lib.ListN.{set, replicate}
+use Rattle.gpio.specs.Each.{tally}
+use Rattle.slot.specs.Description.{kindAt}
+use Rattle.slot.specs.declared.description.ControlLines.{ControlLines}
+use Rattle.slot.specs.declared.description.CsConfig.{CsConfig}
+use Rattle.slot.specs.declared.description.MultiCsConfig.{MultiCsConfig}
+use Rattle.slot.specs.declared.refusal.Refusal.{Refusal}
+use Rattle.slot.specs.declared.refusal.Refusal.the-variants.{OutOfDomain, NoActiveLine}
+use Rattle.domain.specs.Domain.{controlIn}
+use Rattle.control.specs.CsConfig.{ignores}
+use Rattle.control.specs.declared.multi_cs_config.Part.{Part}
+use Rattle.control.specs.declared.multi_cs_config.Part.the-variants.{Dropped, Select, Commoned, Ignored}
+use Rattle.control.specs.declared.multi_cs_config.Sorted.{Sorted}
+use Rattle.control.specs.declared.multi_cs_config.MultiOutcome.{MultiOutcome}
+use Rattle.control.specs.declared.multi_cs_config.MultiOutcome.the-variants.{Derived, Refused}
+use Rattle.control.specs.declared.multi_cs_config.MultiAnswer.{MultiAnswer}
+
+abbrev pub named : ℕ → Bool
+named kind = leb kind 5
+
+-- how many lines are left when "Other lines are dropped."
+abbrev pub namedCount : ControlLines → ℕ
+namedCount lines = tally (lines .count) (λ k. named (kindAt lines k))
+
+-- "One named line left: it is the select, whatever its setting. Otherwise a line not ignored by the secondary is the
+-- select, ..; a line ignored by both goes to ignored; the rest to commoned."
+abbrev pub partOf : Bool → CsConfig → CsConfig → ℕ → Part
+partOf single chip0 secondary kind =
+    cond (named kind)
+    (cond (single || not (ignores secondary kind)) Select (cond (ignores chip0 kind) Ignored Commoned))
+    Dropped
+
+-- a line joins the lines of its part: ".. the last winning, earlier ones going to no list"
+abbrev pub placed : Part → ℕ → Sorted → Sorted
+placed Dropped kind s = s
+placed Select kind s = record {
+  config = record {
+    select = kind;
+    commoned = s .config .commoned;
+    «num_commoned» = s .config .«num_commoned»;
+    ignored = s .config .ignored;
+    «num_ignored» = s .config .«num_ignored»;
+  };
+  found = true;
+}
+placed Commoned kind s = record {
+  config = record {
+    select = s .config .select;
+    commoned = set (s .config .commoned) (s .config .«num_commoned») kind;
+    «num_commoned» = s .config .«num_commoned» + 1;
+    ignored = s .config .ignored;
+    «num_ignored» = s .config .«num_ignored»;
+  };
+  found = s .found;
+}
+placed Ignored kind s = record {
+  config = record {
+    select = s .config .select;
+    commoned = s .config .commoned;
+    «num_commoned» = s .config .«num_commoned»;
+    ignored = set (s .config .ignored) (s .config .«num_ignored») kind;
+    «num_ignored» = s .config .«num_ignored» + 1;
+  };
+  found = s .found;
+}
+
+abbrev pub nothing : MultiCsConfig
+nothing = record {
+  select = 0;
+  commoned = replicate 8 0;
+  «num_commoned» = 0;
+  ignored = replicate 8 0;
+  «num_ignored» = 0;
+}
+
+-- the first k lines, in order
+unfoldable pub sorted : ControlLines → CsConfig → CsConfig → ℕ → Sorted
+sorted lines chip0 secondary zero = record { config = nothing; found = false }
+sorted lines chip0 secondary (suc k) =
+    placed (partOf (eqb (namedCount lines) 1) chip0 secondary (kindAt lines k)) (kindAt lines k) (sorted lines chip0 secondary k)
+
+abbrev pub refusedFor : Refusal → MultiAnswer
+refusedFor why = record { outcome = Refused why; config = nothing }
+
+-- 25: "multi-chip select finds no active line"
+abbrev pub answerOf : Sorted → MultiAnswer
+answerOf s = cond (s .found) (record { outcome = Derived; config = s .config }) (refusedFor NoActiveLine)
+
+abbrev pub multiAnswer : ControlLines → CsConfig → CsConfig → MultiAnswer
+multiAnswer lines chip0 secondary =
+    cond (controlIn lines) (answerOf (sorted lines chip0 secondary (lines .count))) (refusedFor OutOfDomain)
