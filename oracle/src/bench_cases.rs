@@ -3,10 +3,10 @@
 use crate::answer::answer;
 use crate::case::{Build, Case};
 use crate::description::{Description, MULTI, Multi};
-use crate::differences::{one_entry, plain, wire};
 use crate::engine::{Engine, Job};
 use crate::model::Model;
 use crate::original::Original;
+use crate::smallest::{one_entry, plain, wire};
 
 const BOTH: [&dyn Engine; 2] = [&Original, &Model];
 

@@ -1,13 +1,13 @@
 //! The places where the original and document 01 part, numbered as in docs/DIFFERENCES.md: how a
-//! case is known to belong to one, and the smallest case of each.
+//! case is known to belong to one. The numbers of the case must show the cause; two answers alone
+//! do not put it on the list.
 
-use crate::answer::answer;
-use crate::case::{Build, Case, MultiSelect, ReadBack};
-use crate::description::{BANKED, Chip, Description, MULTI, Multi, NO_PIN, NONE, SINGLE, Settings};
+use crate::case::{Build, Case, ReadBack, Record};
+use crate::description::{BANKED, Description, MULTI, SINGLE};
+use crate::fields::Fields;
 use crate::layout::{AddressLayout, SelectLayout};
-use crate::model::{Model, address};
-use crate::original::Original;
-use crate::slot::{ChipBytes, FIRST_PLUGIN, Slot};
+use crate::model::{address, select};
+use crate::slot::ChipBytes;
 use crate::tally::{Outcome, outcome};
 
 /// The difference that a case with these two answers shows; none if it is on no list.
@@ -15,262 +15,140 @@ pub fn number(case: &Case, original: &str, model: &str) -> Option<u32> {
     let (was, wanted) = (outcome(original).1, outcome(model).1);
     match (case, wanted) {
         (Case::MultiSelect(_), Outcome::Refused(25)) => (was == Outcome::Panic).then_some(1),
-        (Case::Build(case), Outcome::Refused(wanted)) => {
-            let slot = Description::read(&case.record)?;
-            build_number(&slot, &case.address, wanted, was)
-        }
-        (Case::ReadBack(_), Outcome::Refused(16)) => (!matches!(was, Outcome::Panic)).then_some(9),
-        (Case::Chain(record, _), Outcome::Refused(wanted)) => {
-            let slot = Description::read(record)?;
-            let address = address::search(&slot).ok()?;
-            chain_number(&slot, &address, wanted, was)
+        (Case::Build(case), Outcome::Refused(16)) => lacks_table(case, original).then_some(8),
+        (Case::Build(case), Outcome::Refused(wanted)) => Built::of(case)?.number(wanted, was),
+        (Case::ReadBack(case), Outcome::Refused(16)) => lacks_room(case, original).then_some(9),
+        (Case::Chain(record, images), Outcome::Refused(wanted)) => {
+            let built = Built::of_found(record, images)?;
+            match (wanted, was) {
+                // A table that 01 does not build can go on to the read-back.
+                (15, Outcome::Refused(21 | 22 | 24)) => built.number(wanted, Outcome::Success),
+                _ => built.number(wanted, was),
+            }
         }
         _ => None,
     }
 }
 
-fn build_number(
-    slot: &Description,
-    address: &AddressLayout,
-    wanted: u64,
-    was: Outcome,
-) -> Option<u32> {
-    let below = |gpio: Option<u8>| gpio.is_none_or(|gpio| gpio < address.base);
-    let lone_bank = slot.set_type == BANKED && slot.chips.len() == 1;
-    match (wanted, was) {
-        (11, Outcome::Panic) if address.pins >= 32 => Some(2),
-        (12, Outcome::Panic) if lone_bank && below(address.x1) => Some(3),
-        (13, Outcome::Panic) => Some(4),
-        (13, Outcome::Refused(12)) => Some(5),
-        (13, Outcome::Refused(14)) => Some(6),
-        (15, Outcome::Success | Outcome::Panic) => Some(7),
-        (16, Outcome::Success) => Some(8),
-        _ => None,
-    }
+/// The fields of a success, after kind, number and place.
+fn fields(answer: &str) -> Option<Vec<u64>> {
+    let mut numbers = Fields::of(answer)?;
+    let head = [numbers.number()?, numbers.number()?, numbers.number()?];
+    let rest = std::iter::from_fn(|| numbers.number()).collect();
+    (head[1] == 0).then_some(rest)
 }
 
-/// In the chain a table that 01 does not build can go on to the read-back.
-fn chain_number(
-    slot: &Description,
-    address: &AddressLayout,
-    wanted: u64,
-    was: Outcome,
-) -> Option<u32> {
-    match (wanted, was) {
-        (15, Outcome::Refused(21..=24)) => Some(7),
-        (16, _) => None,
-        _ => build_number(slot, address, wanted, was),
-    }
+/// Whether the lent table is shorter than the one that the original made.
+fn lacks_table(case: &Build, original: &str) -> bool {
+    let made = fields(original).map(|fields| fields[0]);
+    made.is_some_and(|length| u64::from(case.table_length) < length)
 }
 
-/// Prints the smallest case of each difference with both answers.
-pub fn print() {
-    for (number, case) in smallest() {
-        println!("difference {number}");
-        println!("  case     {}", case.line());
-        println!("  original {}", answer(&Original, &case));
-        println!("  01       {}", answer(&Model, &case));
-    }
-}
-
-pub fn smallest() -> Vec<(u32, Case)> {
-    vec![
-        (1, no_select()),
-        (2, build(|case, _| case.address.pins = 32)),
-        (2, found_table_of_32_pins()),
-        (3, build(|_, slot| slot.set_type = BANKED)),
-        (4, build(|case, _| case.address.base = 1)),
-        (4, found_select_below_the_base()),
-        (5, build(line_out_of_reach_of_two_chips)),
-        (6, build(line_out_of_reach_without_bytes)),
-        (7, build(|_, slot| slot.chips[0].size = 2)),
-        (7, build(one_byte_for_two_words)),
-        (8, build(|case, _| case.table_length = 0)),
-        (9, plugin_without_room()),
-    ]
-}
-
-/// Single, one chip of one byte, one address line and one data line.
-pub fn plain() -> Description {
-    let chip = Chip {
-        size: 1,
-        address_pins: vec![1],
-        data_pins: vec![1],
-        control: Vec::new(),
+/// Whether a lent buffer is shorter than what the original found, or than the ROMs' sizes where it
+/// stopped at an entry.
+fn lacks_room(case: &ReadBack, original: &str) -> bool {
+    let (bytes, words) = match (fields(original), outcome(original).1) {
+        (Some(fields), _) => (fields[1..5].iter().sum(), fields[5]),
+        (None, Outcome::Refused(23 | 24)) => {
+            let bytes = case.slot.roms.iter().map(|rom| u64::from(rom.size)).sum();
+            (bytes, bytes)
+        }
+        _ => return false,
     };
-    Description {
-        board_pins: 24,
-        set_type: SINGLE,
-        word_bytes: 1,
-        offset: 0,
-        largest_table: 256,
-        settings: by_enable(),
-        multi: None,
-        qualifiers: Vec::new(),
-        socket: [NO_PIN; 40],
-        x: [NO_PIN; 2],
-        chips: vec![chip],
+    u64::from(case.output_length) < bytes || u64::from(case.mark_length) < words
+}
+
+/// What a build goes by.
+struct Built {
+    slot: Description,
+    address: AddressLayout,
+    select: SelectLayout,
+    images: [ChipBytes; 4],
+}
+
+impl Built {
+    fn of(case: &Build) -> Option<Self> {
+        Some(Self {
+            slot: Description::read(&case.record)?,
+            address: case.address.clone(),
+            select: case.select.clone(),
+            images: case.images,
+        })
     }
-}
 
-/// A build of a table of one entry, changed in what a difference is about.
-fn build(change: fn(&mut Build, &mut Description)) -> Case {
-    let mut slot = plain();
-    let mut case = one_entry();
-    change(&mut case, &mut slot);
-    *case.record = slot.write();
-    Case::Build(Box::new(case))
-}
-
-/// Wires the first socket pins, one GPIO each.
-pub fn wire(slot: &mut Description, gpios: impl IntoIterator<Item = u8>) {
-    for (pin, gpio) in slot.socket.iter_mut().zip(gpios) {
-        *pin = [gpio, NONE];
+    fn of_found(record: &Record, images: &[ChipBytes; 4]) -> Option<Self> {
+        let slot = Description::read(record)?;
+        let address = address::search(&slot).ok()?;
+        let select = select::search(&slot, Some(&address)).ok()?;
+        Some(Self {
+            slot,
+            address,
+            select,
+            images: *images,
+        })
     }
-}
 
-/// Address lines on GPIOs 0 and 31, data on 1, ce on 2.
-fn found_table_of_32_pins() -> Case {
-    let mut slot = plain();
-    slot.chips[0].address_pins = vec![1, 2];
-    slot.chips[0].data_pins = vec![3];
-    slot.chips[0].control = vec![(0, 4)];
-    wire(&mut slot, [0, 31, 1, 2]);
-    Case::Chain(Box::new(slot.write()), one_entry().images)
-}
-
-/// Eight address lines on GPIOs 8 to 15, four data lines on 0 to 3. The address search takes X1 at
-/// 16 and the select's first candidate, 17; the select search takes 6 and 7.
-fn found_select_below_the_base() -> Case {
-    let mut slot = plain();
-    slot.set_type = MULTI;
-    slot.largest_table = 1024;
-    slot.chips[0].address_pins = (1..=8).collect();
-    slot.chips[0].data_pins = (9..=12).collect();
-    slot.chips[0].control = vec![(0, 13)];
-    slot.multi = Some(Multi {
-        select: 0,
-        commoned: Vec::new(),
-        ignored: Vec::new(),
-    });
-    wire(&mut slot, (8..=15).chain(0..=3));
-    slot.socket[12] = [17, 7];
-    slot.x[0] = [16, 6];
-    slot.chips.push(slot.chips[0].clone());
-    Case::Chain(Box::new(slot.write()), one_entry().images)
-}
-
-fn by_enable() -> Settings {
-    Settings {
-        form: 1,
-        lines: [NONE; 6],
-    }
-}
-
-pub fn one_entry() -> Build {
-    let image = ChipBytes {
-        present: true,
-        length: 1,
-        seed: 0,
-    };
-    Build {
-        record: Box::new([0; crate::description::LENGTH]),
-        address: AddressLayout {
-            base: 0,
-            pins: 0,
-            x1: None,
-            x2: None,
-            lines: vec![0],
-            excess: Vec::new(),
-        },
-        select: SelectLayout {
-            base: 0,
-            base_data_pin: 0,
-            base_cs_pin: 0,
-            cs_pins: 0,
-            ignore: None,
-            qualifier: None,
-            data: vec![0],
-            select: Vec::new(),
-            commoned: Vec::new(),
-        },
-        images: [image; 4],
-        table_length: 1,
-    }
-}
-
-fn line_out_of_reach_of_two_chips(case: &mut Build, slot: &mut Description) {
-    case.address.lines[0] = 32;
-    slot.chips.push(slot.chips[0].clone());
-}
-
-fn line_out_of_reach_without_bytes(case: &mut Build, _slot: &mut Description) {
-    case.address.lines[0] = 32;
-    case.images[0].present = false;
-}
-
-fn one_byte_for_two_words(case: &mut Build, slot: &mut Description) {
-    slot.chips[0].size = 2;
-    case.address.pins = 1;
-    case.table_length = 2;
-}
-
-fn no_select() -> Case {
-    Case::MultiSelect(MultiSelect {
-        kinds: Vec::new(),
-        primary: by_enable(),
-        secondary: by_enable(),
-    })
-}
-
-fn plugin_without_room() -> Case {
-    let slot = Slot {
-        size: 1,
-        kind: FIRST_PLUGIN,
-        has_layout: false,
-        address_algorithm: 0,
-        address_base: 0,
-        base_address_pin: 0,
-        pins: 0,
-        data_algorithm: 0,
-        data_base: 0,
-        base_data_pin: 0,
-        dma_algorithm: 0,
-        bit_mode: 0,
-        select_algorithm: 0,
-        select_base: 0,
-        first_select_pin: 0,
-        overrides: Vec::new(),
-        x: [NO_PIN; 2],
-        roms: Vec::new(),
-    };
-    Case::ReadBack(Box::new(ReadBack {
-        slot,
-        output_length: 0,
-        mark_length: 0,
-        data: vec![0],
-    }))
-}
-
-#[cfg(test)]
-mod tests {
-    use super::*;
-
-    #[test]
-    fn each_smallest_case_shows_its_difference() {
-        for (wanted, case) in smallest() {
-            let (original, model) = (answer(&Original, &case), answer(&Model, &case));
-            assert_ne!(original, model, "{wanted}");
-            assert_eq!(number(&case, &original, &model), Some(wanted));
+    fn number(&self, wanted: u64, was: Outcome) -> Option<u32> {
+        let chips = self.slot.chips.len();
+        let lone_bank = self.slot.set_type == BANKED && chips == 1;
+        let images = &self.images[..chips];
+        let missing = images.iter().any(|image| !image.present);
+        let mut pairs = self.slot.chips.iter().zip(images);
+        let short = pairs.any(|(chip, image)| image.length < chip.size);
+        let positions = [self.line_positions(), self.pick_positions()].concat();
+        let is_low = |position: &Option<i16>| position.is_none_or(|position| position < 0);
+        let is_high = |position: &Option<i16>| position.is_some_and(|position| position > 31);
+        let low = positions.iter().any(is_low);
+        let high = positions.iter().any(is_high);
+        let data = self.data_positions();
+        let data_fault = data
+            .iter()
+            .any(|position| is_low(position) || is_high(position));
+        let line_high = self.line_positions().iter().any(is_high);
+        match (wanted, was) {
+            (11, Outcome::Panic) if self.address.pins >= 32 => Some(2),
+            (12, Outcome::Panic) if lone_bank && is_low(&self.index_position(self.address.x1)) => {
+                Some(3)
+            }
+            (13, Outcome::Panic) if low || high || data_fault => Some(4),
+            (13, Outcome::Refused(12)) if line_high => Some(5),
+            (13, Outcome::Refused(14)) if high && missing && !low && !data_fault => Some(6),
+            (15, Outcome::Success | Outcome::Panic) if short && !missing => Some(7),
+            _ => None,
         }
     }
 
-    #[test]
-    fn a_case_line_reads_back_as_itself() {
-        for number in 0..900 {
-            let line = crate::generate::case(5, number, &[1, 2, 3, 4, 5, 6, 7, 8, 9]).line();
-            let read = Case::read(&line).map(|case| case.line());
-            assert_eq!(read, Some(line));
+    fn index_position(&self, gpio: Option<u8>) -> Option<i16> {
+        gpio.map(|gpio| i16::from(gpio) - i16::from(self.address.base))
+    }
+
+    fn line_positions(&self) -> Vec<Option<i16>> {
+        let lines = self.address.lines.iter();
+        lines.map(|&gpio| self.index_position(Some(gpio))).collect()
+    }
+
+    /// Positions of what picks the chip, absent ones included.
+    fn pick_positions(&self) -> Vec<Option<i16>> {
+        let first = self.select.select.first().map(|line| line.1);
+        let mut gpios = Vec::new();
+        if self.slot.set_type == MULTI {
+            gpios.push(first);
         }
+        if self.slot.set_type != SINGLE {
+            gpios.push(self.address.x1);
+        }
+        if self.slot.set_type != SINGLE && self.slot.chips.len() >= 3 {
+            gpios.push(self.address.x2);
+        }
+        gpios
+            .into_iter()
+            .map(|gpio| self.index_position(gpio))
+            .collect()
+    }
+
+    fn data_positions(&self) -> Vec<Option<i16>> {
+        let base = i16::from(self.select.base) + i16::from(self.select.base_data_pin);
+        let data = self.select.data.iter();
+        data.map(|&gpio| Some(i16::from(gpio) - base)).collect()
     }
 }

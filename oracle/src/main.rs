@@ -23,6 +23,8 @@ mod differences;
 #[cfg(original)]
 mod original;
 #[cfg(original)]
+mod smallest;
+#[cfg(original)]
 mod stand_in;
 
 // The original's files look for these at their crate's root.
@@ -139,7 +141,7 @@ fn compare_run(run: &Run) -> ExitCode {
 
 #[cfg(original)]
 fn print_differences() -> ExitCode {
-    differences::print();
+    smallest::print();
     ExitCode::SUCCESS
 }
 

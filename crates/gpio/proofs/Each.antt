@@ -30,3 +30,9 @@ tally-turn p k n e = rw (e, add-one)
 
 pub tally-done : (p : ℕ → Bool) (k m n : ℕ) → k ≡ m → n ≡ tally k p → n ≡ tally m p
 tally-done p k m n e h = rw e at h
+
+-- a rule that each entry keeps
+pub each-all : (p : ℕ → Bool) (n : ℕ) → ((k : ℕ) → p k ≡ true) → each n p ≡ true
+unfolding each
+each-all p zero h = refl
+each-all p (suc n) h = rw (each-all p n h, h n)

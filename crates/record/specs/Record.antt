@@ -35,7 +35,7 @@ abbrev pub size : ℕ
 size = 424
 
 -- the byte at a place
-abbrev pub byteAt : List ℕ → ℕ → ℕ
+unfoldable pub byteAt : List ℕ → ℕ → ℕ
 byteAt b p = getD b p 0
 
 -- the n bytes from a place
@@ -98,7 +98,7 @@ csConfigIn b =
     (cond (eqb (byteAt b 16) 1)
     (eqb (byteAt b 17) 255 && eqb (byteAt b 18) 255)
     (eqb (byteAt b 16) 2 && logicIn (byteAt b 17) && logicIn (byteAt b 18))
-    && eqb (byteAt b 19) 255 && eqb (byteAt b 20) 255 && eqb (byteAt b 21) 255 && eqb (byteAt b 22) 255)
+    && (eqb (byteAt b 19) 255 && eqb (byteAt b 20) 255 && eqb (byteAt b 21) 255 && eqb (byteAt b 22) 255))
 
 unfoldable pub multiAt : List ℕ → MultiCsConfig
 multiAt b = record {
@@ -109,9 +109,13 @@ multiAt b = record {
   «num_ignored» = byteAt b 25;
 }
 
+-- "candidates of socket pins 1 to 40, two bytes a pin"
+abbrev pub socketAt : List ℕ → List Pin
+socketAt b = tab 40 (λ k. record { gpios = candidatesAt b (52 + 2 * k) })
+
 unfoldable pub boardAt : List ℕ → Board
 boardAt b = record {
-  socket = tab 40 (λ k. record { gpios = candidatesAt b (52 + 2 * k) });
+  socket = socketAt b;
   pins = byteAt b 0;
   x1 = candidatesAt b 132;
   x2 = candidatesAt b 134;
@@ -121,15 +125,25 @@ boardAt b = record {
 abbrev pub lineAt : List ℕ → ℕ → ControlLine
 lineAt b p = record { kind = byteAt b p; pin = byteAt b (p + 1) }
 
+abbrev pub linesAt : List ℕ → ℕ → List ControlLine
+linesAt b p = tab 8 (λ k. lineAt b (p + 48 + 3 * k))
+
+abbrev pub controlAt : List ℕ → ℕ → ControlLines
+controlAt b p = record { lines = linesAt b p; count = byteAt b (p + 6) }
+
 unfoldable pub chipAt : List ℕ → ℕ → Chip
 chipAt b p = record {
   «address_pins» = bytesAt b (p + 8) 24;
   «num_address_pins» = byteAt b (p + 4);
   «data_pins» = bytesAt b (p + 32) 16;
   «num_data_pins» = byteAt b (p + 5);
-  control = record { lines = tab 8 (λ k. lineAt b (p + 48 + 3 * k)); count = byteAt b (p + 6) };
+  control = controlAt b p;
   size = fourAt b p;
 }
+
+-- "chips 0 to 3, 72 bytes a chip"
+abbrev pub chipsAt : List ℕ → List Chip
+chipsAt b = tab 4 (λ k. chipAt b (136 + 72 * k))
 
 -- what the record describes
 unfoldable pub described : List ℕ → Description
@@ -139,7 +153,7 @@ described b = record {
   «word_bytes» = byteAt b 3;
   «pin_offset» = offsetOf (byteAt b 4);
   «max_image_size» = fourAt b 8;
-  chips = tab 4 (λ k. chipAt b (136 + 72 * k));
+  chips = chipsAt b;
   «num_chips» = byteAt b 5;
   «cs_config» = csConfigAt b;
   «has_multi» = eqb (byteAt b 7) 1;
@@ -155,15 +169,22 @@ headIn b =
     && eqb (byteAt b 26) 0 && eqb (byteAt b 27) 0
 
 -- the candidates of the socket's pins, of X1 and of X2
-unfoldable pub pairsIn : List ℕ → Bool
+abbrev pub pairsIn : List ℕ → Bool
 pairsIn b = each 42 (λ k. pairIn b (52 + 2 * k))
 
+-- "level: 0 (kept for the fixed level)"
+abbrev pub levelsIn : List ℕ → ℕ → Bool
+levelsIn b p = each 8 (λ k. eqb (byteAt b (p + 50 + 3 * k)) 0)
+
 -- a chip's places that must be 0
-unfoldable pub chipZeros : List ℕ → ℕ → Bool
-chipZeros b p = eqb (byteAt b (p + 7)) 0 && each 8 (λ k. eqb (byteAt b (p + 50 + 3 * k)) 0)
+abbrev pub chipZeros : List ℕ → ℕ → Bool
+chipZeros b p = eqb (byteAt b (p + 7)) 0 && levelsIn b p
+
+abbrev pub chipsIn : List ℕ → Bool
+chipsIn b = each 4 (λ k. chipZeros b (136 + 72 * k))
 
 unfoldable pub wellFormed : List ℕ → Bool
-wellFormed b = eqb (length b) size && headIn b && csConfigIn b && pairsIn b && each 4 (λ k. chipZeros b (136 + 72 * k))
+wellFormed b = eqb (length b) size && headIn b && csConfigIn b && pairsIn b && chipsIn b
 
 -- the description, or refusal 1
 abbrev pub decodedOf : List ℕ → Decoded

@@ -2,8 +2,9 @@
 // answers for any length; `shape` refuses such a record.
 use gpio::candidates::Candidates;
 ghost use mathlib.Core.Path.{_≡_};
-ghost use Prim.Native.Nat.{ℕ, _≤_, _<_};
-ghost use Rattle.record.specs.Record.{byteAt, bytesAt, fourAt, candidatesAt, pairIn};
+ghost use Prim.Native.Nat.{ℕ, _<_};
+ghost use lib.ListN.{length};
+ghost use Rattle.record.specs.Record.{size, byteAt, bytesAt, fourAt, candidatesAt, pairIn};
 
 pub fn byte_at(b: &[u8], p: usize) -> u8
     ensures { λ r. ⌜ r ≡ byteAt (now (b .entry)) p ⌝ }
@@ -22,7 +23,7 @@ fn wide(x: u8) -> u32
 }
 
 pub fn four_at(b: &[u8], p: usize) -> u32
-    requires { ⌜ p ≤ 1000 ⌝ }
+    requires { ⌜ p < size ⌝ }
     ensures { λ r. ⌜ r ≡ fourAt (now (b .entry)) p ⌝ }
 {
     let b0 = wide(byte_at(b, p));
@@ -32,47 +33,47 @@ pub fn four_at(b: &[u8], p: usize) -> u32
     b0 + 0x100 * b1 + 0x1_0000 * b2 + 0x100_0000 * b3
 }
 
-pub fn eight_at(b: &[u8], p: usize) -> [u8; 8]
-    requires { ⌜ p ≤ 1000 ⌝ }
-    ensures { λ r. ⌜ r ≡ bytesAt (now (b .entry)) p 8 ⌝ }
+// Fills `out` with the bytes from the place p on.
+fn fill(b: &[u8], p: usize, out: &mut [u8])
+    requires { ⌜ p < size ⌝ }
+    ensures { λ r. ⌜ now (out .exit) ≡ bytesAt (now (b .entry)) p (length (now (out .entry))) ⌝ }
 {
-    let mut out = [0u8; 8];
     let mut k: usize = 0;
-    while k < 8 {
+    while k < out.len() {
         out[k] = byte_at(b, p + k);
         k += 1;
     }
+}
+
+pub fn eight_at(b: &[u8], p: usize) -> [u8; 8]
+    requires { ⌜ p < size ⌝ }
+    ensures { λ r. ⌜ r ≡ bytesAt (now (b .entry)) p 8 ⌝ }
+{
+    let mut out = [0u8; 8];
+    fill(b, p, &mut out);
     out
 }
 
 pub fn sixteen_at(b: &[u8], p: usize) -> [u8; 16]
-    requires { ⌜ p ≤ 1000 ⌝ }
+    requires { ⌜ p < size ⌝ }
     ensures { λ r. ⌜ r ≡ bytesAt (now (b .entry)) p 16 ⌝ }
 {
     let mut out = [0u8; 16];
-    let mut k: usize = 0;
-    while k < 16 {
-        out[k] = byte_at(b, p + k);
-        k += 1;
-    }
+    fill(b, p, &mut out);
     out
 }
 
 pub fn twenty_four_at(b: &[u8], p: usize) -> [u8; 24]
-    requires { ⌜ p ≤ 1000 ⌝ }
+    requires { ⌜ p < size ⌝ }
     ensures { λ r. ⌜ r ≡ bytesAt (now (b .entry)) p 24 ⌝ }
 {
     let mut out = [0u8; 24];
-    let mut k: usize = 0;
-    while k < 24 {
-        out[k] = byte_at(b, p + k);
-        k += 1;
-    }
+    fill(b, p, &mut out);
     out
 }
 
 pub fn candidates_at(b: &[u8], p: usize) -> Candidates
-    requires { ⌜ p ≤ 1000 ⌝ }
+    requires { ⌜ p < size ⌝ }
     ensures { λ r. ⌜ r ≡ candidatesAt (now (b .entry)) p ⌝ }
 {
     let g = byte_at(b, p);
@@ -87,7 +88,7 @@ pub fn candidates_at(b: &[u8], p: usize) -> Candidates
 }
 
 pub fn pair_in(b: &[u8], p: usize) -> bool
-    requires { ⌜ p ≤ 1000 ⌝ }
+    requires { ⌜ p < size ⌝ }
     ensures { λ r. ⌜ r ≡ pairIn (now (b .entry)) p ⌝ }
 {
     let g = byte_at(b, p);

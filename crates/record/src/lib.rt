@@ -1,7 +1,7 @@
 // The description record: docs/INTERFACE.md gives the place of each number.
-pub mod bytes; // numbers at a place
-pub mod shape; // which records are refused
-pub mod parts; // board, chips and settings at their places
+mod bytes; // numbers at a place
+mod shape; // which records are refused
+mod parts; // board, chips and settings at their places
 
 use slot::description::Description;
 use slot::refusal::Refusal;

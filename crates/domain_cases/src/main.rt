@@ -1,0 +1,286 @@
+// The edges of the domain, tried through the record: for each number the smallest and the largest that is in, and one
+// past each. A line of output is what was written where, and whether the description was taken.
+use libc::STDOUT_FILENO;
+use record::Answer;
+use std::num::wrapping_add_u8;
+ghost use Prim.Native.Nat.{_≤_};
+
+fn say(text: &[u8]) {
+    io::write_all(STDOUT_FILENO, text);
+}
+
+fn say_number(n: u64) {
+    io::print_decimal(STDOUT_FILENO, n);
+}
+
+fn with(b: [u8; 424], place: usize, value: u8) -> [u8; 424] {
+    let mut out = b;
+    if place < 424 {
+        out[place] = value;
+    }
+    out
+}
+
+// Numbers that rise by one from `value`, at each `step`-th place of a range.
+fn rising(b: [u8; 424], from: usize, to: usize, step: usize, value: u8) -> [u8; 424]
+    requires { ⌜ (1 ≤ step) × (step ≤ 3) × (to ≤ 424) ⌝ }
+{
+    let mut out = b;
+    let mut at = from;
+    let mut x = value;
+    while at < to {
+        out[at] = x;
+        at += step;
+        x = wrapping_add_u8(x, 1);
+    }
+    out
+}
+
+// The byte at each `step`-th place of a range.
+fn repeated(b: [u8; 424], from: usize, to: usize, step: usize, value: u8) -> [u8; 424]
+    requires { ⌜ (1 ≤ step) × (step ≤ 3) × (to ≤ 424) ⌝ }
+{
+    let mut out = b;
+    let mut at = from;
+    while at < to {
+        out[at] = value;
+        at += step;
+    }
+    out
+}
+
+// A chip with address pins 1 to 20, data pins 21 to 36, ce at 37 and oe at 38, and entries past these counts.
+fn with_chip(b: [u8; 424], place: usize) -> [u8; 424]
+    requires { ⌜ place ≤ 352 ⌝ }
+{
+    let sized = with(b, place + 2, 16);
+    let counted = with(
+        with(with(sized, place + 4, 20), place + 5, 16),
+        place + 6,
+        2,
+    );
+    let addressed = rising(counted, place + 8, place + 32, 1, 1);
+    let wired = rising(addressed, place + 32, place + 48, 1, 21);
+    let others = repeated(
+        repeated(wired, place + 54, place + 72, 3, 6),
+        place + 55,
+        place + 72,
+        3,
+        1,
+    );
+    let controlled = rising(others, place + 48, place + 54, 3, 0);
+    rising(controlled, place + 49, place + 54, 3, 37)
+}
+
+// A Single slot of four such chips' places on a socket of 40 pins, pin n at GPIO n.
+fn sample() -> [u8; 424] {
+    let head = with(with(with([0u8; 424], 0, 40), 3, 1), 5, 1);
+    let sized = with(head, 10, 8);
+    let set = repeated(with(sized, 16, 1), 17, 23, 1, 255);
+    let empty = repeated(set, 52, 136, 1, 255);
+    let socket = rising(empty, 52, 132, 2, 1);
+    let chips = with_chip(with_chip(socket, 136), 208);
+    with_chip(with_chip(chips, 280), 352)
+}
+
+fn say_verdict(ok: bool) {
+    if ok {
+        say(b" in\n");
+    } else {
+        say(b" 1\n");
+    }
+}
+
+fn taken(b: [u8; 424]) -> bool {
+    let decoded = record::decode(&b);
+    let answer = decoded.answer;
+    match answer {
+        Answer::Described => domain::description::description_in(decoded.description),
+        Answer::Refused(_) => false,
+    }
+}
+
+fn say_place(place: usize, value: u8) {
+    say_number(place as u64);
+    say(b"=");
+    say_number(value as u64);
+}
+
+// One number of the sample changed.
+fn one(place: usize, value: u8) {
+    say_place(place, value);
+    say_verdict(taken(with(sample(), place, value)));
+}
+
+fn two(place: usize, value: u8, place_2: usize, value_2: u8) {
+    say_place(place, value);
+    say(b" ");
+    say_place(place_2, value_2);
+    say_verdict(taken(with(with(sample(), place, value), place_2, value_2)));
+}
+
+// A number of four bytes.
+fn four(place: usize, b0: u8, b1: u8, b2: u8, b3: u8) {
+    say_number(place as u64);
+    say(b"=");
+    say_number(b3 as u64 * 0x100_0000 + b2 as u64 * 0x1_0000 + b1 as u64 * 0x100 + b0 as u64);
+    if place < 420 {
+        let low = with(with(sample(), place, b0), place + 1, b1);
+        say_verdict(taken(with(with(low, place + 2, b2), place + 3, b3)));
+    }
+}
+
+fn board() {
+    say(b"board\n");
+    one(0, 23);
+    one(0, 24);
+    one(0, 28);
+    one(0, 32);
+    one(0, 40);
+    one(0, 41);
+    one(1, 1);
+    one(52, 47);
+    one(52, 48);
+    one(53, 0);
+    one(53, 1);
+    one(53, 47);
+    one(53, 48);
+    one(130, 255);
+    two(130, 255, 131, 3);
+    one(132, 47);
+    one(132, 48);
+    one(133, 5);
+    two(134, 0, 135, 0);
+    two(134, 0, 135, 1);
+}
+
+fn numbers() {
+    say(b"numbers\n");
+    one(2, 1);
+    one(2, 2);
+    two(2, 2, 7, 1);
+    one(2, 3);
+    one(3, 0);
+    one(3, 2);
+    one(3, 3);
+    one(4, 4);
+    one(4, 5);
+    one(4, 251);
+    one(4, 252);
+    one(4, 255);
+    one(5, 0);
+    one(5, 4);
+    one(5, 5);
+    one(6, 255);
+    one(7, 2);
+    four(8, 255, 0, 0, 0);
+    four(8, 0, 1, 0, 0);
+    four(8, 0, 0, 16, 0);
+    four(8, 1, 0, 16, 0);
+    one(12, 1);
+    one(15, 1);
+    one(26, 1);
+    one(27, 1);
+}
+
+fn settings() {
+    say(b"settings\n");
+    one(16, 0);
+    two(16, 0, 19, 2);
+    two(16, 0, 19, 3);
+    two(16, 0, 17, 0);
+    one(16, 2);
+    one(16, 3);
+    one(17, 0);
+    one(20, 0);
+}
+
+fn multi() {
+    say(b"multi\n");
+    two(7, 1, 23, 5);
+    two(7, 1, 23, 6);
+    two(7, 0, 23, 6);
+    two(7, 1, 24, 6);
+    two(7, 1, 24, 7);
+    two(7, 1, 25, 6);
+    two(7, 1, 25, 7);
+}
+
+fn chips() {
+    say(b"chips\n");
+    four(136, 0, 0, 0, 0);
+    four(136, 0, 0, 0, 1);
+    four(136, 1, 0, 0, 1);
+    one(140, 0);
+    one(140, 1);
+    two(140, 1, 3, 2);
+    two(140, 2, 3, 2);
+    one(140, 24);
+    one(140, 25);
+    one(141, 0);
+    one(141, 1);
+    one(141, 17);
+    one(142, 0);
+    one(142, 8);
+    one(142, 9);
+    one(143, 1);
+    one(144, 0);
+    one(144, 40);
+    one(144, 41);
+    one(168, 0);
+    one(168, 41);
+    one(184, 6);
+    one(184, 7);
+    one(184, 1);
+    two(184, 6, 187, 6);
+    one(185, 0);
+    one(185, 41);
+    one(186, 1);
+    two(5, 2, 212, 0);
+    one(212, 0);
+}
+
+// The searches' own counts: `lines` two-candidate pins from socket pin `first` on.
+fn searches(set_type: u8, chips: u8, first: usize, lines: usize, x1: u8) {
+    if 40 < first {
+        return;
+    }
+    if 40 < lines {
+        return;
+    }
+    let slot = with(
+        with(with(with(sample(), 2, set_type), 5, chips), 7, 1),
+        132,
+        3,
+    );
+    let bonded = repeated(
+        with(slot, 133, x1),
+        51 + 2 * first,
+        51 + 2 * (first + lines),
+        2,
+        0,
+    );
+    let decoded = record::decode(&bonded);
+    say(b"address search");
+    say_verdict(addr_layout::lines::in_domain(decoded.description));
+    say(b"select search");
+    say_verdict(cs_data_layout::pins::in_domain(decoded.description));
+}
+
+fn main() {
+    board();
+    numbers();
+    settings();
+    multi();
+    chips();
+    say(b"two-candidate pins\n");
+    searches(0, 1, 1, 16, 4);
+    searches(0, 1, 1, 17, 255);
+    searches(1, 2, 1, 16, 255);
+    searches(1, 2, 1, 16, 4);
+    searches(0, 1, 21, 16, 4);
+    searches(0, 1, 21, 17, 255);
+    searches(2, 2, 22, 15, 4);
+    searches(2, 2, 21, 16, 4);
+    searches(2, 1, 21, 16, 4);
+}

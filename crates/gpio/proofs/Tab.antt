@@ -1,0 +1,45 @@
+-- What a loop that fills an array entry by entry needs of `tab`, and when a list is a `tab`. Assumes nothing.
+use mathlib.Core.Path.{_≡_, refl, _∙_}
+use mathlib.Core.List.{List}
+use Prim.Native.Nat.{ℕ, zero, suc, _+_, _≤_, _<_}
+use native.Mathlib.Numerals.{add-one}
+use native.Mathlib.Omega.{arith}
+use lib.ListN.{length, take, getD, set, length-set}
+use lib.Seq.{take-suc-set, take-all, take-suc}
+use Rattle.gpio.specs.Tab.{tab}
+
+-- the loop's invariant: the first k of n entries are in place
+pub record Filled {A : Type 0} (n : ℕ) (f : ℕ → A) (out : List A) (k : ℕ) : Type 0 where
+  pub within : k ≤ n
+  pub long : length out ≡ n
+  pub first : take k out ≡ tab k f
+
+module _ {A : Type 0} {n : ℕ} {f : ℕ → A} {out : List A} where
+  -- before the first turn
+  pub filled-none : length out ≡ n → Filled n f out 0
+  unfolding tab
+  filled-none l = record { within = omega arith; long = l; first = refl }
+
+  -- one turn: the entry k is stored
+  pub filled-turn : {k : ℕ} {v : A} → Filled n f out k → k < n → v ≡ f k → Filled n f (set out k v) (k + 1)
+  unfolding tab
+  filled-turn {k} i h e =
+      let l : k < length out = omega arith in
+      record { within = omega arith; long = simp length-set (i .long); first = rw (add-one, take-suc-set, i .first, e) }
+
+  -- the array is full
+  pub filled : {k : ℕ} → Filled n f out k → n ≤ k → out ≡ tab n f
+  filled {k} i h =
+      let e : k ≡ n = omega arith in
+      let l : length out ≤ n = omega arith in
+      rw (e, take-all n out l) at (i .first)
+
+module _ {A : Type 0} (f : ℕ → A) (l : List A) (z : A) where
+  tab-take : (k : ℕ) → k ≤ length l → ((j : ℕ) → j < k → f j ≡ getD l j z) → tab k f ≡ take k l
+  unfolding tab
+  tab-take zero h e = refl
+  tab-take (suc k) h e = rw (tab-take k (omega arith) (λ j q. e j (omega arith)), e k (omega arith), take-suc l k z (omega arith))
+
+  -- the list whose entries are f's
+  pub tab-is : (n : ℕ) → length l ≡ n → ((j : ℕ) → j < n → f j ≡ getD l j z) → tab n f ≡ l
+  tab-is n h e = tab-take n (omega arith) e ∙ take-all n l (omega arith)

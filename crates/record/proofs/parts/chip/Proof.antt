@@ -1,0 +1,25 @@
+-- `chip` meets its contract: each part is what its place has. Assumes nothing.
+use borrow.Author.Needs.{needs}
+use Rattle.record.specs.Record.{chipAt}
+use Rattle.record.proofs.parts.chip.Statement.{statement}
+use Rattle.record.proofs.parts.chip.Tie as tie
+
+returns : tie.Need-returns
+unfolding chipAt
+returns c = cc
+
+pub chip-spec : {M : Type 1} → statement M
+chip-spec =
+    tie.close
+    (tie.spec
+    (λ c. search needs)
+    (λ c κs. search needs)
+    (λ c. search needs)
+    (λ c κs. search needs)
+    (λ c. search needs)
+    (λ c κs. search needs)
+    (λ c. search needs)
+    (λ c κs. search needs)
+    (λ c κs. search needs)
+    (λ c κs. search needs)
+    returns)

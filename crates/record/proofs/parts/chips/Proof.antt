@@ -1,0 +1,19 @@
+-- `chips` meets its contract: each chip is what its 72 bytes have. Assumes nothing.
+use borrow.Author.Needs.{needs}
+use Rattle.gpio.specs.Tab.{tab}
+use Rattle.record.proofs.parts.chips.Statement.{statement}
+use Rattle.record.proofs.parts.chips.Tie as tie
+
+returns : tie.Need-returns
+unfolding tab
+returns c = cc
+
+pub chips-spec : {M : Type 1} → statement M
+chips-spec =
+    tie.close
+    (tie.spec
+    (λ c κs. search needs)
+    (λ c κs. search needs)
+    (λ c κs. search needs)
+    (λ c κs. search needs)
+    returns)

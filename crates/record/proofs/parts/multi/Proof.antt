@@ -1,0 +1,20 @@
+-- `multi` meets its contract: each part is what its place has. Assumes nothing.
+use borrow.Author.Needs.{needs}
+use Rattle.record.specs.Record.{multiAt}
+use Rattle.record.proofs.parts.multi.Statement.{statement}
+use Rattle.record.proofs.parts.multi.Tie as tie
+
+returns : tie.Need-returns
+unfolding multiAt
+returns c = cc
+
+pub multi-spec : {M : Type 1} → statement M
+multi-spec =
+    tie.close
+    (tie.spec
+    (λ c κs. search needs)
+    (λ c κs. search needs)
+    (λ c κs. search needs)
+    (λ c κs. search needs)
+    (λ c κs. search needs)
+    returns)

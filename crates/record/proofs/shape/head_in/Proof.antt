@@ -1,0 +1,23 @@
+-- `head_in` meets its contract: each place is looked at. Assumes nothing.
+use borrow.Author.Needs.{needs}
+use Rattle.record.specs.Record.{headIn}
+use Rattle.record.proofs.shape.head_in.Statement.{statement}
+use Rattle.record.proofs.shape.head_in.Tie as tie
+
+returns : tie.Need-returns
+unfolding headIn
+returns c = cc
+
+pub head-in-spec : {M : Type 1} → statement M
+head-in-spec =
+    tie.close
+    (tie.spec
+    (λ c κs. search needs)
+    (λ c κs. search needs)
+    (λ c κs. search needs)
+    (λ c κs. search needs)
+    (λ c κs. search needs)
+    (λ c κs. search needs)
+    (λ c κs. search needs)
+    (λ c κs. search needs)
+    returns)
