@@ -1,1 +1,4 @@
-pub mod Listing
+pub mod Lines
+pub mod Layout
+pub mod Choices
+pub mod Search

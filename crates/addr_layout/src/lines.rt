@@ -1,33 +1,21 @@
 // The pins that the address search lists: chip 0's address lines in order, those past the table's reach too, then X1 and
 // X2 where they pick a bank or a chip. An address line that overhangs the socket is fly-leaded to an X pin.
-use domain::description::description_in;
 use domain::lists::entry;
+use gpio::candidates::Candidates;
 use listing::Listed;
+use listing::Listing;
 use slot::description::Board;
 use slot::description::Description;
 use slot::refusal::Refusal;
-use slot::slot_context;
 use slot::slot_context::Socket;
 ghost use mathlib.Core.Path.{_≡_};
-ghost use Prim.Native.Nat.{ℕ, _≤_};
-ghost use Rattle.gpio.specs.Each.{tally};
+ghost use Prim.Native.Nat.{ℕ, _+_, _≤_};
 ghost use Rattle.gpio.specs.Tab.{tab};
-ghost use Rattle.listing.specs.Listing.{twos, count};
-ghost use Rattle.addr_layout.specs.Listing.{isOff, firstPin, lines, lineSocket, offBefore, flyLead, overhanging, lineListed, inDomain};
-
-// 1 for a line off the socket, else 0.
-fn off(s: Socket) -> u32
-    ensures { λ r. ⌜ r ≡ count (isOff s) ⌝ }
-    ensures { λ r. ⌜ r ≤ 1 ⌝ }
-{
-    match s {
-        Socket::On(_) => 0,
-        Socket::Off => 1,
-    }
-}
+ghost use Rattle.listing.specs.Listing.{listOf, count};
+ghost use Rattle.addr_layout.specs.Lines.{firstPin, lines, lineSocket, isOff, offBefore, flyLead, overhanging, lineListed, addrListed};
 
 // The address pin of line 0: in 16-bit mode the data side serves address pin 0.
-pub fn first_pin(d: Description) -> u8
+fn first_pin(d: Description) -> u8
     ensures { λ r. ⌜ r ≡ firstPin d ⌝ }
     ensures { λ r. ⌜ r ≤ 1 ⌝ }
 {
@@ -49,20 +37,29 @@ pub fn num_lines(d: Description) -> u8
 
 // The socket pin under the `n`-th address line.
 fn line_socket(d: Description, n: usize) -> Socket
-    requires { ⌜ n ≤ 255 ⌝ }
+    requires { ⌜ n ≤ 24 ⌝ }
     ensures { λ r. ⌜ r ≡ lineSocket d n ⌝ }
 {
-    let board = d.board;
     let chip = d.chip0();
     let pins = chip.address_pins;
     let pin = entry(&pins, first_pin(d) as usize + n);
-    let raised = slot_context::raised(d.pin_offset);
-    slot_context::socket_pin(pin, raised, board.pins)
+    listing::lines::pin_socket(d, pin)
+}
+
+// 1 for a line off the socket, else 0.
+fn off(s: Socket) -> u32
+    ensures { λ r. ⌜ r ≡ count (isOff s) ⌝ }
+    ensures { λ r. ⌜ r ≤ 1 ⌝ }
+{
+    match s {
+        Socket::On(_) => 0,
+        Socket::Off => 1,
+    }
 }
 
 // How many lines before the `n`-th overhang the socket.
 fn off_before(d: Description, n: usize) -> u32
-    requires { ⌜ n ≤ 255 ⌝ }
+    requires { ⌜ n ≤ 24 ⌝ }
     ensures { λ r. ⌜ r ≡ offBefore d n ⌝ }
 {
     let mut passed: u32 = 0;
@@ -84,12 +81,15 @@ fn fly_lead(b: Board, before: u32) -> Listed
     if before == 1 {
         return listing::x_listed(b, 2);
     }
-    Listed::Fault(Refusal::NoValidLayout)
+    Listed {
+        gpios: Candidates::Absent,
+        fault: Refusal::NoValidLayout,
+    }
 }
 
 // A line off the socket.
 fn overhanging(d: Description, n: usize) -> Listed
-    requires { ⌜ n ≤ 255 ⌝ }
+    requires { ⌜ n ≤ 24 ⌝ }
     ensures { λ r. ⌜ r ≡ overhanging d n ⌝ }
 {
     let board = d.board;
@@ -97,12 +97,15 @@ fn overhanging(d: Description, n: usize) -> Listed
     if set_type.is_single() {
         return fly_lead(board, off_before(d, n));
     }
-    Listed::Fault(Refusal::NoValidLayout)
+    Listed {
+        gpios: Candidates::Absent,
+        fault: Refusal::NoValidLayout,
+    }
 }
 
-// The candidates of the `n`-th address line, or its fault.
-pub fn line_listed(d: Description, n: usize) -> Listed
-    requires { ⌜ n ≤ 255 ⌝ }
+// The `n`-th address line.
+fn line_listed(d: Description, n: usize) -> Listed
+    requires { ⌜ n ≤ 24 ⌝ }
     ensures { λ r. ⌜ r ≡ lineListed d n ⌝ }
 {
     let board = d.board;
@@ -110,33 +113,43 @@ pub fn line_listed(d: Description, n: usize) -> Listed
     match s {
         Socket::On(pin) => {
             let gpios = listing::candidates_at(board, pin);
-            listing::or_fault(gpios, Refusal::UnmappedPin(pin))
+            Listed {
+                gpios,
+                fault: Refusal::UnmappedPin(pin),
+            }
         }
         Socket::Off => overhanging(d, n),
     }
 }
 
-// The two-candidate pins among the lines.
-fn line_twos(d: Description) -> u32
-    ensures { λ r. ⌜ r ≡ twos (tab (lines d) (λ n. lineListed d n)) ⌝ }
-    ensures { λ r. ⌜ r ≤ 255 ⌝ }
+fn list_lines(d: Description) -> Listing
+    requires { ⌜ lines d ≤ 24 ⌝ }
+    ensures { λ r. ⌜ (listOf r ≡ tab (lines d) (λ n. lineListed d n)) × (r .count ≡ lines d) ⌝ }
 {
     let count = num_lines(d) as usize;
-    let mut bits: u32 = 0;
+    let mut l = listing::none();
     let mut n: usize = 0;
     while n < count {
-        bits += listing::bits(line_listed(d, n));
+        l = listing::push(l, line_listed(d, n));
         n += 1;
     }
-    bits
+    l
 }
 
-// Whether the address search takes the description.
-pub fn in_domain(d: Description) -> bool
-    ensures { λ r. ⌜ r ≡ inDomain d ⌝ }
+// All the pins that the search lists.
+pub fn list(d: Description) -> Listing
+    requires { ⌜ lines d ≤ 24 ⌝ }
+    ensures { λ r. ⌜ (listOf r ≡ addrListed d) × (r .count ≤ 26) ⌝ }
 {
     let board = d.board;
     let set_type = d.set_type;
-    let x_twos = listing::x_twos(board, !set_type.is_single(), 3 <= d.num_chips);
-    description_in(d) & (line_twos(d) + x_twos <= 16)
+    let l = list_lines(d);
+    if set_type.is_single() {
+        return l;
+    }
+    let with_x1 = listing::push(l, listing::x_listed(board, 1));
+    if d.num_chips < 3 {
+        return with_x1;
+    }
+    listing::push(with_x1, listing::x_listed(board, 2))
 }

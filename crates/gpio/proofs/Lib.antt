@@ -1,3 +1,5 @@
+pub mod Bools
 pub mod Each
 pub mod Lists
 pub mod Tab
+pub mod Fits

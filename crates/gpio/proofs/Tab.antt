@@ -1,11 +1,13 @@
 -- What a loop that fills an array entry by entry needs of `tab`, and when a list is a `tab`. Assumes nothing.
 use mathlib.Core.Path.{_≡_, refl, _∙_}
-use mathlib.Core.List.{List}
+use mathlib.Core.List.{List, [], _∷_}
+use mathlib.Core.Logic.{inl, inr}
 use Prim.Native.Nat.{ℕ, zero, suc, _+_, _≤_, _<_}
 use native.Mathlib.Numerals.{add-one}
 use native.Mathlib.Omega.{arith}
-use lib.ListN.{length, take, getD, set, length-set}
-use lib.Seq.{take-suc-set, take-all, take-suc}
+use native.Mathlib.Nat.{le-of-suc-le-suc, eq-or-lt-of-le}
+use lib.ListN.{length, take, getD, set, length-set, length-append, List·getD-append}
+use lib.Seq.{take-suc-set, take-all, take-suc, getD-at}
 use Rattle.gpio.specs.Tab.{tab}
 
 -- the loop's invariant: the first k of n entries are in place
@@ -43,3 +45,25 @@ module _ {A : Type 0} (f : ℕ → A) (l : List A) (z : A) where
   -- the list whose entries are f's
   pub tab-is : (n : ℕ) → length l ≡ n → ((j : ℕ) → j < n → f j ≡ getD l j z) → tab n f ≡ l
   tab-is n h e = tab-take n (omega arith) e ∙ take-all n l (omega arith)
+
+module _ {A : Type 0} (f : ℕ → A) where
+  pub tab-length : (n : ℕ) → length (tab n f) ≡ n
+  unfolding tab
+  tab-length zero = refl
+  tab-length (suc n) = simp length-append (omega (arith, tab-length n))
+
+  -- an entry below the count
+  pub getD-tab : (n k : ℕ) (z : A) → k < n → getD (tab n f) k z ≡ f k
+  unfolding tab
+  getD-tab zero k z h = absurd (omega arith)
+  getD-tab (suc n) k z h =
+      elim (eq-or-lt-of-le (le-of-suc-le-suc h)) [
+        | inl e ↦ rw e (getD-at (tab n f) (f n) [] z n (tab-length n))
+        | inr l ↦ List·getD-append (tab n f) (f n ∷ []) z k (rw (tab-length n) l) ∙ getD-tab n k z l
+      ]
+
+-- two fillings that agree below the count
+pub tab-cong : {A : Type 0} (f g : ℕ → A) (n : ℕ) → ((k : ℕ) → k < n → f k ≡ g k) → tab n f ≡ tab n g
+unfolding tab
+tab-cong f g zero h = refl
+tab-cong f g (suc n) h = rw (tab-cong f g n (λ k l. h k (omega arith)), h n (omega arith))

@@ -2,3 +2,4 @@
 pub mod window; // the 32 GPIOs that one PIO block sees
 pub mod candidates; // the GPIOs that a socket pin or an X pin is bonded to
 pub mod set; // a set of GPIOs as 48 bits
+pub mod span; // the lowest and the highest of some GPIOs

@@ -1,1 +1,3 @@
 pub mod Listing
+pub mod Choice
+pub mod Lines

@@ -1,15 +1,31 @@
-// The pins that a search lists: the candidate GPIOs of each, or the fault that it answers with.
+// The pins that a search lists, in order: each with its candidate GPIOs and the refusal that answers where it has none.
+pub mod choice; // what a choice number makes of them
+pub mod lines; // a chip's pins in the socket, and its control lines by kind
+
 use gpio::candidates::Candidates;
 use slot::description::Board;
 use slot::refusal::Refusal;
 ghost use mathlib.Core.Path.{_≡_};
-ghost use Prim.Native.Nat.{ℕ, _≤_};
-ghost use Rattle.listing.specs.Listing.{candidatesAt, orFault, xListed, xPins, twoListed, count, twos};
+ghost use mathlib.Core.List.{[], _∷_, _++_};
+ghost use Prim.Native.Nat.{ℕ, _+_, _≤_, _<_};
+ghost use Rattle.listing.specs.Listing.{candidatesAt, xListed, xPins, twoListed, count, twos, listOf, keepFault, firstFault};
 
 // A listed pin.
-pub enum Listed {
-    Gpios(Candidates),
-    Fault(Refusal),
+pub struct Listed {
+    pub gpios: Candidates,
+    pub fault: Refusal,
+}
+
+// The listed pins: at most 26 of an address search, 30 of a select search.
+pub struct Listing {
+    pub pins: [Listed; 30],
+    pub count: usize,
+}
+
+// The first pin without candidates answers with its fault.
+pub enum FirstFault {
+    None,
+    Of(Refusal),
 }
 
 // The candidates of a socket pin.
@@ -28,17 +44,6 @@ pub fn candidates_at(b: Board, socket_pin: u8) -> Candidates
     pin.gpios
 }
 
-// The candidates, or a fault where there are none.
-pub fn or_fault(gpios: Candidates, fault: Refusal) -> Listed
-    ensures { λ r. ⌜ r ≡ orFault gpios fault ⌝ }
-{
-    match gpios {
-        Candidates::Absent => Listed::Fault(fault),
-        Candidates::One(_) => Listed::Gpios(gpios),
-        Candidates::Two(_, _) => Listed::Gpios(gpios),
-    }
-}
-
 // X1, or any other number for X2.
 pub fn x_listed(b: Board, x: u8) -> Listed
     ensures { λ r. ⌜ r ≡ xListed b x ⌝ }
@@ -46,40 +51,98 @@ pub fn x_listed(b: Board, x: u8) -> Listed
     let x1 = b.x1;
     let x2 = b.x2;
     if x == 1 {
-        return or_fault(x1, Refusal::MissingXPin(1));
+        return Listed {
+            gpios: x1,
+            fault: Refusal::MissingXPin(1),
+        };
     }
-    or_fault(x2, Refusal::MissingXPin(2))
+    Listed {
+        gpios: x2,
+        fault: Refusal::MissingXPin(2),
+    }
 }
 
-// Whether a choice number has a bit for the listed pin.
-pub fn is_two(l: Listed) -> bool
-    ensures { λ r. ⌜ r ≡ twoListed l ⌝ }
+// Nothing listed yet.
+pub fn none() -> Listing
+    ensures { λ r. ⌜ (listOf r ≡ []) × (r .count ≡ 0) ⌝ }
 {
-    match l {
-        Listed::Gpios(gpios) => gpios.is_two(),
-        Listed::Fault(_) => false,
+    let blank = Listed {
+        gpios: Candidates::Absent,
+        fault: Refusal::OutOfDomain,
+    };
+    Listing {
+        pins: [blank; 30],
+        count: 0,
     }
+}
+
+pub fn push(l: Listing, pin: Listed) -> Listing
+    requires { ⌜ l .count < 30 ⌝ }
+    ensures { λ r. ⌜ (listOf r ≡ listOf l ++ (pin ∷ [])) × (r .count ≡ l .count + 1) ⌝ }
+{
+    let mut pins = l.pins;
+    let k = l.count;
+    pins[k] = pin;
+    Listing { pins, count: k + 1 }
 }
 
 // 1 for a two-candidate pin, else 0.
-pub fn bits(l: Listed) -> u32
-    ensures { λ r. ⌜ r ≡ count (twoListed l) ⌝ }
+fn bits(pin: Listed) -> u32
+    ensures { λ r. ⌜ r ≡ count (twoListed pin) ⌝ }
     ensures { λ r. ⌜ r ≤ 1 ⌝ }
 {
-    if is_two(l) { 1 } else { 0 }
+    let gpios = pin.gpios;
+    if gpios.is_two() { 1 } else { 0 }
 }
 
-// The two-candidate pins among X1, where `one` asks for it, and X2, where `both` does too.
-pub fn x_twos(b: Board, one: bool, both: bool) -> u32
-    ensures { λ r. ⌜ r ≡ twos (xPins b one both) ⌝ }
-    ensures { λ r. ⌜ r ≤ 2 ⌝ }
+// How many bits a choice number has: one a two-candidate pin.
+pub fn choice_bits(l: Listing) -> u32
+    requires { ⌜ l .count ≤ 30 ⌝ }
+    ensures { λ r. ⌜ r ≡ twos (listOf l) ⌝ }
+    ensures { λ r. ⌜ r ≤ 30 ⌝ }
 {
-    if !one {
-        return 0;
+    let pins = l.pins;
+    let n = l.count;
+    let mut sum: u32 = 0;
+    let mut k: usize = 0;
+    while k < n {
+        let pin = pins[k];
+        sum += bits(pin);
+        k += 1;
     }
-    let x1 = bits(x_listed(b, 1));
-    if !both {
-        return x1;
+    sum
+}
+
+// The fault found before, else the pin's where it has no candidates.
+fn keep_fault(before: FirstFault, pin: Listed) -> FirstFault
+    ensures { λ r. ⌜ r ≡ keepFault before pin ⌝ }
+{
+    match before {
+        FirstFault::Of(r) => FirstFault::Of(r),
+        FirstFault::None => {
+            let gpios = pin.gpios;
+            let fault = pin.fault;
+            match gpios {
+                Candidates::Absent => FirstFault::Of(fault),
+                Candidates::One(_) => FirstFault::None,
+                Candidates::Two(_, _) => FirstFault::None,
+            }
+        }
     }
-    x1 + bits(x_listed(b, 2))
+}
+
+pub fn first_fault(l: Listing) -> FirstFault
+    requires { ⌜ l .count ≤ 30 ⌝ }
+    ensures { λ r. ⌜ r ≡ firstFault (listOf l) ⌝ }
+{
+    let pins = l.pins;
+    let n = l.count;
+    let mut fault = FirstFault::None;
+    let mut k: usize = 0;
+    while k < n {
+        let pin = pins[k];
+        fault = keep_fault(fault, pin);
+        k += 1;
+    }
+    fault
 }

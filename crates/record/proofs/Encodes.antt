@@ -8,7 +8,7 @@ use native.Mathlib.Nat.{div-div-eq-div-mul, div-add-mod', mod-eq-of-lt}
 use native.Mathlib.Omega.{arith}
 use lib.Dec.{leb, eqb, lit<}
 use lib.IntN.{ℤ, pos, negsuc}
-use lib.ListN.{length, getD, replicate}
+use lib.ListN.{getD, replicate}
 use borrow.Author.Tests.{ne-eqb, le-leb, lt-leb}
 use Rattle.gpio.specs.Each.{each}
 use Rattle.gpio.specs.Tab.{tab}
@@ -28,6 +28,7 @@ use Rattle.slot.specs.declared.description.CsConfig.{CsConfig}
 use Rattle.slot.specs.declared.description.CsConfig.the-variants.{ChipSelect, CeOe, CeOeExplicit}
 use Rattle.slot.specs.declared.description.MultiCsConfig.{MultiCsConfig}
 use Rattle.slot.specs.declared.description.Description.{Description}
+use Rattle.domain.specs.Domain.{descriptionIn}
 use Rattle.record.specs.declared.Answer.the-variants.{Described}
 use Rattle.record.specs.Record.{
   size,
@@ -54,7 +55,8 @@ use Rattle.record.specs.Record.{
   decodedOf,
 }
 use Rattle.slot.specs.Description.{noPin, noLine, noChip}
-use Rattle.record.specs.Encoded.{field, joined, fourBytes, pairBytes, pairField, setTypeByte, offsetByte, logicByte, settingByte, csConfigBytes, multiBytes, pinOf, lineOf, chipOf, boardBytes, lineBytes, chipBytes, headBytes, encoded, Bytes, GpiosIn, OffsetIn, EncodableBoard, EncodableChip, EncodableMulti, Encodable}
+use Rattle.record.specs.Encoded.{field, joined, fourBytes, pairBytes, pairField, setTypeByte, offsetByte, logicByte, settingByte, csConfigBytes, multiBytes, pinOf, lineOf, chipOf, boardBytes, lineBytes, chipBytes, headBytes, encoded, Bytes, ValuedBoard, ValuedChip, ValuedMulti, Valued}
+use Rattle.record.proofs.InDomain.{GpiosIn, OffsetIn, EncodableBoard, Encodable, in-domain}
 
 -- lists of bytes
 
@@ -204,59 +206,61 @@ cs-config-below (CeOeExplicit ce oe) = one (lit< tt) (one (logic ce .below) (one
 
 -- the description reads back
 
-chip-back : (c : Chip) → EncodableChip c → chipAt (chipBytes c) 0 ≡ c
+chip-back : (c : Chip) → ValuedChip c → chipAt (chipBytes c) 0 ≡ c
 unfolding chipAt byteAt joined tab
-chip-back c e = λ i. record {
-  «address_pins» = field-back (c .«address_pins») (e .«address_pins») i;
+chip-back c v = λ i. record {
+  «address_pins» = field-back (c .«address_pins») (v .«address_pins») i;
   «num_address_pins» = c .«num_address_pins»;
-  «data_pins» = field-back (c .«data_pins») (e .«data_pins») i;
+  «data_pins» = field-back (c .«data_pins») (v .«data_pins») i;
   «num_data_pins» = c .«num_data_pins»;
   control = record {
-    lines = tab-is (lineOf c) (c .control .lines) noLine 8 (e .lines) (λ j h. refl) i;
+    lines = tab-is (lineOf c) (c .control .lines) noLine 8 (v .lines) (λ j h. refl) i;
     count = c .control .count;
   };
-  size = four-back (c .size) (e .size) i;
+  size = four-back (c .size) (v .size) i;
 }
 
-multi-back : (d : Description) → EncodableMulti (d .multi) → multiAt (encoded d) ≡ d .multi
+multi-back : (d : Description) → ValuedMulti (d .multi) → multiAt (encoded d) ≡ d .multi
 unfolding multiAt byteAt encoded joined tab
-multi-back d e = λ i. record {
+multi-back d v = λ i. record {
   select = d .multi .select;
-  commoned = field-back (d .multi .commoned) (e .commoned) i;
+  commoned = field-back (d .multi .commoned) (v .commoned) i;
   «num_commoned» = d .multi .«num_commoned»;
-  ignored = field-back (d .multi .ignored) (e .ignored) i;
+  ignored = field-back (d .multi .ignored) (v .ignored) i;
   «num_ignored» = d .multi .«num_ignored»;
 }
 
-socket-back : (b : Board) → EncodableBoard b → tab 40 (λ k. record { gpios = candidatesAt (pairBytes (pinOf b k .gpios)) 0 }) ≡ b .socket
-socket-back b e = tab-is _ (b .socket) noPin 40 (e .socket) (λ k h i. record { gpios = pair-back (pinOf b k .gpios) (e .gpios k) i })
+socket-back : (b : Board) → ValuedBoard b → EncodableBoard b
+    → tab 40 (λ k. record { gpios = candidatesAt (pairBytes (pinOf b k .gpios)) 0 }) ≡ b .socket
+socket-back b v e =
+    tab-is _ (b .socket) noPin 40 (v .socket) (λ k h i. record { gpios = pair-back (pinOf b k .gpios) (e .socket k h) i })
 
-board-back : (d : Description) → EncodableBoard (d .board) → boardAt (encoded d) ≡ d .board
+board-back : (d : Description) → ValuedBoard (d .board) → EncodableBoard (d .board) → boardAt (encoded d) ≡ d .board
 unfolding boardAt byteAt encoded joined tab
-board-back d e = λ i. record {
-  socket = socket-back (d .board) e i;
+board-back d v e = λ i. record {
+  socket = socket-back (d .board) v e i;
   pins = d .board .pins;
   x1 = pair-back (d .board .x1) (e .x1) i;
   x2 = pair-back (d .board .x2) (e .x2) i;
 }
 
-chips-back : (d : Description) → Encodable d → tab 4 (λ k. chipAt (chipBytes (chipOf d k)) 0) ≡ d .chips
-chips-back d e = tab-is _ (d .chips) noChip 4 (e .chips) (λ k h. chip-back (chipOf d k) (e .chip k h))
+chips-back : (d : Description) → Valued d → tab 4 (λ k. chipAt (chipBytes (chipOf d k)) 0) ≡ d .chips
+chips-back d v = tab-is _ (d .chips) noChip 4 (v .chips) (λ k h. chip-back (chipOf d k) (v .chip k h))
 
-described-back : (d : Description) → Encodable d → described (encoded d) ≡ d
+described-back : (d : Description) → Valued d → Encodable d → described (encoded d) ≡ d
 unfolding described csConfigAt chipAt byteAt encoded joined tab
-described-back d e = λ i. record {
-  board = board-back d (e .board) i;
+described-back d v e = λ i. record {
+  board = board-back d (v .board) (e .board) i;
   «set_type» = set-type (d .«set_type») .back i;
   «word_bytes» = d .«word_bytes»;
   «pin_offset» = offset (d .«pin_offset») (e .«pin_offset») .back i;
-  «max_image_size» = four-back (d .«max_image_size») (e .«max_image_size») i;
-  chips = chips-back d e i;
+  «max_image_size» = four-back (d .«max_image_size») (v .«max_image_size») i;
+  chips = chips-back d v i;
   «num_chips» = d .«num_chips»;
   «cs_config» = cs-config-back (d .«cs_config») i;
   «has_multi» = flag (d .«has_multi») .back i;
-  multi = multi-back d (e .multi) i;
-  qualifiers = field-back (d .qualifiers) (e .qualifiers) i;
+  multi = multi-back d (v .multi) i;
+  qualifiers = field-back (d .qualifiers) (v .qualifiers) i;
   «num_qualifiers» = d .«num_qualifiers»;
 }
 
@@ -267,7 +271,7 @@ unfolding headIn byteAt encoded joined tab
 head-formed d e = rw (set-type (d .«set_type») .named, offset (d .«pin_offset») (e .«pin_offset») .named, flag (d .«has_multi») .named)
 
 socket-formed : (b : Board) → EncodableBoard b → each 40 (λ k. pairIn (pairBytes (pinOf b k .gpios)) 0) ≡ true
-socket-formed b e = each-all _ 40 (λ k. pair-in (pinOf b k .gpios) (e .gpios k))
+socket-formed b e = each-all _ 40 (λ k h. pair-in (pinOf b k .gpios) (e .socket k h))
 
 pairs-formed : (d : Description) → EncodableBoard (d .board) → pairsIn (encoded d) ≡ true
 unfolding byteAt encoded joined tab each
@@ -277,42 +281,49 @@ formed : (d : Description) → Encodable d → wellFormed (encoded d) ≡ true
 unfolding wellFormed csConfigIn byteAt encoded joined tab each
 formed d e = λ i. head-formed d e i && cs-config-in (d .«cs_config») i && pairs-formed d (e .board) i && true
 
-pub decodes : (d : Description) → Encodable d → decodedOf (encoded d) ≡ record { answer = Described; description = d }
-decodes d e = rw (formed d e, described-back d e)
+decodes : (d : Description) → Valued d → Encodable d → decodedOf (encoded d) ≡ record { answer = Described; description = d }
+decodes d v e = rw (formed d e, described-back d v e)
 
 -- the record is 424 bytes
 
-head-below : (d : Description) → Encodable d → Below (headBytes d)
-head-below d e =
+head-below : (d : Description) → Valued d → OffsetIn (d .«pin_offset») → Below (headBytes d)
+head-below d v o =
     let numbers = both (four-below (d .«max_image_size»)) (four-below 0) in
-    let counts = one (e .«num_chips») (one (e .«num_qualifiers») (one (flag (d .«has_multi») .below) numbers)) in
-    let codes = one (set-type (d .«set_type») .below) (one (e .«word_bytes») (one (offset (d .«pin_offset») (e .«pin_offset») .below) counts)) in
-    one (e .board .pins) (one (lit< tt) codes)
+    let counts = one (v .«num_chips») (one (v .«num_qualifiers») (one (flag (d .«has_multi») .below) numbers)) in
+    let codes = one (set-type (d .«set_type») .below) (one (v .«word_bytes») (one (offset (d .«pin_offset») o .below) counts)) in
+    one (v .board .pins) (one (lit< tt) codes)
 
-multi-below : (m : MultiCsConfig) → EncodableMulti m → Below (multiBytes m)
-multi-below m e =
-    let counts = one (e .select) (one (e .«num_commoned») (one (e .«num_ignored») (same 0 2 (lit< tt)))) in
-    both (both counts (field-below (e .commoned))) (field-below (e .ignored))
+multi-below : (m : MultiCsConfig) → ValuedMulti m → Below (multiBytes m)
+multi-below m v =
+    let counts = one (v .select) (one (v .«num_commoned») (one (v .«num_ignored») (same 0 2 (lit< tt)))) in
+    both (both counts (field-below (v .commoned))) (field-below (v .ignored))
 
 board-below : (b : Board) → EncodableBoard b → Below (boardBytes b)
 board-below b e =
-    let pins = all 40 (λ k. pairField (pinOf b k .gpios)) (λ k q. pair-field-below (pinOf b k .gpios) (e .gpios k)) in
+    let pins = all 40 (λ k. pairField (pinOf b k .gpios)) (λ k h. pair-field-below (pinOf b k .gpios) (e .socket k h)) in
     both (both pins (pair-field-below (b .x1) (e .x1))) (pair-field-below (b .x2) (e .x2))
 
-chip-below : (c : Chip) → EncodableChip c → Below (chipBytes c)
-chip-below c e =
-    let counts = one (e .«num_address_pins») (one (e .«num_data_pins») (one (e .count) (same 0 1 (lit< tt)))) in
-    let lines = all 8 (λ k. lineBytes (lineOf c k)) (λ k q. one (e .kinds k) (one (e .pins k) (same 0 1 (lit< tt)))) in
-    both (both (both (both (four-below (c .size)) counts) (field-below (e .«address_pins»))) (field-below (e .«data_pins»))) lines
+chip-below : (c : Chip) → ValuedChip c → Below (chipBytes c)
+chip-below c v =
+    let counts = one (v .«num_address_pins») (one (v .«num_data_pins») (one (v .count) (same 0 1 (lit< tt)))) in
+    let lines = all 8 (λ k. lineBytes (lineOf c k)) (λ k h. one (v .kinds k) (one (v .pins k) (same 0 1 (lit< tt)))) in
+    both (both (both (both (four-below (c .size)) counts) (field-below (v .«address_pins»))) (field-below (v .«data_pins»))) lines
 
-encoded-below : (d : Description) → Encodable d → Below (encoded d)
+encoded-below : (d : Description) → Valued d → Encodable d → Below (encoded d)
 unfolding encoded
-encoded-below d e =
+encoded-below d v e =
     let settings = every 7 (λ k. getD (csConfigBytes (d .«cs_config»)) k 0) (below-at (cs-config-below (d .«cs_config»))) in
-    let multi = both (both (head-below d e) settings) (multi-below (d .multi) (e .multi)) in
-    let board = both (both multi (field-below (e .qualifiers))) (board-below (d .board) (e .board)) in
-    both board (all 4 (λ k. chipBytes (chipOf d k)) (λ k q. chip-below (chipOf d k) (e .chip k q)))
+    let multi = both (both (head-below d v (e .«pin_offset»)) settings) (multi-below (d .multi) (v .multi)) in
+    let board = both (both multi (field-below (v .qualifiers))) (board-below (d .board) (e .board)) in
+    both board (all 4 (λ k. chipBytes (chipOf d k)) (λ k h. chip-below (chipOf d k) (v .chip k h)))
 
-pub encoded-bytes : (d : Description) → Encodable d → Bytes size (encoded d)
+encoded-bytes : (d : Description) → Valued d → Encodable d → Bytes size (encoded d)
 unfolding encoded joined tab
-encoded-bytes d e = record { long = refl; each = below-at (encoded-below d e) }
+encoded-bytes d v e = record { long = refl; each = below-at (encoded-below d v e) }
+
+-- every description in the domain has bytes that decode to it
+pub in-domain-decodes : (d : Description) → Valued d → descriptionIn d ≡ true
+    → Bytes size (encoded d) × (decodedOf (encoded d) ≡ record { answer = Described; description = d })
+in-domain-decodes d v h =
+    let e = in-domain d h in
+    (encoded-bytes d v e, decodes d v e)

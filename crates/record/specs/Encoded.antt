@@ -1,9 +1,9 @@
--- The record of a description: the bytes of docs/INTERFACE.md in their order, and which descriptions have a record.
+-- The record of a description: the bytes of docs/INTERFACE.md in their order, and what its type says of a description.
 -- Assumes nothing.
 use mathlib.Core.Path.{_≡_}
 use mathlib.Core.Bool.{cond}
 use mathlib.Core.List.{List, [], _∷_, _++_}
-use Prim.Native.Nat.{ℕ, zero, suc, _-_, _/_, _%_, _^_, _≤_, _<_}
+use Prim.Native.Nat.{ℕ, zero, suc, _-_, _/_, _%_, _^_, _<_}
 use lib.IntN.{ℤ, pos, negsuc}
 use lib.ListN.{length, getD}
 use Rattle.gpio.specs.Tab.{tab}
@@ -120,25 +120,11 @@ pub record Bytes (n : ℕ) (l : List ℕ) : Type 0 where
   pub long : length l ≡ n
   pub each : (k : ℕ) → getD l k 0 < 2 ^ 8
 
--- "GPIO 0 to 47."
-abbrev pub GpiosIn : Candidates → Type 0
-GpiosIn Absent = Unit
-GpiosIn (One g) = g ≤ 47
-GpiosIn (Two g h) = (g ≤ 47) × (h ≤ 47)
-
--- "The offset is -4 to 4."
-abbrev pub OffsetIn : ℤ → Type 0
-OffsetIn (pos n) = n ≤ 4
-OffsetIn (negsuc n) = n ≤ 3
-
-pub record EncodableBoard (b : Board) : Type 0 where
+pub record ValuedBoard (b : Board) : Type 0 where
   pub socket : length (b .socket) ≡ 40
-  pub gpios : (k : ℕ) → GpiosIn (pinOf b k .gpios)
   pub pins : b .pins < 2 ^ 8
-  pub x1 : GpiosIn (b .x1)
-  pub x2 : GpiosIn (b .x2)
 
-pub record EncodableChip (c : Chip) : Type 0 where
+pub record ValuedChip (c : Chip) : Type 0 where
   pub «address_pins» : Bytes 24 (c .«address_pins»)
   pub «num_address_pins» : c .«num_address_pins» < 2 ^ 8
   pub «data_pins» : Bytes 16 (c .«data_pins»)
@@ -149,22 +135,21 @@ pub record EncodableChip (c : Chip) : Type 0 where
   pub count : c .control .count < 2 ^ 8
   pub size : c .size < 2 ^ 32
 
-pub record EncodableMulti (m : MultiCsConfig) : Type 0 where
+pub record ValuedMulti (m : MultiCsConfig) : Type 0 where
   pub select : m .select < 2 ^ 8
   pub commoned : Bytes 8 (m .commoned)
   pub «num_commoned» : m .«num_commoned» < 2 ^ 8
   pub ignored : Bytes 8 (m .ignored)
   pub «num_ignored» : m .«num_ignored» < 2 ^ 8
 
--- what every description in the domain keeps: the arrays' lengths, the numbers' sizes, the GPIOs and the offset
-pub record Encodable (d : Description) : Type 0 where
-  pub board : EncodableBoard (d .board)
+-- what the type says of every description: the arrays' lengths, a u8 below 2^8, a u32 below 2^32
+pub record Valued (d : Description) : Type 0 where
+  pub board : ValuedBoard (d .board)
   pub «word_bytes» : d .«word_bytes» < 2 ^ 8
-  pub «pin_offset» : OffsetIn (d .«pin_offset»)
   pub «max_image_size» : d .«max_image_size» < 2 ^ 32
   pub chips : length (d .chips) ≡ 4
-  pub chip : (k : ℕ) → k < 4 → EncodableChip (chipOf d k)
+  pub chip : (k : ℕ) → k < 4 → ValuedChip (chipOf d k)
   pub «num_chips» : d .«num_chips» < 2 ^ 8
-  pub multi : EncodableMulti (d .multi)
+  pub multi : ValuedMulti (d .multi)
   pub qualifiers : Bytes 8 (d .qualifiers)
   pub «num_qualifiers» : d .«num_qualifiers» < 2 ^ 8

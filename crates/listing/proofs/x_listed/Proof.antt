@@ -1,14 +1,13 @@
 -- `x_listed` meets its contract. Assumes nothing.
 use borrow.Author.Tests.{eq-eqb, ne-eqb}
-use borrow.Author.Needs.{needs}
 use Rattle.listing.proofs.x_listed.Statement.{statement}
 use Rattle.listing.proofs.x_listed.Tie as tie
 
 returns : tie.Need-returns
-returns c = rw (eq-eqb _ _ (c .before .if1 .taken)) (c .or-fault .ensures)
+returns c = rw (eq-eqb _ _ (c .if1 .taken))
 
 returns-2 : tie.Need-returns-2
-returns-2 c = rw (ne-eqb _ _ (c .before .if1 .left)) (c .or-fault2 .ensures)
+returns-2 c = rw (ne-eqb _ _ (c .if1 .left))
 
 pub x-listed-spec : {M : Type 1} → statement M
-x-listed-spec = tie.close (tie.spec (λ c κs. search needs) returns (λ c κs. search needs) returns-2)
+x-listed-spec = tie.close (tie.spec returns returns-2)

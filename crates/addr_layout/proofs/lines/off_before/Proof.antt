@@ -4,7 +4,7 @@ use Prim.Native.Nat.{ℕ, _≤_, _-_}
 use native.Mathlib.Omega.{arith}
 use Rattle.gpio.specs.Each.{tally}
 use Rattle.gpio.proofs.Each.{tally-none, tally-turn, tally-done}
-use Rattle.addr_layout.specs.Listing.{isOff, lineSocket}
+use Rattle.addr_layout.specs.Lines.{isOff, lineSocket}
 use borrow.Author.Needs.{needs}
 use Rattle.addr_layout.proofs.lines.off_before.Statement.{statement}
 use Rattle.addr_layout.proofs.lines.off_before.Tie as tie

@@ -1,18 +1,14 @@
 -- `derive_multi_cs_config` meets its contract: lines in the domain are at most 8, as `sort` asks. Assumes nothing.
-use mathlib.Core.Path.{_≡_, refl, sym, _∙_}
-use mathlib.Core.Bool.{Bool, true, false, _&&_}
+use mathlib.Core.Path.{_≡_, sym, _∙_}
+use Rattle.gpio.proofs.Bools.{and-left}
 use Rattle.control.specs.MultiCsConfig.{answerOf, multiAnswer}
 use borrow.Author.Needs.{needs}
 use borrow.Author.Tests.{leb-true}
 use Rattle.control.proofs.multi_cs_config.derive_multi_cs_config.Statement.{statement}
 use Rattle.control.proofs.multi_cs_config.derive_multi_cs_config.Tie as tie
 
-first : (a b : Bool) → a && b ≡ true → a ≡ true
-first true b e = refl
-first false b e = e
-
 sort-requires : tie.Need-sort-requires
-sort-requires c κs = leb-true _ _ (first _ _ (sym (c .before .control-in .ensures) ∙ c .if1 .taken))
+sort-requires c κs = leb-true _ _ (and-left _ _ (sym (c .before .control-in .ensures) ∙ c .if1 .taken))
 
 -- in the domain, the sorted lines answer
 sorted-answers : (c : tie.After-sort) →

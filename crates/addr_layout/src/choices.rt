@@ -1,0 +1,266 @@
+// What a choice of candidates comes to: the GPIOs that it spans, its score, the layout that it makes, and which choice is
+// the best.
+use crate::layout::AddrAnswer;
+use crate::layout::AddrLayout;
+use crate::layout::AddrOutcome;
+use crate::layout::XGpio;
+use crate::lines::num_lines;
+use domain::lists::entry;
+use gpio::candidates::Candidates;
+use gpio::span::Span;
+use gpio::window::Window;
+use listing::Listing;
+use listing::choice::pick;
+use listing::choice::resolve;
+use listing::lines::kind_pin;
+use listing::lines::pin_candidates;
+use search::Found;
+use search::Trial;
+use search::better;
+use slot::description::Description;
+ghost use mathlib.Core.Path.{_≡_};
+ghost use mathlib.Core.Bool.{cond};
+ghost use Prim.Native.Nat.{ℕ, _^_, _≤_};
+ghost use lib.Dec.{ltb};
+ghost use lib.ListN.{getD};
+ghost use Rattle.gpio.specs.Tab.{tab};
+ghost use Rattle.gpio.specs.Span.{widened};
+ghost use Rattle.listing.specs.Listing.{listOf};
+ghost use Rattle.search.specs.Search.{best};
+ghost use Rattle.addr_layout.specs.Lines.{lines};
+ghost use Rattle.addr_layout.specs.Choices.{mostEntries, reach, inRange, widenedFirst, kindCandidates, selectSpan, fixedSpan, choiceSpan, width, pinsOf, trialOf, xGpio, layoutFrom, layoutOf};
+
+// The entries of the largest table.
+fn most_entries(d: Description) -> u32
+    ensures { λ r. ⌜ r ≡ mostEntries d ⌝ }
+{
+    if d.word_bytes == 2 {
+        d.max_image_size / 2
+    } else {
+        d.max_image_size
+    }
+}
+
+// How many lines the index of the largest table has: the whole part of log2(L / w).
+fn reach(d: Description) -> u8
+    ensures { λ r. ⌜ r ≡ reach d ⌝ }
+    ensures { λ r. ⌜ r ≤ 20 ⌝ }
+{
+    let limit = most_entries(d);
+    let mut entries: u32 = 1;
+    let mut lines: u8 = 0;
+    let mut k: u8 = 0;
+    while k < 20 {
+        entries = entries * 2;
+        lines += one_if(entries <= limit);
+        k += 1;
+    }
+    lines
+}
+
+fn one_if(b: bool) -> u8
+    ensures { λ r. ⌜ r ≡ cond b 1 0 ⌝ }
+    ensures { λ r. ⌜ r ≤ 1 ⌝ }
+{
+    if b { 1 } else { 0 }
+}
+
+// Lines in use: those that a table has an index for.
+fn in_range(d: Description) -> u8
+    ensures { λ r. ⌜ r ≡ inRange d ⌝ }
+{
+    let all = num_lines(d);
+    let most = reach(d);
+    if all < most { all } else { most }
+}
+
+fn widen_first(s: Span, gpios: Candidates) -> Span
+    ensures { λ r. ⌜ r ≡ widenedFirst s gpios ⌝ }
+{
+    match gpios {
+        Candidates::Absent => s,
+        Candidates::One(g) => s.widen(g),
+        Candidates::Two(g, _) => s.widen(g),
+    }
+}
+
+// The candidates of chip 0's line of a kind: none where it is not on the chip or off the socket.
+fn kind_candidates(d: Description, kind: u8) -> Candidates
+    ensures { λ r. ⌜ r ≡ kindCandidates d kind ⌝ }
+{
+    let pin = kind_pin(d, kind);
+    if pin == 0 {
+        return Candidates::Absent;
+    }
+    pin_candidates(d, pin)
+}
+
+fn commoned_kind(d: Description, k: usize) -> u8
+    ensures { λ r. ⌜ r ≡ getD (d .multi .commoned) k 0 ⌝ }
+{
+    let multi = d.multi;
+    let kinds = multi.commoned;
+    entry(&kinds, k)
+}
+
+// The select and commoned lines of a Multi set, each by its first candidate: the index reads them too.
+fn select_span(d: Description) -> Span
+    ensures { λ r. ⌜ r ≡ selectSpan d (d .multi .«num_commoned») ⌝ }
+{
+    let multi = d.multi;
+    let count = multi.num_commoned as usize;
+    let mut s = widen_first(Span::empty(), kind_candidates(d, multi.select));
+    let mut k: usize = 0;
+    while k < count {
+        s = widen_first(s, kind_candidates(d, commoned_kind(d, k)));
+        k += 1;
+    }
+    s
+}
+
+// The GPIOs that every choice spans.
+fn fixed_span(d: Description) -> Span
+    ensures { λ r. ⌜ r ≡ fixedSpan d ⌝ }
+{
+    let set_type = d.set_type;
+    if set_type.is_multi() {
+        return select_span(d);
+    }
+    Span::empty()
+}
+
+fn widen_if(s: Span, wanted: bool, g: u8) -> Span
+    ensures { λ r. ⌜ r ≡ cond wanted (widened s g) s ⌝ }
+{
+    if wanted { s.widen(g) } else { s }
+}
+
+// The GPIOs that a choice spans: the first `in_range` of `lines` lines, and the X pins behind the lines.
+fn span_of(l: Listing, in_range: usize, lines: usize, fixed: Span, choice: u32) -> Span
+    requires { ⌜ l .count ≤ 30 ⌝ }
+    ensures { λ r. ⌜ r ≡ choiceSpan (listOf l) «in_range» lines fixed choice ⌝ }
+{
+    let pins = l.pins;
+    let count = l.count;
+    let mut s = fixed;
+    let mut rest = choice;
+    let mut k: usize = 0;
+    while k < count {
+        let pin = pins[k];
+        let gpios = pin.gpios;
+        let picked = pick(gpios, rest);
+        s = widen_if(s, (k < in_range) | (lines <= k), picked.gpio);
+        rest = picked.rest;
+        k += 1;
+    }
+    s
+}
+
+fn width(s: Span) -> u32
+    ensures { λ r. ⌜ r ≡ width s ⌝ }
+{
+    if s.high < s.low {
+        return 1;
+    }
+    s.high as u32 - s.low as u32 + 1
+}
+
+// The PIO reads at least 8 GPIOs.
+fn pins(s: Span) -> u32
+    ensures { λ r. ⌜ r ≡ pinsOf s ⌝ }
+{
+    let w = width(s);
+    if 8 < w { w } else { 8 }
+}
+
+// The score of a choice with a span, if one window holds it.
+fn trial(s: Span) -> Trial
+    ensures { λ r. ⌜ r ≡ trialOf s ⌝ }
+{
+    let n = pins(s);
+    if 48 < n {
+        return Trial::Misfit;
+    }
+    if Window::fits(s.low, n as u8) {
+        return Trial::Score(n * 1000 + s.low as u32);
+    }
+    Trial::Misfit
+}
+
+// The best of the choices that `bits` two-candidate pins leave.
+pub fn best(d: Description, l: Listing, bits: u32) -> Found
+    requires { ⌜ (l .count ≤ 30) × (bits ≤ 16) ⌝ }
+    ensures { λ r. ⌜ r ≡ best (λ c. trialOf (choiceSpan (listOf l) (inRange d) (lines d) (fixedSpan d) c)) (2 ^ bits) ⌝ }
+{
+    let used = in_range(d) as usize;
+    let all = num_lines(d) as usize;
+    let fixed = fixed_span(d);
+    let choices = 1u32 << bits;
+    let mut found = Found::Nothing;
+    let mut c: u32 = 0;
+    while c < choices {
+        found = better(found, c, trial(span_of(l, used, all, fixed, c)));
+        c += 1;
+    }
+    found
+}
+
+// The GPIOs of the lines, 0 past them.
+fn line_gpios(all: [u8; 30], lines: usize) -> [u8; 24]
+    ensures { λ r. ⌜ r ≡ tab 24 (λ k. cond (ltb k lines) (getD all k 0) 0) ⌝ }
+{
+    let mut out = [0u8; 24];
+    let mut k: usize = 0;
+    while k < 24 {
+        out[k] = gpio_if(k < lines, all[k]);
+        k += 1;
+    }
+    out
+}
+
+fn gpio_if(used: bool, g: u8) -> u8
+    ensures { λ r. ⌜ r ≡ cond used g 0 ⌝ }
+{
+    if used { g } else { 0 }
+}
+
+fn x_gpio(used: bool, g: u8) -> XGpio
+    ensures { λ r. ⌜ r ≡ xGpio used g ⌝ }
+{
+    if used { XGpio::At(g) } else { XGpio::Unused }
+}
+
+// The layout of resolved pins: the lines' GPIOs, then those of X1 and X2 where they pick a bank or a chip.
+fn layout(span: Span, all: [u8; 30], one: bool, both: bool, lines: u8, used: u8) -> AddrLayout
+    requires { ⌜ (pinsOf span ≤ 255) × (used ≤ lines) × (lines ≤ 24) ⌝ }
+    ensures { λ r. ⌜ r ≡ layoutFrom span (λ k. getD all k 0) one both lines used ⌝ }
+{
+    let n = lines as usize;
+    AddrLayout {
+        gpio_base: span.low,
+        num_addr_pins: pins(span) as u8,
+        x1_gpio: x_gpio(one, all[n]),
+        x2_gpio: x_gpio(both, all[n + 1]),
+        gpios: line_gpios(all, n),
+        num_lines: used,
+        num_excess: lines - used,
+    }
+}
+
+// The layout that a choice makes which fits.
+pub fn laid_out(d: Description, l: Listing, choice: u32, score: u32) -> AddrAnswer
+    requires { ⌜ (l .count ≤ 30) × (lines d ≤ 24) × (trialOf (choiceSpan (listOf l) (inRange d) (lines d) (fixedSpan d) choice) ≡ Trial.Score score) ⌝ }
+    ensures { λ r. ⌜ r ≡ record { outcome = AddrOutcome.LaidOut; layout = layoutOf d (listOf l) choice } ⌝ }
+{
+    let used = in_range(d);
+    let all = num_lines(d);
+    let span = span_of(l, used as usize, all as usize, fixed_span(d), choice);
+    let gpios = resolve(l, choice);
+    let set_type = d.set_type;
+    let one = !set_type.is_single();
+    let layout = layout(span, gpios, one, one & (3 <= d.num_chips), all, used);
+    AddrAnswer {
+        outcome: AddrOutcome::LaidOut,
+        layout,
+    }
+}

@@ -1,0 +1,129 @@
+-- What a description in the domain keeps, number by number. Assumes nothing.
+use mathlib.Core.Path.{_≡_, sym, _∙_}
+use mathlib.Core.Bool.{Bool, true, false, _&&_, _||_, not}
+use Prim.Native.Nat.{ℕ, _≤_, _<_}
+use native.Mathlib.Omega.{arith}
+use lib.Dec.{leb, eqb}
+use lib.ListN.{getD}
+use borrow.Author.Tests.{leb-true, eqb-true, lt-leb}
+use Rattle.gpio.proofs.Bools.{and-left, and-right}
+use Rattle.gpio.proofs.Each.{each-at}
+use Rattle.slot.specs.Description.{chip0, noChip, isMulti}
+use Rattle.slot.specs.SlotContext.{raisedOf}
+use Rattle.slot.specs.declared.description.Chip.{Chip}
+use Rattle.slot.specs.declared.description.Description.{Description}
+use Rattle.domain.specs.Domain.{
+  between,
+  pinsIn,
+  boardIn,
+  wordBytesIn,
+  maxImageSizeIn,
+  controlIn,
+  chipIn,
+  chipsIn,
+  multiIn,
+  descriptionIn,
+}
+
+-- a number between two others
+pub between-is : (low high x : ℕ) → between low high x ≡ true → (low ≤ x) × (x ≤ high)
+between-is low high x e =
+    (leb-true low x (and-left (leb low x) (leb x high) e), leb-true x high (and-right (leb low x) (leb x high) e))
+
+module _ (d : Description) (e : descriptionIn d ≡ true) where
+  numbers : Bool
+  numbers = wordBytesIn (d .«word_bytes») && maxImageSizeIn (d .«max_image_size»)
+
+  offset : Bool
+  offset = leb (raisedOf (d .«pin_offset»)) 8
+
+  chips : Bool
+  chips = between 1 4 (d .«num_chips») && chipsIn (d .chips) (d .«num_chips») (d .«word_bytes»)
+
+  multi : Bool
+  multi = (not (d .«has_multi») || multiIn (d .multi)) && (not (isMulti (d .«set_type»)) || d .«has_multi»)
+
+  -- the five parts
+  pub board-in : boardIn (d .board) ≡ true
+  unfolding descriptionIn numbers offset chips multi
+  board-in =
+      and-left (boardIn (d .board)) numbers
+      (and-left (boardIn (d .board) && numbers) offset
+      (and-left (boardIn (d .board) && numbers && offset) chips (and-left (boardIn (d .board) && numbers && offset && chips) multi e)))
+
+  numbers-in : numbers ≡ true
+  unfolding descriptionIn numbers offset chips multi
+  numbers-in =
+      and-right (boardIn (d .board)) numbers
+      (and-left (boardIn (d .board) && numbers) offset
+      (and-left (boardIn (d .board) && numbers && offset) chips (and-left (boardIn (d .board) && numbers && offset && chips) multi e)))
+
+  offset-in : offset ≡ true
+  unfolding descriptionIn numbers offset chips multi
+  offset-in =
+      and-right (boardIn (d .board) && numbers) offset
+      (and-left (boardIn (d .board) && numbers && offset) chips (and-left (boardIn (d .board) && numbers && offset && chips) multi e))
+
+  chips-in : chips ≡ true
+  unfolding descriptionIn numbers offset chips multi
+  chips-in =
+      and-right (boardIn (d .board) && numbers && offset) chips (and-left (boardIn (d .board) && numbers && offset && chips) multi e)
+
+  multi-in : multi ≡ true
+  unfolding descriptionIn numbers offset chips multi
+  multi-in = and-right (boardIn (d .board) && numbers && offset && chips) multi e
+
+  chips-part : (between 1 4 (d .«num_chips») ≡ true) × (chipsIn (d .chips) (d .«num_chips») (d .«word_bytes») ≡ true)
+  unfolding chips
+  chips-part = (
+    and-left (between 1 4 (d .«num_chips»)) (chipsIn (d .chips) (d .«num_chips») (d .«word_bytes»)) chips-in,
+    and-right (between 1 4 (d .«num_chips»)) (chipsIn (d .chips) (d .«num_chips») (d .«word_bytes»)) chips-in,
+  )
+
+  pub chip-count : (1 ≤ d .«num_chips») × (d .«num_chips» ≤ 4)
+  chip-count = between-is 1 4 (d .«num_chips») (chips-part .0)
+
+  -- chip 0 is there, and in
+  pub chip0-in : chipIn (chip0 d) (d .«word_bytes») ≡ true
+  unfolding chipsIn
+  chip0-in =
+      let n = d .«num_chips» in
+      let some : 0 < n = omega (arith, chip-count) in
+      let first = each-at (λ k. leb n k || chipIn (getD (d .chips) k noChip) (d .«word_bytes»)) 4 (chips-part .1) 0 (omega arith) in
+      rw (lt-leb n 0 some) at first
+
+  pub image-size : (256 ≤ d .«max_image_size») × (d .«max_image_size» ≤ 1048576)
+  unfolding numbers
+  image-size =
+      between-is 256 1048576 (d .«max_image_size»)
+      (and-right (wordBytesIn (d .«word_bytes»)) (maxImageSizeIn (d .«max_image_size»)) numbers-in)
+
+-- the parts of a chip that is in
+module _ (c : Chip) (w : ℕ) (e : chipIn c w ≡ true) where
+  address : Bool
+  address =
+      between 1 24 (c .«num_address_pins») && (eqb w 1 || leb 2 (c .«num_address_pins»)) && pinsIn (c .«address_pins») (c .«num_address_pins»)
+
+  «data» : Bool
+  «data» = between 1 16 (c .«num_data_pins») && pinsIn (c .«data_pins») (c .«num_data_pins»)
+
+  size : Bool
+  size = leb (c .size) 16777216
+
+  pub address-pins : (1 ≤ c .«num_address_pins») × (c .«num_address_pins» ≤ 24)
+  unfolding address «data» size
+  address-pins =
+      let whole = and-left address «data» (and-left (address && «data») (controlIn (c .control)) (and-left (address && «data» && controlIn (c .control)) size e)) in
+      between-is 1 24 (c .«num_address_pins»)
+      (and-left (between 1 24 (c .«num_address_pins»)) (eqb w 1 || leb 2 (c .«num_address_pins»))
+      (and-left (between 1 24 (c .«num_address_pins») && (eqb w 1 || leb 2 (c .«num_address_pins»))) (pinsIn (c .«address_pins») (c .«num_address_pins»)) whole))
+
+  pub data-pins : (1 ≤ c .«num_data_pins») × (c .«num_data_pins» ≤ 16)
+  unfolding address «data» size
+  data-pins =
+      let whole = and-right address «data» (and-left (address && «data») (controlIn (c .control)) (and-left (address && «data» && controlIn (c .control)) size e)) in
+      between-is 1 16 (c .«num_data_pins») (and-left (between 1 16 (c .«num_data_pins»)) (pinsIn (c .«data_pins») (c .«num_data_pins»)) whole)
+
+  pub control-lines : controlIn (c .control) ≡ true
+  unfolding address «data» size
+  control-lines = and-right (address && «data») (controlIn (c .control)) (and-left (address && «data» && controlIn (c .control)) size e)

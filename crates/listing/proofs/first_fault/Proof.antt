@@ -1,0 +1,44 @@
+-- `first_fault` meets its contract. The loop's invariant: `fault` is that of the pins passed. Assumes nothing.
+use mathlib.Core.Path.{_≡_, refl}
+use mathlib.Core.List.{List}
+use Prim.Native.Nat.{ℕ, _+_, _≤_, _<_, _-_}
+use native.Mathlib.Numerals.{add-one}
+use native.Mathlib.Omega.{arith}
+use lib.ListN.{length, take, getD}
+use lib.Seq.{take-suc}
+use Rattle.gpio.proofs.Lists.{mapped-length}
+use Rattle.listing.specs.declared.Listed.{Listed}
+use Rattle.listing.specs.declared.FirstFault.{FirstFault}
+use Rattle.listing.specs.Listing.{faultFrom, firstFault, keepFault}
+use Rattle.listing.proofs.Faults.{fault-snoc}
+use borrow.Author.Needs.{needs}
+use Rattle.listing.proofs.first_fault.Statement.{statement}
+use Rattle.listing.proofs.first_fault.Tie as tie
+
+turn : (ps : List Listed) (k : ℕ) (f g : FirstFault) (d : Listed) → k < length ps → f ≡ firstFault (take k ps) → g ≡ keepFault f (getD ps k d)
+    → g ≡ firstFault (take (k + 1) ps)
+turn ps k f g d h e i = rw (add-one, take-suc ps k d h, fault-snoc, i, e)
+
+done : (ps : List Listed) (k m : ℕ) (f : FirstFault) → k ≡ m → f ≡ firstFault (take k ps) → f ≡ firstFault (take m ps)
+done ps k m f e h = rw e at h
+
+abbrev Inv-loop : tie.InvT-loop
+Inv-loop pins n fault₀ k₀ fault k = (k ≤ n) × (n ≤ 30) × (length pins ≡ 30) × (fault ≡ firstFault (take k pins))
+
+abbrev μ-loop : tie.MeasureT-loop
+μ-loop pins n fault₀ k₀ fault k = n - k
+
+loop-holds : tie.Need-loop-holds Inv-loop μ-loop
+unfolding faultFrom
+loop-holds c = (omega arith, omega arith, search (mapped-length, needs), refl)
+
+loop-again : tie.Need-loop-again Inv-loop μ-loop
+loop-again c =
+    let v = c .before .before .before .loop in
+    (omega arith, omega arith, v .inv .2, turn _ (v .k) _ _ _ (omega arith) (v .inv .3) (c .keep-fault .ensures))
+
+returns : tie.Need-returns Inv-loop μ-loop
+returns c = done _ (c .before .loop .k) (c .before .before .before .args .l .count) _ (omega arith) (c .before .loop .inv .3)
+
+pub first-fault-spec : {M : Type 1} → statement M
+first-fault-spec = tie.close (tie.spec Inv-loop μ-loop loop-holds (λ c. search needs) (λ c. search needs) (λ c κs. search needs) (λ c. search needs) (λ c. search needs) loop-again returns)

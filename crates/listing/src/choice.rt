@@ -1,0 +1,68 @@
+// What a choice number makes of a list of pins: each two-candidate pin takes the lowest bit of what the pins before it
+// left of the number.
+use crate::Listing;
+use gpio::candidates::Candidates;
+ghost use mathlib.Core.Path.{_≡_};
+ghost use Prim.Native.Nat.{ℕ, _≤_};
+ghost use Rattle.gpio.specs.Tab.{tab};
+ghost use Rattle.listing.specs.Listing.{listOf};
+ghost use Rattle.listing.specs.Choice.{chosen, leftBy, pinAt, gpioAt};
+
+// A pin's GPIO under a choice, and what is left of the choice for the pins after it.
+pub struct Picked {
+    pub gpio: u8,
+    pub rest: u32,
+}
+
+pub fn pick(gpios: Candidates, rest: u32) -> Picked
+    ensures { λ r. ⌜ r ≡ record { gpio = chosen gpios rest; rest = leftBy gpios rest } ⌝ }
+{
+    match gpios {
+        Candidates::Absent => Picked { gpio: 0, rest },
+        Candidates::One(g) => Picked { gpio: g, rest },
+        Candidates::Two(g, h) => {
+            if rest % 2 == 0 {
+                Picked {
+                    gpio: g,
+                    rest: rest / 2,
+                }
+            } else {
+                Picked {
+                    gpio: h,
+                    rest: rest / 2,
+                }
+            }
+        }
+    }
+}
+
+// The candidates of the `k`-th pin.
+pub fn pin_at(l: Listing, k: usize) -> Candidates
+    ensures { λ r. ⌜ r ≡ pinAt (listOf l) k ⌝ }
+{
+    if l.count <= k {
+        return Candidates::Absent;
+    }
+    if 30 <= k {
+        return Candidates::Absent;
+    }
+    let pins = l.pins;
+    let pin = pins[k];
+    pin.gpios
+}
+
+// The GPIO of each pin under a choice; 0 past the list's end.
+pub fn resolve(l: Listing, choice: u32) -> [u8; 30]
+    ensures { λ r. ⌜ r ≡ tab 30 (λ k. gpioAt (listOf l) choice k) ⌝ }
+{
+    let mut out = [0u8; 30];
+    let mut rest = choice;
+    let mut k: usize = 0;
+    while k < 30 {
+        let picked = pick(pin_at(l, k), rest);
+        out[k] = picked.gpio;
+        rest = picked.rest;
+        k += 1;
+    }
+    out
+}

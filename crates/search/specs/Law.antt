@@ -1,0 +1,20 @@
+-- Demand 2's law of a search: "a layout is found if some choice of candidates fits, it is the lowest-scoring and among
+-- equals the earliest, and none is found if nothing fits". Assumes nothing.
+use mathlib.Core.Path.{_≡_}
+use Prim.Native.Nat.{ℕ, _≤_, _<_}
+use Rattle.search.specs.declared.Trial.{Trial}
+use Rattle.search.specs.declared.Trial.the-variants.{Misfit, Score}
+use Rattle.search.specs.declared.Found.{Found}
+use Rattle.search.specs.declared.Found.the-variants.{Nothing, At}
+
+-- of the choices below k, c fits with score s, none scores lower, and every earlier one that fits scores higher
+pub record Best (trial : ℕ → Trial) (k c s : ℕ) : Type 0 where
+  pub within : c < k
+  pub fits : trial c ≡ Score s
+  pub lowest : (j t : ℕ) → j < k → trial j ≡ Score t → s ≤ t
+  pub earliest : (j t : ℕ) → j < c → trial j ≡ Score t → s < t
+
+-- what is right of an answer over the choices below k
+abbrev pub Right : (ℕ → Trial) → ℕ → Found → Type 0
+Right trial k Nothing = (j t : ℕ) → j < k → trial j ≡ Score t → ⊥
+Right trial k (At c s) = Best trial k c s

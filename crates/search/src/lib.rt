@@ -1,0 +1,34 @@
+// A search over choices by number: the lowest score wins, and the earliest among equals.
+ghost use mathlib.Core.Path.{_≡_};
+ghost use Rattle.search.specs.Search.{betterOf};
+
+// What a choice comes to.
+pub enum Trial {
+    Misfit,
+    Score(u32),
+}
+
+// The best choice so far, with its score.
+pub enum Found {
+    Nothing,
+    At(u32, u32),
+}
+
+// The better of what was found and a later choice.
+pub fn better(found: Found, choice: u32, trial: Trial) -> Found
+    ensures { λ r. ⌜ r ≡ betterOf found choice trial ⌝ }
+{
+    match trial {
+        Trial::Misfit => found,
+        Trial::Score(score) => match found {
+            Found::Nothing => Found::At(choice, score),
+            Found::At(_, lowest) => {
+                if score < lowest {
+                    Found::At(choice, score)
+                } else {
+                    found
+                }
+            }
+        },
+    }
+}
