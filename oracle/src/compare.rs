@@ -7,8 +7,9 @@ use crate::answer::answer;
 use crate::case::Case;
 use crate::model::Model;
 use crate::original::Original;
+use crate::run::Run;
 use crate::tally::{Outcome, name, outcome};
-use crate::{Run, differences, generate};
+use crate::{differences, generate};
 
 struct Group {
     count: u64,

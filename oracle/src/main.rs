@@ -21,6 +21,8 @@ mod compare;
 #[cfg(original)]
 mod differences;
 #[cfg(original)]
+mod list;
+#[cfg(original)]
 mod original;
 #[cfg(original)]
 mod smallest;
@@ -43,7 +45,8 @@ use case::Case;
 use engine::Engine;
 
 const USAGE: &str = "oracle answer | oracle model | oracle generate SEED COUNT [KINDS] | \
-    oracle compare SEED COUNT [KINDS] | oracle differences | oracle tally";
+    oracle compare SEED COUNT [KINDS] | oracle list SEED COUNT [KINDS] | oracle differences | \
+    oracle tally";
 
 fn main() -> ExitCode {
     #[cfg(original)]
@@ -61,6 +64,10 @@ fn main() -> ExitCode {
         },
         ["compare", seed, count, ref kinds @ ..] => match run(seed, count, kinds) {
             Some(run) => Ok(compare_run(&run)),
+            None => Ok(usage()),
+        },
+        ["list", seed, count, ref kinds @ ..] => match run(seed, count, kinds) {
+            Some(run) => list_run(&run),
             None => Ok(usage()),
         },
         _ => Ok(usage()),
@@ -140,6 +147,11 @@ fn compare_run(run: &Run) -> ExitCode {
 }
 
 #[cfg(original)]
+fn list_run(run: &Run) -> io::Result<ExitCode> {
+    list::list(run)
+}
+
+#[cfg(original)]
 fn print_differences() -> ExitCode {
     smallest::print();
     ExitCode::SUCCESS
@@ -159,6 +171,13 @@ fn answer_original() -> io::Result<ExitCode> {
 #[cfg(not(original))]
 fn compare_run(_run: &Run) -> ExitCode {
     skipped()
+}
+
+/// A list without answers would pass for one, so this fails.
+#[cfg(not(original))]
+fn list_run(_run: &Run) -> io::Result<ExitCode> {
+    eprintln!("original sources not found: no list");
+    Ok(ExitCode::FAILURE)
 }
 
 #[cfg(not(original))]

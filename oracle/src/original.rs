@@ -172,6 +172,17 @@ fn context(slot: &Description) -> SlotContext {
     }
 }
 
+/// The address search of a description whose records are made once.
+pub fn prepared_search(slot: &Description) -> crate::AddressSearch {
+    let context = context(slot);
+    let largest_table = slot.largest_table as usize;
+    Box::new(move || {
+        // Another description may have been asked about in between.
+        set_largest_table(largest_table);
+        told(|| derive_addr_layout(&context).map_err(layout_refusal)).map(from_original_address)
+    })
+}
+
 fn layout_refusal(error: LayoutError) -> Failure {
     match error {
         LayoutError::NoSelectLine { .. } => refusal(2, 0),

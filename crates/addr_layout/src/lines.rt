@@ -143,13 +143,10 @@ pub fn list(d: Description) -> Listing
 {
     let board = d.board;
     let set_type = d.set_type;
-    let l = list_lines(d);
-    if set_type.is_single() {
-        return l;
-    }
-    let with_x1 = listing::push(l, listing::x_listed(board, 1));
-    if d.num_chips < 3 {
-        return with_x1;
-    }
-    listing::push(with_x1, listing::x_listed(board, 2))
+    listing::push_x(
+        list_lines(d),
+        board,
+        !set_type.is_single(),
+        3 <= d.num_chips,
+    )
 }

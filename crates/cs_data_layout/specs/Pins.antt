@@ -5,26 +5,19 @@ use mathlib.Core.List.{List, [], _∷_, _++_}
 use lib.Dec.{leb, eqb}
 use lib.ListN.{getD}
 use Rattle.gpio.specs.Tab.{tab}
+use Rattle.gpio.specs.declared.candidates.Candidates.the-variants.{Absent}
 use Rattle.slot.specs.Description.{isMulti, chip0, lineAt, kindAt}
-use Rattle.slot.specs.SlotContext.{raisedOf, socketOf}
-use Rattle.slot.specs.declared.description.ControlLines.{ControlLines}
 use Rattle.slot.specs.declared.description.Description.{Description}
 use Rattle.slot.specs.declared.refusal.Refusal.the-variants.{NoSelectLine, UnmappedPin}
-use Rattle.slot.specs.declared.slot_context.Socket.{Socket}
-use Rattle.slot.specs.declared.slot_context.Socket.the-variants.{On, Off}
 use Rattle.domain.specs.Domain.{descriptionIn}
 use Rattle.control.specs.CsConfig.{ignores}
-use Rattle.listing.specs.Listing.{candidatesAt, orFault, xPins, twos}
+use Rattle.listing.specs.Listing.{listed, xPins, twos}
+use Rattle.listing.specs.Lines.{kindPin, pinCandidates}
 use Rattle.listing.specs.declared.Listed.{Listed}
-use Rattle.listing.specs.declared.Listed.the-variants.{Gpios, Fault}
 
 -- "Number 3 names the chip's pin here": "a needed pin has no GPIO or, in the select search, is off the socket"
-abbrev pub atSocket : Description → ℕ → Socket → Listed
-atSocket d pin (On s) = orFault (candidatesAt (d .board) s) (UnmappedPin pin)
-atSocket d pin Off = Fault (UnmappedPin pin)
-
 unfoldable pub pinListed : Description → ℕ → Listed
-pinListed d pin = atSocket d pin (socketOf pin (raisedOf (d .«pin_offset»)) (d .board .pins))
+pinListed d pin = listed (pinCandidates d pin) (UnmappedPin pin)
 
 unfoldable pub dataListed : Description → List Listed
 dataListed d = tab (chip0 d .«num_data_pins») (λ k. pinListed d (getD (chip0 d .«data_pins») k 0))
@@ -41,17 +34,12 @@ unfoldable pub activeListed : Description → ℕ → List Listed
 activeListed d zero = []
 activeListed d (suc k) = activeListed d k ++ ifActive d k
 
--- the pin of the line of a kind among the first k lines, 0 where there is none
-unfoldable pub pinOf : ControlLines → ℕ → ℕ → ℕ
-pinOf c kind zero = 0
-pinOf c kind (suc k) = cond (eqb (kindAt c k) kind) (lineAt c k .pin) (pinOf c kind k)
-
 -- "a named Multi line is not on chip 0"
 abbrev pub orNoLine : Description → ℕ → Listed
-orNoLine d pin = cond (eqb pin 0) (Fault NoSelectLine) (pinListed d pin)
+orNoLine d pin = cond (eqb pin 0) (listed Absent NoSelectLine) (pinListed d pin)
 
 unfoldable pub kindListed : Description → ℕ → Listed
-kindListed d kind = orNoLine d (pinOf (chip0 d .control) kind (chip0 d .control .count))
+kindListed d kind = orNoLine d (kindPin d kind)
 
 -- "X1 with 2 chips or more, X2 with 3 or more"
 unfoldable pub selectListed : Description → List Listed
@@ -66,7 +54,7 @@ commonedListed d =
 
 -- "Choices number the pins in the order data, select with X1 and X2, commoned."
 unfoldable pub numbered : Description → List Listed
-numbered d = dataListed d ++ (selectListed d ++ commonedListed d)
+numbered d = (dataListed d ++ selectListed d) ++ commonedListed d
 
 -- "At most 16 two-candidate pins among those a search lists"
 unfoldable pub inDomain : Description → Bool

@@ -5,59 +5,60 @@ use domain::chip::control_line;
 use domain::chip::kind_at;
 use domain::description::description_in;
 use domain::lists::entry;
+use gpio::candidates::Candidates;
 use listing::Listed;
-use slot::description::ControlLine;
-use slot::description::ControlLines;
+use listing::Listing;
+use listing::lines::kind_pin;
+use listing::lines::pin_candidates;
 use slot::description::Description;
 use slot::refusal::Refusal;
-use slot::slot_context;
-use slot::slot_context::Socket;
 ghost use mathlib.Core.Path.{_≡_};
-ghost use mathlib.Core.Bool.{cond};
-ghost use Prim.Native.Nat.{ℕ, _≤_};
-ghost use lib.Dec.{eqb};
+ghost use mathlib.Core.List.{_++_};
+ghost use Prim.Native.Nat.{ℕ, _+_, _≤_};
 ghost use lib.ListN.{getD};
 ghost use Rattle.gpio.specs.Tab.{tab};
-ghost use Rattle.slot.specs.Description.{chip0};
-ghost use Rattle.listing.specs.Listing.{twos};
-ghost use Rattle.cs_data_layout.specs.Pins.{pinListed, dataListed, active, ifActive, activeListed, pinOf, kindListed, selectListed, commonedListed, inDomain};
+ghost use mathlib.Core.Bool.{true};
+ghost use Rattle.slot.specs.Description.{isMulti, chip0};
+ghost use Rattle.listing.specs.Listing.{listOf};
+ghost use Rattle.cs_data_layout.specs.Pins.{pinListed, dataListed, active, ifActive, activeListed, kindListed, selectListed, numbered, inDomain};
 
-// A chip pin's candidates; a pin without GPIO or off the socket is a fault.
-pub fn pin_listed(d: Description, pin: u8) -> Listed
+// A chip pin; one without GPIO or off the socket is a fault.
+fn pin_listed(d: Description, pin: u8) -> Listed
     ensures { λ r. ⌜ r ≡ pinListed d pin ⌝ }
 {
-    let board = d.board;
-    let raised = slot_context::raised(d.pin_offset);
-    let s = slot_context::socket_pin(pin, raised, board.pins);
-    match s {
-        Socket::On(socket_pin) => {
-            let gpios = listing::candidates_at(board, socket_pin);
-            listing::or_fault(gpios, Refusal::UnmappedPin(pin))
-        }
-        Socket::Off => Listed::Fault(Refusal::UnmappedPin(pin)),
+    let gpios = pin_candidates(d, pin);
+    Listed {
+        gpios,
+        fault: Refusal::UnmappedPin(pin),
     }
 }
 
-// The two-candidate pins among the data pins.
-fn data_twos(d: Description) -> u32
-    ensures { λ r. ⌜ r ≡ twos (dataListed d) ⌝ }
-    ensures { λ r. ⌜ r ≤ 255 ⌝ }
+fn data_pin(d: Description, k: usize) -> u8
+    ensures { λ r. ⌜ r ≡ getD (chip0 d .«data_pins») k 0 ⌝ }
 {
     let chip = d.chip0();
     let pins = chip.data_pins;
+    entry(&pins, k)
+}
+
+// The data pins.
+fn list_data(d: Description) -> Listing
+    requires { ⌜ chip0 d .«num_data_pins» ≤ 16 ⌝ }
+    ensures { λ r. ⌜ (listOf r ≡ dataListed d) × (r .count ≤ 16) ⌝ }
+{
+    let chip = d.chip0();
     let count = chip.num_data_pins as usize;
-    let mut bits: u32 = 0;
+    let mut l = listing::none();
     let mut k: usize = 0;
     while k < count {
-        let pin = entry(&pins, k);
-        bits += listing::bits(pin_listed(d, pin));
+        l = listing::push(l, pin_listed(d, data_pin(d, k)));
         k += 1;
     }
-    bits
+    l
 }
 
 // Whether a control line selects the chip: a named line that its setting does not ignore.
-pub fn line_active(d: Description, k: usize) -> bool
+fn line_active(d: Description, k: usize) -> bool
     ensures { λ r. ⌜ r ≡ active d k ⌝ }
 {
     let chip = d.chip0();
@@ -66,118 +67,108 @@ pub fn line_active(d: Description, k: usize) -> bool
     (kind <= 5) & !line_ignored(kind, config)
 }
 
-// The choice bits of the `k`-th control line: none where it does not select the chip.
-fn active_bits(d: Description, k: usize) -> u32
-    ensures { λ r. ⌜ r ≡ twos (ifActive d k) ⌝ }
-    ensures { λ r. ⌜ r ≤ 1 ⌝ }
+// The list, with the `k`-th control line where it selects the chip.
+fn push_active(d: Description, l: Listing, k: usize) -> Listing
+    requires { ⌜ l .count ≤ 29 ⌝ }
+    ensures { λ r. ⌜ (listOf r ≡ listOf l ++ ifActive d k) × (r .count ≤ l .count + 1) ⌝ }
 {
     if line_active(d, k) {
         let chip = d.chip0();
         let line = control_line(chip.control, k);
-        return listing::bits(pin_listed(d, line.pin));
+        return listing::push(l, pin_listed(d, line.pin));
     }
-    0
+    l
 }
 
-// The two-candidate pins among the lines that select the chip.
-fn active_twos(d: Description) -> u32
-    ensures { λ r. ⌜ r ≡ twos (activeListed d (chip0 d .control .count)) ⌝ }
-    ensures { λ r. ⌜ r ≤ 255 ⌝ }
+// The list, with the lines that select the chip in Single and Banked.
+fn list_active(d: Description, before: Listing) -> Listing
+    requires { ⌜ (before .count ≤ 16) × (chip0 d .control .count ≤ 8) ⌝ }
+    ensures { λ r. ⌜ (listOf r ≡ listOf before ++ activeListed d (chip0 d .control .count)) × (r .count ≤ 24) ⌝ }
 {
     let chip = d.chip0();
     let lines = chip.control;
     let count = lines.count as usize;
-    let mut bits: u32 = 0;
+    let mut l = before;
     let mut k: usize = 0;
     while k < count {
-        bits += active_bits(d, k);
+        l = push_active(d, l, k);
         k += 1;
     }
-    bits
+    l
 }
 
-// The pin of a line of the kind, else the pin that was found before.
-fn pin_if(line: ControlLine, kind: u8, pin: u8) -> u8
-    ensures { λ r. ⌜ r ≡ cond (eqb (line .kind) kind) (line .pin) pin ⌝ }
-{
-    if line.kind == kind { line.pin } else { pin }
-}
-
-// The pin of a chip's line of a kind, 0 where it has none.
-pub fn pin_of(lines: ControlLines, kind: u8) -> u8
-    ensures { λ r. ⌜ r ≡ pinOf lines kind (lines .count) ⌝ }
-{
-    let count = lines.count as usize;
-    let mut pin: u8 = 0;
-    let mut k: usize = 0;
-    while k < count {
-        pin = pin_if(control_line(lines, k), kind, pin);
-        k += 1;
-    }
-    pin
-}
-
-// The candidates of chip 0's line of a kind, or its fault.
-pub fn kind_listed(d: Description, kind: u8) -> Listed
+// Chip 0's line of a kind; one that is not on the chip is a fault.
+fn kind_listed(d: Description, kind: u8) -> Listed
     ensures { λ r. ⌜ r ≡ kindListed d kind ⌝ }
 {
-    let chip = d.chip0();
-    let lines = chip.control;
-    let pin = pin_of(lines, kind);
+    let pin = kind_pin(d, kind);
     if pin == 0 {
-        return Listed::Fault(Refusal::NoSelectLine);
+        return Listed {
+            gpios: Candidates::Absent,
+            fault: Refusal::NoSelectLine,
+        };
     }
     pin_listed(d, pin)
 }
 
-// The two-candidate pins among the select lines with X1 and X2.
-fn select_twos(d: Description) -> u32
-    ensures { λ r. ⌜ r ≡ twos (selectListed d) ⌝ }
-    ensures { λ r. ⌜ r ≤ 255 ⌝ }
+// The list, with the select lines, X1 and X2.
+fn list_selects(d: Description, before: Listing) -> Listing
+    requires { ⌜ (before .count ≤ 16) × (chip0 d .control .count ≤ 8) ⌝ }
+    ensures { λ r. ⌜ (listOf r ≡ listOf before ++ selectListed d) × (r .count ≤ 24) ⌝ }
 {
     let board = d.board;
     let set_type = d.set_type;
     let multi = d.multi;
     if set_type.is_multi() {
-        let x_twos = listing::x_twos(board, 2 <= d.num_chips, 3 <= d.num_chips);
-        return listing::bits(kind_listed(d, multi.select)) + x_twos;
+        let with_select = listing::push(before, kind_listed(d, multi.select));
+        return listing::push_x(with_select, board, 2 <= d.num_chips, 3 <= d.num_chips);
     }
-    active_twos(d)
+    list_active(d, before)
 }
 
-// The two-candidate pins among the commoned lines of a Multi set.
-fn commoned_lines_twos(d: Description) -> u32
-    ensures { λ r. ⌜ r ≡ twos (tab (d .multi .«num_commoned») (λ k. kindListed d (getD (d .multi .commoned) k 0))) ⌝ }
-    ensures { λ r. ⌜ r ≤ 255 ⌝ }
+fn commoned_kind(d: Description, k: usize) -> u8
+    ensures { λ r. ⌜ r ≡ getD (d .multi .commoned) k 0 ⌝ }
 {
     let multi = d.multi;
     let kinds = multi.commoned;
+    entry(&kinds, k)
+}
+
+// The list, with the commoned lines.
+fn push_commoned(d: Description, selects: Listing) -> Listing
+    requires { ⌜ (selects .count ≤ 24) × (d .multi .«num_commoned» ≤ 6) ⌝ }
+    ensures { λ r. ⌜ (listOf r ≡ listOf selects ++ tab (d .multi .«num_commoned») (λ k. kindListed d (getD (d .multi .commoned) k 0))) × (r .count ≤ 30) ⌝ }
+{
+    let multi = d.multi;
     let count = multi.num_commoned as usize;
-    let mut bits: u32 = 0;
+    let mut l = selects;
     let mut k: usize = 0;
     while k < count {
-        let kind = entry(&kinds, k);
-        bits += listing::bits(kind_listed(d, kind));
+        l = listing::push(l, kind_listed(d, commoned_kind(d, k)));
         k += 1;
     }
-    bits
+    l
 }
 
-// The two-candidate pins among the commoned lines.
-fn commoned_twos(d: Description) -> u32
-    ensures { λ r. ⌜ r ≡ twos (commonedListed d) ⌝ }
-    ensures { λ r. ⌜ r ≤ 255 ⌝ }
+// All the pins that the search numbers.
+pub fn list(d: Description) -> Listing
+    requires { ⌜ (chip0 d .«num_data_pins» ≤ 16) × (chip0 d .control .count ≤ 8) × (isMulti (d .«set_type») ≡ true → d .multi .«num_commoned» ≤ 6) ⌝ }
+    ensures { λ r. ⌜ (listOf r ≡ numbered d) × (r .count ≤ 30) ⌝ }
 {
     let set_type = d.set_type;
+    let selects = list_selects(d, list_data(d));
     if set_type.is_multi() {
-        return commoned_lines_twos(d);
+        return push_commoned(d, selects);
     }
-    0
+    selects
 }
 
-// Whether the select search takes the description.
+// Whether the select search takes the description, the layout handed in aside.
 pub fn in_domain(d: Description) -> bool
     ensures { λ r. ⌜ r ≡ inDomain d ⌝ }
 {
-    description_in(d) & (data_twos(d) + (select_twos(d) + commoned_twos(d)) <= 16)
+    if description_in(d) {
+        return listing::choice_bits(list(d)) <= 16;
+    }
+    false
 }

@@ -6,7 +6,7 @@ use native.Mathlib.Omega.{arith}
 use lib.Dec.{leb, eqb}
 use lib.ListN.{getD}
 use borrow.Author.Tests.{leb-true, eqb-true, lt-leb}
-use Rattle.gpio.proofs.Bools.{and-left, and-right}
+use Rattle.gpio.proofs.Bools.{and-left, and-right, asked}
 use Rattle.gpio.proofs.Each.{each-at}
 use Rattle.slot.specs.Description.{chip0, noChip, isMulti}
 use Rattle.slot.specs.SlotContext.{raisedOf}
@@ -15,9 +15,11 @@ use Rattle.slot.specs.declared.description.Description.{Description}
 use Rattle.domain.specs.Domain.{
   between,
   pinsIn,
+  kindsIn,
   boardIn,
   wordBytesIn,
   maxImageSizeIn,
+  linesIn,
   controlIn,
   chipIn,
   chipsIn,
@@ -98,6 +100,22 @@ module _ (d : Description) (e : descriptionIn d ≡ true) where
       between-is 256 1048576 (d .«max_image_size»)
       (and-right (wordBytesIn (d .«word_bytes»)) (maxImageSizeIn (d .«max_image_size»)) numbers-in)
 
+  -- a Multi set has its configuration, and that is in
+  pub multi-config-in : isMulti (d .«set_type») ≡ true → multiIn (d .multi) ≡ true
+  unfolding multi
+  multi-config-in m =
+      let told = and-left (not (d .«has_multi») || multiIn (d .multi)) (not (isMulti (d .«set_type»)) || d .«has_multi») multi-in in
+      let there = and-right (not (d .«has_multi») || multiIn (d .multi)) (not (isMulti (d .«set_type»)) || d .«has_multi») multi-in in
+      asked (d .«has_multi») (multiIn (d .multi)) told (asked (isMulti (d .«set_type»)) (d .«has_multi») there m)
+
+  pub commoned-lines : isMulti (d .«set_type») ≡ true → d .multi .«num_commoned» ≤ 6
+  commoned-lines m =
+      let c = leb (d .multi .«num_commoned») 6 in
+      let k = kindsIn (d .multi .commoned) (d .multi .«num_commoned») in
+      let i = leb (d .multi .«num_ignored») 6 && kindsIn (d .multi .ignored) (d .multi .«num_ignored») in
+      leb-true (d .multi .«num_commoned») 6
+      (and-left c k (and-right (leb (d .multi .select) 5) (c && k) (and-left (leb (d .multi .select) 5 && (c && k)) i (multi-config-in m))))
+
 -- the parts of a chip that is in
 module _ (c : Chip) (w : ℕ) (e : chipIn c w ≡ true) where
   address : Bool
@@ -124,6 +142,9 @@ module _ (c : Chip) (w : ℕ) (e : chipIn c w ≡ true) where
       let whole = and-right address «data» (and-left (address && «data») (controlIn (c .control)) (and-left (address && «data» && controlIn (c .control)) size e)) in
       between-is 1 16 (c .«num_data_pins») (and-left (between 1 16 (c .«num_data_pins»)) (pinsIn (c .«data_pins») (c .«num_data_pins»)) whole)
 
-  pub control-lines : controlIn (c .control) ≡ true
+  control : controlIn (c .control) ≡ true
   unfolding address «data» size
-  control-lines = and-right (address && «data») (controlIn (c .control)) (and-left (address && «data» && controlIn (c .control)) size e)
+  control = and-right (address && «data») (controlIn (c .control)) (and-left (address && «data» && controlIn (c .control)) size e)
+
+  pub control-lines : c .control .count ≤ 8
+  control-lines = leb-true (c .control .count) 8 (and-left (leb (c .control .count) 8) (linesIn (c .control)) control)

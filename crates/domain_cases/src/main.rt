@@ -1,7 +1,10 @@
 // The edges of the domain, tried through the record: for each number the smallest and the largest that is in, and one
 // past each. A line of output is what was written where, and whether the description was taken.
+use addr_layout::derive_addr_layout;
+use addr_layout::layout::AddrOutcome;
 use libc::STDOUT_FILENO;
 use record::Answer;
+use slot::description::Description;
 use std::num::wrapping_add_u8;
 ghost use Prim.Native.Nat.{_≤_};
 
@@ -240,6 +243,16 @@ fn chips() {
     one(212, 0);
 }
 
+// Whether the address search refuses the description by number 1.
+fn address_taken(d: Description) -> bool {
+    let answer = derive_addr_layout(d);
+    let outcome = answer.outcome;
+    match outcome {
+        AddrOutcome::LaidOut => true,
+        AddrOutcome::Refused(r) => r.number() != 1,
+    }
+}
+
 // The searches' own counts: `lines` two-candidate pins from socket pin `first` on.
 fn searches(set_type: u8, chips: u8, first: usize, lines: usize, x1: u8) {
     if 40 < first {
@@ -262,7 +275,7 @@ fn searches(set_type: u8, chips: u8, first: usize, lines: usize, x1: u8) {
     );
     let decoded = record::decode(&bonded);
     say(b"address search");
-    say_verdict(addr_layout::lines::in_domain(decoded.description));
+    say_verdict(address_taken(decoded.description));
     say(b"select search");
     say_verdict(cs_data_layout::pins::in_domain(decoded.description));
 }

@@ -1,2 +1,3 @@
 pub mod Twos
 pub mod Faults
+pub mod Pushed

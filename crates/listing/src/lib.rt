@@ -86,6 +86,21 @@ pub fn push(l: Listing, pin: Listed) -> Listing
     Listing { pins, count: k + 1 }
 }
 
+// The list, with X1 where `one` asks for it and X2 where `both` does too.
+pub fn push_x(l: Listing, b: Board, one: bool, both: bool) -> Listing
+    requires { ⌜ l .count ≤ 28 ⌝ }
+    ensures { λ r. ⌜ (listOf r ≡ listOf l ++ xPins b one both) × (r .count ≤ l .count + 2) ⌝ }
+{
+    if !one {
+        return l;
+    }
+    let with_x1 = push(l, x_listed(b, 1));
+    if !both {
+        return with_x1;
+    }
+    push(with_x1, x_listed(b, 2))
+}
+
 // 1 for a two-candidate pin, else 0.
 fn bits(pin: Listed) -> u32
     ensures { λ r. ⌜ r ≡ count (twoListed pin) ⌝ }

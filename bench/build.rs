@@ -1,0 +1,81 @@
+//! Has the proved static library built, and links it.
+
+use std::env;
+use std::fs;
+use std::io::ErrorKind;
+use std::path::{Path, PathBuf};
+use std::process::{Command, exit};
+
+const LIBRARY: &str = "onerom";
+
+fn main() {
+    println!("cargo:rerun-if-env-changed=ONEROM_ROOT");
+    println!("cargo:rerun-if-changed=build.rs");
+    let root = root();
+    for sources in ["crates.txt", "crates"] {
+        println!("cargo:rerun-if-changed={}", root.join(sources).display());
+    }
+    check_target();
+    build_library(&root);
+    let out = PathBuf::from(wanted("OUT_DIR"));
+    keep(&root, &out);
+    println!("cargo:rustc-link-search=native={}", out.display());
+    println!("cargo:rustc-link-lib=static={LIBRARY}");
+}
+
+/// Where crates.txt stands: the repository around this package, if nothing else is said.
+fn root() -> PathBuf {
+    match env::var_os("ONEROM_ROOT") {
+        Some(place) => PathBuf::from(place),
+        None => Path::new(&wanted("CARGO_MANIFEST_DIR")).join(".."),
+    }
+}
+
+fn wanted(name: &str) -> String {
+    env::var(name).unwrap_or_else(|_| stop(&format!("cargo does not set {name}")))
+}
+
+fn stop(why: &str) -> ! {
+    eprintln!("bench: {why}");
+    exit(1);
+}
+
+fn check_target() {
+    let system = [
+        wanted("CARGO_CFG_TARGET_ARCH"),
+        wanted("CARGO_CFG_TARGET_OS"),
+    ];
+    if system != ["x86_64", "linux"] {
+        stop("the proved library is built for 64-bit Linux on x86-64 alone");
+    }
+}
+
+fn build_library(root: &Path) {
+    let built = Command::new("rt")
+        .args(["staticlib", LIBRARY])
+        .current_dir(root)
+        .output();
+    match built {
+        Ok(done) if done.status.success() => {}
+        Ok(done) => stop(&format!(
+            "`rt staticlib {LIBRARY}` in {} did not succeed:\n{}{}",
+            root.display(),
+            String::from_utf8_lossy(&done.stdout),
+            String::from_utf8_lossy(&done.stderr)
+        )),
+        Err(why) if why.kind() == ErrorKind::NotFound && root.is_dir() => stop(
+            "`rt` is not on the path. Rattle's toolchain proves the library and builds it; put \
+             its bin folder on the path and build again",
+        ),
+        Err(why) => stop(&format!("`rt` in {}: {why}", root.display())),
+    }
+}
+
+/// Takes a copy of the archive: the gate clears the folder in which `rt` leaves it.
+fn keep(root: &Path, out: &Path) {
+    let name = format!("lib{LIBRARY}.a");
+    let archive = root.join("target/staticlib").join(&name);
+    if let Err(why) = fs::copy(&archive, out.join(&name)) {
+        stop(&format!("{}: {why}", archive.display()));
+    }
+}

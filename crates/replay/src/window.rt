@@ -1,0 +1,19 @@
+// Kind 1: whether a run of GPIOs lies in one window.
+use crate::answer::put;
+use crate::answer::success;
+use crate::case::byte_at;
+use crate::case::has_bytes;
+use gpio::window::Window;
+
+fn bit(b: bool) -> u64 {
+    if b { 1 } else { 0 }
+}
+
+pub fn answer(case: &[u64], ours: &mut [u64]) -> usize {
+    if !has_bytes(case, 3) {
+        return 0;
+    }
+    let fits = Window::fits(byte_at(case, 1), byte_at(case, 2));
+    let n = success(case, ours);
+    put(ours, n, bit(fits))
+}

@@ -1,0 +1,77 @@
+//! The original Rust as the judge, as a library: cases, and who answers them. See README.md.
+
+extern crate alloc;
+
+pub mod answer;
+#[cfg(all(test, original))]
+mod bench_cases;
+pub mod case;
+pub mod description;
+pub mod engine;
+pub mod fields;
+pub mod generate;
+pub mod layout;
+pub mod model;
+mod random;
+pub mod run;
+pub mod slot;
+pub mod tally;
+
+#[cfg(original)]
+pub mod compare;
+#[cfg(original)]
+pub mod differences;
+#[cfg(original)]
+pub mod original;
+#[cfg(original)]
+pub mod smallest;
+#[cfg(original)]
+pub mod stand_in;
+
+// The original's files look for these at their crate's root.
+#[cfg(original)]
+use image::PAD_NO_CHIP_BYTE;
+#[cfg(original)]
+use stand_in::{Error, MAX_IMAGE_SIZE, Result};
+
+#[cfg(original)]
+include!(concat!(env!("OUT_DIR"), "/original.rs"));
+
+use description::Description;
+use engine::{Engine, Told};
+use layout::AddressLayout;
+
+/// What is said where the original cannot answer.
+pub const SKIPPED: &str = "original sources not found: skipped";
+
+/// An address search of the original on one description, to be run any number of times.
+pub type AddressSearch = Box<dyn Fn() -> Told<AddressLayout>>;
+
+/// The original, if its files were there at the build.
+#[cfg(original)]
+pub fn original() -> Option<&'static dyn Engine> {
+    Some(&original::Original)
+}
+
+#[cfg(not(original))]
+pub fn original() -> Option<&'static dyn Engine> {
+    None
+}
+
+/// The original's address search with its records made beforehand, so that a clock sees the
+/// search alone.
+#[cfg(original)]
+pub fn prepared_search(slot: &Description) -> Option<AddressSearch> {
+    Some(original::prepared_search(slot))
+}
+
+#[cfg(not(original))]
+pub fn prepared_search(_slot: &Description) -> Option<AddressSearch> {
+    None
+}
+
+/// Keeps the original's panics from printing: they are answers.
+pub fn quiet_panics() {
+    #[cfg(original)]
+    original::quiet_panics();
+}
