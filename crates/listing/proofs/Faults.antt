@@ -1,11 +1,46 @@
--- The first fault of lists put together. Assumes nothing.
+-- The first fault of lists put together, and what its absence says of each pin. Assumes nothing.
 use mathlib.Core.Path.{_≡_, refl}
 use mathlib.Core.List.{List, [], _∷_, _++_}
+use Prim.Native.Nat.{ℕ, zero, suc, _<_}
+use native.Mathlib.Nat.{le-of-suc-le-suc}
+use native.Mathlib.Omega.{arith}
+use lib.ListN.{length}
+use Rattle.gpio.specs.declared.candidates.Candidates.{Candidates}
+use Rattle.gpio.specs.declared.candidates.Candidates.the-variants.{Absent, One, Two}
+use Rattle.slot.specs.declared.refusal.Refusal.{Refusal}
+use Rattle.listing.specs.Choice.{pinAt}
+use Rattle.listing.specs.declared.FirstFault.the-variants.{None, Of}
 use Rattle.listing.specs.declared.Listed.{Listed}
 use Rattle.listing.specs.declared.FirstFault.{FirstFault}
-use Rattle.listing.specs.Listing.{faultFrom, keepFault}
+use Rattle.listing.specs.Listing.{faultFrom, faultOf, firstFault, keepFault}
 
 pub fault-snoc : (f : FirstFault) (ls : List Listed) (l : Listed) → faultFrom f (ls ++ (l ∷ [])) ≡ keepFault (faultFrom f ls) l
 unfolding faultFrom
 fault-snoc f [] l = refl
 fault-snoc f (x ∷ ls) l = fault-snoc (keepFault f x) ls l
+
+-- a fault once found stays
+found-stays : (r : Refusal) (ls : List Listed) → faultFrom (Of r) ls ≡ Of r
+unfolding faultFrom
+found-stays r [] = refl
+found-stays r (l ∷ ls) = found-stays r ls
+
+fault-first : (r : Refusal) (ls : List Listed) → faultFrom (Of r) ls ≡ None → ⊥
+fault-first r ls e =
+    let f = found-stays r ls in
+    let z : _≡_ {A = ℕ} 0 1 = cc in
+    omega arith
+
+module _ (l : Listed) (ls : List Listed) where
+  -- without a fault the first pin has candidates, and so have the others
+  head-tail : (g : Candidates) → faultFrom (faultOf g (l .fault)) ls ≡ None → (g ≡ Absent → ⊥) × (faultFrom None ls ≡ None)
+  head-tail Absent e = absurd (fault-first (l .fault) ls e)
+  head-tail (One g) e = (λ q. let z : _≡_ {A = ℕ} 0 1 = cc in omega arith, e)
+  head-tail (Two g h) e = (λ q. let z : _≡_ {A = ℕ} 0 1 = cc in omega arith, e)
+
+-- without a fault each pin has candidates
+pub no-fault-at : (ls : List Listed) → firstFault ls ≡ None → (k : ℕ) → k < length ls → pinAt ls k ≡ Absent → ⊥
+unfolding faultFrom
+no-fault-at [] e k h q = omega arith
+no-fault-at (l ∷ ls) e zero h q = head-tail l ls (l .gpios) e .0 q
+no-fault-at (l ∷ ls) e (suc k) h q = no-fault-at ls (head-tail l ls (l .gpios) e .1) k (le-of-suc-le-suc h) q

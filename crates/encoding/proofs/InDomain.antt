@@ -15,7 +15,7 @@ use Rattle.slot.specs.SlotContext.{boardPinsIn, raisedOf}
 use Rattle.slot.specs.declared.description.Board.{Board}
 use Rattle.slot.specs.declared.description.Description.{Description}
 use Rattle.domain.specs.Domain.{socketIn, boardIn, wordBytesIn, maxImageSizeIn, descriptionIn}
-use Rattle.record.specs.Encoded.{pinOf}
+use Rattle.encoding.specs.Encoded.{pinOf}
 
 -- "GPIO 0 to 47."
 abbrev pub GpiosIn : Candidates → Type 0

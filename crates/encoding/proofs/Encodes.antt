@@ -55,8 +55,8 @@ use Rattle.record.specs.Record.{
   decodedOf,
 }
 use Rattle.slot.specs.Description.{noPin, noLine, noChip}
-use Rattle.record.specs.Encoded.{field, joined, fourBytes, pairBytes, pairField, setTypeByte, offsetByte, logicByte, settingByte, csConfigBytes, multiBytes, pinOf, lineOf, chipOf, boardBytes, lineBytes, chipBytes, headBytes, encoded, Bytes, ValuedBoard, ValuedChip, ValuedMulti, Valued}
-use Rattle.record.proofs.InDomain.{GpiosIn, OffsetIn, EncodableBoard, Encodable, in-domain}
+use Rattle.encoding.specs.Encoded.{field, joined, fourBytes, pairBytes, pairField, setTypeByte, offsetByte, logicByte, settingByte, csConfigBytes, multiBytes, pinOf, lineOf, chipOf, boardBytes, lineBytes, chipBytes, headBytes, encoded, Bytes, ValuedBoard, ValuedChip, ValuedMulti, Valued}
+use Rattle.encoding.proofs.InDomain.{GpiosIn, OffsetIn, EncodableBoard, Encodable, in-domain}
 
 -- lists of bytes
 

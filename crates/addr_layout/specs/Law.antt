@@ -1,0 +1,52 @@
+-- Demand 2's law of the address search, and what a found layout keeps. Assumes nothing.
+use mathlib.Core.Path.{_≡_}
+use mathlib.Core.Bool.{Bool, true}
+use mathlib.Core.List.{List}
+use mathlib.Core.Logic.{_⊎_}
+use Prim.Native.Nat.{ℕ, _+_, _^_, _≤_, _<_}
+use lib.ListN.{length}
+use Rattle.gpio.specs.Window.{fits}
+use Rattle.gpio.specs.declared.candidates.Candidates.{Candidates}
+use Rattle.gpio.specs.declared.candidates.Candidates.the-variants.{Absent, One, Two}
+use Rattle.slot.specs.declared.description.Description.{Description}
+use Rattle.listing.specs.Listing.{twos, firstFault}
+use Rattle.listing.specs.Choice.{pinAt, gpioAt}
+use Rattle.listing.specs.declared.FirstFault.the-variants.{None}
+use Rattle.search.specs.Law.{Best}
+use Rattle.addr_layout.specs.Lines.{lines, addrListed}
+use Rattle.addr_layout.specs.Choices.{inRange, spanned, addrTrial, layoutOf}
+use Rattle.addr_layout.specs.Search.{inDomain, addrAnswer}
+use Rattle.addr_layout.specs.declared.layout.AddrLayout.{AddrLayout}
+use Rattle.addr_layout.specs.declared.layout.AddrOutcome.the-variants.{LaidOut}
+
+-- "once 01's earlier tests are past"
+pub record PastTests (d : Description) : Type 0 where
+  pub domain : inDomain d ≡ true
+  pub no-fault : firstFault (addrListed d) ≡ None
+
+-- how many choices there are
+abbrev pub choices : Description → ℕ
+choices d = 2 ^ twos (addrListed d)
+
+-- the layout found is that of choice c, which fits with score s; no fitting choice scores lower, every earlier one higher
+pub record LaidOutBest (d : Description) (c s : ℕ) : Type 0 where
+  pub answer : addrAnswer d ≡ record { outcome = LaidOut; layout = layoutOf d (addrListed d) c }
+  pub best : Best (addrTrial d) (choices d) c s
+
+-- a GPIO is one of a pin's candidates
+abbrev pub CandidateOf : Candidates → ℕ → Type 0
+CandidateOf Absent g = ⊥
+CandidateOf (One a) g = g ≡ a
+CandidateOf (Two a b) g = (g ≡ a) ⊎ (g ≡ b)
+
+-- what the layout of a choice that fits keeps
+pub record Sound (d : Description) (c : ℕ) : Type 0 where
+  -- the window is one of the PIO's, and at least 8 wide
+  pub window : fits (layoutOf d (addrListed d) c .«gpio_base») (layoutOf d (addrListed d) c .«num_addr_pins») ≡ true
+  pub wide : 8 ≤ layoutOf d (addrListed d) c .«num_addr_pins»
+  -- the base is the lowest of the GPIOs that are spanned, and each of them is in the window
+  pub inside : (k : ℕ) → k < length (addrListed d) → spanned (inRange d) (lines d) k ≡ true
+      → (layoutOf d (addrListed d) c .«gpio_base» ≤ gpioAt (addrListed d) c k)
+      × (gpioAt (addrListed d) c k < layoutOf d (addrListed d) c .«gpio_base» + layoutOf d (addrListed d) c .«num_addr_pins»)
+  -- each listed pin's GPIO is a candidate of its pin
+  pub candidate : (k : ℕ) → k < length (addrListed d) → CandidateOf (pinAt (addrListed d) k) (gpioAt (addrListed d) c k)
