@@ -22,6 +22,8 @@ pub mod compare;
 #[cfg(original)]
 pub mod differences;
 #[cfg(original)]
+pub mod list;
+#[cfg(original)]
 pub mod original;
 #[cfg(original)]
 pub mod smallest;

@@ -7,7 +7,8 @@ use crate::answer::answer;
 use crate::case::Case;
 use crate::model::Model;
 use crate::original::Original;
-use crate::{Run, differences, generate};
+use crate::run::Run;
+use crate::{differences, generate};
 
 /// Writes `case : answer` for each case. Stops and fails at a difference that is on no list.
 pub fn list(run: &Run) -> io::Result<ExitCode> {

@@ -1,72 +1,35 @@
 //! The original Rust as the judge: cases in, answers out. See README.md.
 
-extern crate alloc;
-
-mod answer;
-#[cfg(all(test, original))]
-mod bench_cases;
-mod case;
-mod description;
-mod engine;
-mod fields;
-mod generate;
-mod layout;
-mod model;
-mod random;
-mod slot;
-mod tally;
-
-#[cfg(original)]
-mod compare;
-#[cfg(original)]
-mod differences;
-#[cfg(original)]
-mod list;
-#[cfg(original)]
-mod original;
-#[cfg(original)]
-mod smallest;
-#[cfg(original)]
-mod stand_in;
-
-// The original's files look for these at their crate's root.
-#[cfg(original)]
-use image::PAD_NO_CHIP_BYTE;
-#[cfg(original)]
-use stand_in::{Error, MAX_IMAGE_SIZE, Result};
-
-#[cfg(original)]
-include!(concat!(env!("OUT_DIR"), "/original.rs"));
-
 use std::io::{self, BufRead, BufWriter, Write};
 use std::process::ExitCode;
 
-use case::Case;
-use engine::Engine;
+use oracle::case::Case;
+use oracle::engine::Engine;
+use oracle::run::Run;
+use oracle::{answer, generate, model, tally};
 
 const USAGE: &str = "oracle answer | oracle model | oracle generate SEED COUNT [KINDS] | \
     oracle compare SEED COUNT [KINDS] | oracle list SEED COUNT [KINDS] | oracle differences | \
     oracle tally";
 
 fn main() -> ExitCode {
-    #[cfg(original)]
-    original::quiet_panics();
+    oracle::quiet_panics();
     let words: Vec<String> = std::env::args().skip(1).collect();
     let words: Vec<&str> = words.iter().map(String::as_str).collect();
     let done = match words[..] {
         ["answer"] => answer_original(),
         ["model"] => answer_with(&model::Model).map(|()| ExitCode::SUCCESS),
         ["differences"] => Ok(print_differences()),
-        ["tally"] => tally().map(|()| ExitCode::SUCCESS),
-        ["generate", seed, count, ref kinds @ ..] => match run(seed, count, kinds) {
-            Some(run) => generate(&run).map(|()| ExitCode::SUCCESS),
+        ["tally"] => count_answers().map(|()| ExitCode::SUCCESS),
+        ["generate", seed, count, ref kinds @ ..] => match Run::read(seed, count, kinds) {
+            Some(run) => write_cases(&run).map(|()| ExitCode::SUCCESS),
             None => Ok(usage()),
         },
-        ["compare", seed, count, ref kinds @ ..] => match run(seed, count, kinds) {
+        ["compare", seed, count, ref kinds @ ..] => match Run::read(seed, count, kinds) {
             Some(run) => Ok(compare_run(&run)),
             None => Ok(usage()),
         },
-        ["list", seed, count, ref kinds @ ..] => match run(seed, count, kinds) {
+        ["list", seed, count, ref kinds @ ..] => match Run::read(seed, count, kinds) {
             Some(run) => list_run(&run),
             None => Ok(usage()),
         },
@@ -80,31 +43,7 @@ fn usage() -> ExitCode {
     ExitCode::FAILURE
 }
 
-struct Run {
-    seed: u64,
-    count: u64,
-    kinds: Vec<u64>,
-}
-
-/// Kinds are digits in a row, as 579; none named is all.
-fn run(seed: &str, count: &str, kinds: &[&str]) -> Option<Run> {
-    let digits = match kinds {
-        [] => "123456789",
-        [digits] => digits,
-        _ => return None,
-    };
-    let kinds: Option<Vec<u64>> = digits
-        .chars()
-        .map(|digit| digit.to_digit(10).map(u64::from))
-        .collect();
-    Some(Run {
-        seed: seed.parse().ok()?,
-        count: count.parse().ok()?,
-        kinds: kinds.filter(|kinds| kinds.iter().all(|kind| (1..=9).contains(kind)))?,
-    })
-}
-
-fn generate(run: &Run) -> io::Result<()> {
+fn write_cases(run: &Run) -> io::Result<()> {
     let mut out = BufWriter::new(io::stdout().lock());
     for number in 0..run.count {
         writeln!(
@@ -127,7 +66,7 @@ fn answer_with(engine: &dyn Engine) -> io::Result<()> {
     out.flush()
 }
 
-fn tally() -> io::Result<()> {
+fn count_answers() -> io::Result<()> {
     let mut tally = tally::Tally::default();
     for line in io::stdin().lock().lines() {
         tally.add(&line?);
@@ -138,28 +77,28 @@ fn tally() -> io::Result<()> {
 
 #[cfg(original)]
 fn answer_original() -> io::Result<ExitCode> {
-    answer_with(&original::Original).map(|()| ExitCode::SUCCESS)
+    answer_with(&oracle::original::Original).map(|()| ExitCode::SUCCESS)
 }
 
 #[cfg(original)]
 fn compare_run(run: &Run) -> ExitCode {
-    compare::compare(run)
+    oracle::compare::compare(run)
 }
 
 #[cfg(original)]
 fn list_run(run: &Run) -> io::Result<ExitCode> {
-    list::list(run)
+    oracle::list::list(run)
 }
 
 #[cfg(original)]
 fn print_differences() -> ExitCode {
-    smallest::print();
+    oracle::smallest::print();
     ExitCode::SUCCESS
 }
 
 #[cfg(not(original))]
 fn skipped() -> ExitCode {
-    println!("original sources not found: skipped");
+    println!("{}", oracle::SKIPPED);
     ExitCode::SUCCESS
 }
 

@@ -9,6 +9,7 @@ mod window; // kind 1
 mod offset; // kind 2
 mod preference; // kind 3
 mod multi; // kind 4
+mod address; // kind 5
 
 use crate::line::Line;
 use libc::STDIN_FILENO;

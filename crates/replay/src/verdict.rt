@@ -1,4 +1,5 @@
 // A line of the list, judged: its case is run by its kind, and our answer compared with the one beside it.
+use crate::address;
 use crate::answer;
 use crate::case::number_at;
 use crate::line::Line;
@@ -21,6 +22,7 @@ fn answered(case: &[u64], ours: &mut [u64]) -> usize {
         2 => offset::answer(case, ours),
         3 => preference::answer(case, ours),
         4 => multi::answer(case, ours),
+        5 => address::answer(case, ours),
         _ => 0,
     }
 }

@@ -57,7 +57,13 @@ fn multi(multi: &Multi) -> bool {
     multi.select <= 5 && lines(&multi.commoned) && lines(&multi.ignored)
 }
 
+/// The domain of both searches: each has its own bound on two-candidate pins.
 pub fn description(slot: &Description) -> bool {
+    address_search(slot) && select_choices(slot) <= MOST_CHOICES
+}
+
+/// The domain of the address search alone.
+pub fn address_search(slot: &Description) -> bool {
     let numbers = board_pins(slot.board_pins)
         && slot.set_type <= MULTI
         && (1..=2).contains(&slot.word_bytes)
@@ -71,7 +77,6 @@ pub fn description(slot: &Description) -> bool {
         && slot.multi.as_ref().is_none_or(multi)
         && (slot.set_type != MULTI || slot.multi.is_some())
         && address_choices(slot) <= MOST_CHOICES
-        && select_choices(slot) <= MOST_CHOICES
 }
 
 fn twos(pins: impl IntoIterator<Item = Pin>) -> usize {

@@ -1,0 +1,35 @@
+-- A record stored part by part: each part is copied over what stands behind the parts before it. Assumes nothing.
+use mathlib.Core.Path.{_≡_}
+use mathlib.Core.List.{List, append-assoc, append-nil, _++_}
+use Prim.Native.Nat.{ℕ, _+_, _-_, _≤_}
+use native.Mathlib.Omega.{arith}
+use borrow.Rule.Slice.PartMut.{putMid}
+use lib.ListN.{length, take, drop, length-append, length-take, length-drop, drop-of-length-le}
+use lib.Seq.{take-at, drop-at, take-all, take-length, drop-drop}
+
+-- what stands from a on holds the part
+pub room : (part now : List ℕ) (a k : ℕ) → length part ≡ k → a + k ≤ length now → length part ≤ length (take (length now - a) (drop a now))
+room part now a k e h = simp (length-take, length-drop) (omega arith)
+
+-- a part copied to the front
+pub first-part : (part old new : List ℕ) → new ≡ take (length part) part ++ drop (length part) old → new ≡ part ++ drop (length part) old
+first-part part old new e = rw take-length at e
+
+module _ (front part old now lent : List ℕ) (a k : ℕ) (ea : length front ≡ a) (ek : length part ≡ k) (h : a + k ≤ length old)
+    (e : now ≡ front ++ drop a old)
+    (el : lent ≡ take (length part) part ++ drop (length part) (take (length now - a) (drop a now))) where
+  same-length : length now ≡ length old
+  same-length = rw (e, length-append, ea, length-drop) (omega arith)
+
+  behind : drop a now ≡ drop a old
+  behind = rw (e, drop-at front (drop a old) a ea)
+
+  before : take a now ≡ front
+  before = rw (e, take-at front (drop a old) a ea)
+
+  -- a part copied behind a front that has a bytes
+  pub next-part : putMid a (length now - a) now lent ≡ (front ++ part) ++ drop (a + k) old
+  next-part =
+      let all : take (length old - a) (drop a old) ≡ drop a old = take-all (length old - a) (drop a old) (simp length-drop (omega arith)) in
+      let none = drop-of-length-le (drop a old) {i = length old - a} (simp length-drop (omega arith)) in
+      rw (el, before, behind, same-length, all, none, take-length, ek, drop-drop, append-nil) (simp append-assoc)

@@ -1,0 +1,20 @@
+-- `packed` meets its contract. Assumes nothing.
+use borrow.Author.Needs.{needs}
+use Rattle.onerom.specs.Packed.{packed}
+use Rattle.onerom.proofs.refused.packed.Statement.{statement}
+use Rattle.onerom.proofs.refused.packed.Tie as tie
+
+returns : tie.Need-returns
+unfolding packed
+returns c = search needs
+
+pub packed-spec : {M : Type 1} → statement M
+packed-spec =
+    tie.close
+    (tie.spec
+    (λ c κs. search needs)
+    (λ c. search needs)
+    (λ c. search needs)
+    (λ c κs. search needs)
+    (λ c. search needs)
+    returns)

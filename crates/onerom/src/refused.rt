@@ -1,0 +1,11 @@
+// A refusal as one number, for a caller that has no enums.
+use slot::refusal::Refusal;
+ghost use mathlib.Core.Path.{_≡_};
+ghost use Rattle.onerom.specs.Packed.{packed};
+
+// The number stands above the 48 bits of the place: no call has a place that needs more.
+pub fn packed(why: Refusal) -> u64
+    ensures { λ r. ⌜ r ≡ packed why ⌝ }
+{
+    why.number() as u64 * 0x1_0000_0000_0000 + why.place() % 0x1_0000_0000_0000
+}

@@ -1,0 +1,85 @@
+/*
+ * The calls of Tartankerb for C. docs/INTERFACE.md has the records byte by byte.
+ *
+ * A buffer is a pointer and its length in bytes. The pointer has to be good for that many bytes, and two buffers of one
+ * call must not overlap. No alignment is asked, nothing is kept after the call, and calls on different buffers may run
+ * side by side. The library is for x86-64.
+ */
+#ifndef ONEROM_H
+#define ONEROM_H
+
+#include <stddef.h>
+#include <stdint.h>
+
+#ifdef __cplusplus
+extern "C" {
+#endif
+
+/* Lengths of the records. A description has to have just this length; a buffer for a layout may be longer. */
+enum {
+    ONEROM_DESCRIPTION_SIZE = 424,
+    ONEROM_ADDR_LAYOUT_SIZE = 36
+};
+
+/* A GPIO byte of a record that names none. */
+enum { ONEROM_GPIO_NONE = 255 };
+
+/* Numbers of the refusals, and what the place is that goes with each; 0 where nothing is named. */
+enum onerom_refusal {
+    ONEROM_OUT_OF_DOMAIN = 1,              /* a record of another length, or a number in it that is not allowed */
+    ONEROM_NO_SELECT_LINE = 2,
+    ONEROM_UNMAPPED_PIN = 3,               /* the pin: socket pin in the address search, chip pin in the select search */
+    ONEROM_MISSING_X_PIN = 4,              /* 1 or 2: X1 or X2 */
+    ONEROM_MISSING_ADDR_PIN_GPIOS = 5,
+    ONEROM_ROM_TOO_LARGE_NO_CS_CONFIG = 6,
+    ONEROM_NON_CONTIGUOUS_SELECT = 7,      /* the GPIOs, bit g for GPIO g */
+    ONEROM_INTERIOR_IGNORED_LINE = 8,      /* the GPIO */
+    ONEROM_NO_VALID_LAYOUT = 9,
+    ONEROM_INCOMPATIBLE_PIN_COUNT = 10,
+    ONEROM_ROM_TABLE_TOO_LARGE = 11,
+    ONEROM_INVALID_CONFIG = 12,
+    ONEROM_BAD_POSITION = 13,
+    ONEROM_MISSING_IMAGE_DATA = 14,        /* the chip, from 0 */
+    ONEROM_SHORT_IMAGE_DATA = 15,          /* the chip, from 0 */
+    ONEROM_SHORT_BUFFER = 16,              /* lend a longer buffer: the sizes above */
+    ONEROM_WRONG_SIZE = 17,
+    ONEROM_UNKNOWN_SLOT_TYPE = 18,
+    ONEROM_MISSING_LAYOUT = 19,
+    ONEROM_UNKNOWN_ALGORITHM = 20,
+    ONEROM_BAD_LAYOUT = 21,
+    ONEROM_X_PIN = 22,                     /* 1 or 2: X1 or X2 */
+    ONEROM_INCONSISTENT = 23,              /* ROM * 2^32 + address */
+    ONEROM_UNSERVED = 24,                  /* ROM * 2^32 + address */
+    ONEROM_NO_ACTIVE_LINE = 25
+};
+
+/* The refusal's number in a call's result: 0 if the call succeeded. */
+static inline unsigned onerom_number(uint64_t result)
+{
+    return (unsigned)(result >> 48);
+}
+
+/* The place in a refused call's result. */
+static inline uint64_t onerom_place(uint64_t result)
+{
+    return result & ((UINT64_C(1) << 48) - 1);
+}
+
+/*
+ * Finds the address layout of the slot that a description record describes.
+ *
+ * Returns 0 if there is one: the first ONEROM_ADDR_LAYOUT_SIZE bytes of layout are then its record, and later bytes are
+ * as before. Otherwise nothing is written, and onerom_number of the result is one of:
+ *   ONEROM_OUT_OF_DOMAIN     correct the record;
+ *   ONEROM_UNMAPPED_PIN      give the socket pin that the place names a GPIO;
+ *   ONEROM_MISSING_X_PIN     give X1 or X2, as the place says, a GPIO;
+ *   ONEROM_NO_VALID_LAYOUT   a line off the socket that no X pin takes, or no choice of GPIOs lies in one PIO window;
+ *   ONEROM_SHORT_BUFFER      there is a layout: lend ONEROM_ADDR_LAYOUT_SIZE bytes.
+ */
+uint64_t onerom_derive_addr_layout(const uint8_t *description, size_t description_len, uint8_t *layout, size_t layout_len);
+
+#ifdef __cplusplus
+}
+#endif
+
+#endif
