@@ -1,6 +1,8 @@
-// The edges of the domain, tried through the record: for each number the smallest and the largest that is in, and one
-// past each. A line of output is what was written where, and whether the description was taken.
+// Cases through the record. The edges of the domain: for each number the smallest and the largest that is in, and one past
+// each; a line of output is what was written where, and whether the description was taken. Then document 01's bench cases
+// of the address search.
 use addr_layout::derive_addr_layout;
+use addr_layout::layout::AddrLayout;
 use addr_layout::layout::AddrOutcome;
 use libc::STDOUT_FILENO;
 use record::Answer;
@@ -280,6 +282,31 @@ fn searches(set_type: u8, chips: u8, first: usize, lines: usize, x1: u8) {
     say_verdict(cs_data_layout::pins::in_domain(decoded.description));
 }
 
+fn say_layout(layout: AddrLayout) {
+    let gpios = layout.gpios;
+    say(b"third line at ");
+    say_number(gpios[2] as u64);
+    say(b", score ");
+    say_number(layout.num_addr_pins as u64 * 1000 + layout.gpio_base as u64);
+    say(b"\n");
+}
+
+// The sample with three address lines, the third with a second candidate.
+fn three_lines(first: u8, second: u8, third: u8, or: u8) {
+    let few = with(with(with(sample(), 140, 3), 52, first), 54, second);
+    let decoded = record::decode(&with(with(few, 56, third), 57, or));
+    let answer = derive_addr_layout(decoded.description);
+    let outcome = answer.outcome;
+    match outcome {
+        AddrOutcome::LaidOut => say_layout(answer.layout),
+        AddrOutcome::Refused(r) => {
+            say(b"number ");
+            say_number(r.number() as u64);
+            say(b"\n");
+        }
+    }
+}
+
 fn main() {
     board();
     numbers();
@@ -296,4 +323,7 @@ fn main() {
     searches(2, 2, 22, 15, 4);
     searches(2, 2, 21, 16, 4);
     searches(2, 1, 21, 16, 4);
+    say(b"address search\n");
+    three_lines(45, 46, 47, 255);
+    three_lines(8, 15, 9, 10);
 }

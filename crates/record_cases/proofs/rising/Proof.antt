@@ -4,8 +4,8 @@ use Prim.Native.Nat.{_≤_, _-_}
 use native.Mathlib.Omega.{arith}
 use lib.ListN.{length, length-set}
 use borrow.Author.Needs.{needs}
-use Rattle.domain_cases.proofs.rising.Statement.{statement}
-use Rattle.domain_cases.proofs.rising.Tie as tie
+use Rattle.record_cases.proofs.rising.Statement.{statement}
+use Rattle.record_cases.proofs.rising.Tie as tie
 
 abbrev Inv-loop : tie.InvT-loop
 Inv-loop from to step value out₀ at₀ x₀ out at x = (to ≤ 424) × (1 ≤ step) × (step ≤ 3) × (length out ≡ 424)
