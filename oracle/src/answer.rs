@@ -80,6 +80,9 @@ fn described(record: &Record) -> Told<Description> {
 }
 
 fn address_search(engine: &dyn Engine, slot: &Description) -> Told<AddressLayout> {
+    if !domain::address_search(slot) {
+        return refused(1, 0);
+    }
     engine.address_search(slot)
 }
 
@@ -88,7 +91,9 @@ fn select_search(
     slot: &Description,
     address: Option<&AddressLayout>,
 ) -> Told<SelectLayout> {
-    if !address.is_none_or(|layout| domain::address_layout(slot, layout)) {
+    if !domain::select_search(slot)
+        || !address.is_none_or(|layout| domain::address_layout(slot, layout))
+    {
         return refused(1, 0);
     }
     engine.select_search(slot, address)

@@ -79,7 +79,7 @@ impl Description {
                 lines: bytes[17..23].try_into().expect("six settings"),
             },
             multi: read_multi(bytes)?,
-            qualifiers: bytes[44..52].get(..usize::from(bytes[6]))?.to_vec(),
+            qualifiers: read_qualifiers(bytes),
             socket: std::array::from_fn(|n| pin(52 + 2 * n)),
             x: [pin(132), pin(134)],
             chips: read_chips(bytes)?,
@@ -135,6 +135,16 @@ fn put(target: &mut [u8], bytes: &[u8]) {
     target[..bytes.len()].copy_from_slice(bytes);
 }
 
+/// Only some calls test the list, so a count past its places is no fault here: it reads as that many
+/// indices of no line.
+fn read_qualifiers(bytes: &[u8; LENGTH]) -> Vec<u8> {
+    let count = usize::from(bytes[6]);
+    match bytes[44..52].get(..count) {
+        Some(indices) => indices.to_vec(),
+        None => vec![NONE; count],
+    }
+}
+
 fn read_multi(bytes: &[u8; LENGTH]) -> Option<Option<Multi>> {
     if bytes[7] == 0 {
         return Some(None);
@@ -147,21 +157,26 @@ fn read_multi(bytes: &[u8; LENGTH]) -> Option<Option<Multi>> {
 }
 
 fn read_chips(bytes: &[u8; LENGTH]) -> Option<Vec<Chip>> {
+    let chips = bytes[136..].chunks_exact(72);
     let count = usize::from(bytes[5]);
-    (count <= 4).then_some(())?;
-    bytes[136..]
-        .chunks_exact(72)
-        .take(count)
-        .map(read_chip)
-        .collect()
+    if count > 4 || !chips.clone().all(kept_free) {
+        return None;
+    }
+    chips.take(count).map(read_chip).collect()
+}
+
+/// The places kept for later are 0 in every chip and line, past their counts too.
+fn kept_free(chip: &[u8]) -> bool {
+    let levels = chip[48..72].chunks_exact(3).map(|line| line[2]);
+    levels.chain([chip[7]]).all(|byte| byte == 0)
 }
 
 fn read_chip(bytes: &[u8]) -> Option<Chip> {
-    let lines = bytes[48..72].chunks_exact(3);
-    let control = lines.take(usize::from(bytes[6]));
-    if bytes[7] != 0 || bytes[6] > 8 || control.clone().any(|line| line[2] != 0) {
+    if bytes[6] > 8 {
         return None;
     }
+    let lines = bytes[48..72].chunks_exact(3);
+    let control = lines.take(usize::from(bytes[6]));
     Some(Chip {
         size: u32::from_le_bytes(bytes[..4].try_into().expect("four bytes")),
         address_pins: bytes[8..32].get(..usize::from(bytes[4]))?.to_vec(),

@@ -456,7 +456,7 @@ fn faults(random: &mut Random, slot: &mut Description) {
 
 /// Takes second candidates away until no search lists more than 16.
 fn within_choices(random: &mut Random, slot: &mut Description) {
-    while !domain::description(slot) {
+    while !(domain::address_search(slot) && domain::select_search(slot)) {
         let pin = random.below(42);
         let pin = if pin < 40 {
             &mut slot.socket[pin]

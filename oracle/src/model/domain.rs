@@ -57,13 +57,8 @@ fn multi(multi: &Multi) -> bool {
     multi.select <= 5 && lines(&multi.commoned) && lines(&multi.ignored)
 }
 
-/// The domain of both searches: each has its own bound on two-candidate pins.
+/// What every call asks of a description.
 pub fn description(slot: &Description) -> bool {
-    address_search(slot) && select_choices(slot) <= MOST_CHOICES
-}
-
-/// The domain of the address search alone.
-pub fn address_search(slot: &Description) -> bool {
     let numbers = board_pins(slot.board_pins)
         && slot.set_type <= MULTI
         && (1..=2).contains(&slot.word_bytes)
@@ -76,7 +71,15 @@ pub fn address_search(slot: &Description) -> bool {
         && slot.chips.iter().all(|one| chip(one, slot.word_bytes))
         && slot.multi.as_ref().is_none_or(multi)
         && (slot.set_type != MULTI || slot.multi.is_some())
-        && address_choices(slot) <= MOST_CHOICES
+}
+
+/// Each search has its own bound on the two-candidate pins that it lists.
+pub fn address_search(slot: &Description) -> bool {
+    description(slot) && address_choices(slot) <= MOST_CHOICES
+}
+
+pub fn select_search(slot: &Description) -> bool {
+    description(slot) && select_choices(slot) <= MOST_CHOICES
 }
 
 fn twos(pins: impl IntoIterator<Item = Pin>) -> usize {

@@ -1,0 +1,81 @@
+//! The bench program: lays out the sample or a described board, compares and measures.
+
+mod compare;
+mod speed;
+
+use std::ffi::OsString;
+use std::io::Write;
+use std::path::Path;
+use std::process::ExitCode;
+
+use onerom_bench::{derive_addr_layout, show, text};
+
+const SAMPLE: &str = include_str!("../sample/2764.txt");
+
+const USAGE: &str = "bench            lay out the sample, a 2764 on a 28-pin board
+bench FILE       lay out the slot that the file describes
+bench compare SEED COUNT
+                 hold the library against the original and the model
+bench speed      measure the library and the original";
+
+/// A file that is no description, or words that are no command.
+const UNREAD: u8 = 2;
+
+fn main() -> ExitCode {
+    let given: Vec<OsString> = std::env::args_os().skip(1).collect();
+    let words: Vec<&str> = given
+        .iter()
+        .map(|word| word.to_str().unwrap_or(""))
+        .collect();
+    match words[..] {
+        [] => lay_out("sample", SAMPLE.as_bytes()),
+        ["speed"] => speed::speed(),
+        ["compare", seed, count] => match (seed.parse(), count.parse()) {
+            (Ok(seed), Ok(count)) => compare::compare(seed, count),
+            _ => usage(),
+        },
+        [word] if word != "compare" && !word.starts_with('-') => lay_out_file(Path::new(&given[0])),
+        _ => usage(),
+    }
+}
+
+fn usage() -> ExitCode {
+    eprintln!("{USAGE}");
+    ExitCode::from(UNREAD)
+}
+
+fn lay_out_file(file: &Path) -> ExitCode {
+    match std::fs::read(file) {
+        Ok(bytes) => lay_out(&file.display().to_string(), &bytes),
+        Err(why) => {
+            eprintln!("{}: {why}", file.display());
+            ExitCode::from(UNREAD)
+        }
+    }
+}
+
+fn lay_out(name: &str, bytes: &[u8]) -> ExitCode {
+    let slot = match text::read_bytes(bytes) {
+        Ok(slot) => slot,
+        Err(why) => {
+            eprintln!("{name}, {why}");
+            return ExitCode::from(UNREAD);
+        }
+    };
+    match derive_addr_layout(&slot.to_bytes()) {
+        Ok(layout) => {
+            say(&show::summary(&slot, &layout));
+            say(&show::table(&layout));
+            ExitCode::SUCCESS
+        }
+        Err(refusal) => {
+            say(&format!("refused: {refusal}\n"));
+            ExitCode::FAILURE
+        }
+    }
+}
+
+/// Writes to the standard output. A reader who has gone away is no fault.
+fn say(text: &str) {
+    let _ = std::io::stdout().write_all(text.as_bytes());
+}

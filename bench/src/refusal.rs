@@ -1,0 +1,202 @@
+//! Refusals: numbers, names and what they mean.
+
+use std::fmt;
+
+/// Why a call gave no result.
+#[derive(Debug, Clone, Copy, PartialEq, Eq)]
+pub struct Refusal {
+    pub number: u16,
+    pub name: &'static str,
+    pub place: u64,
+}
+
+/// What the place of a refusal counts.
+#[derive(Debug, Clone, Copy, PartialEq, Eq)]
+enum Place {
+    Nothing,
+    Pin,
+    XPin,
+    GpioSet,
+    Gpio,
+    Chip,
+    RomWord,
+}
+
+struct Row {
+    name: &'static str,
+    meaning: &'static str,
+    place: Place,
+}
+
+const fn row(name: &'static str, place: Place, meaning: &'static str) -> Row {
+    Row {
+        name,
+        meaning,
+        place,
+    }
+}
+
+/// Number n at place n - 1.
+const ROWS: [Row; 25] = [
+    row(
+        "OutOfDomain",
+        Place::Nothing,
+        "a number is outside what any board or chip can have",
+    ),
+    row("NoSelectLine", Place::Nothing, "no line selects the chip"),
+    row("UnmappedPin", Place::Pin, "a needed pin has no GPIO"),
+    row("MissingXPin", Place::XPin, "a needed X pin has no GPIO"),
+    row(
+        "MissingAddrPinGpios",
+        Place::Nothing,
+        "qualifiers are given without an address layout",
+    ),
+    row(
+        "RomTooLargeNoCsConfig",
+        Place::Nothing,
+        "excess address lines need cs1, which is ignored",
+    ),
+    row(
+        "NonContiguousSelect",
+        Place::GpioSet,
+        "the select GPIOs leave a gap that cannot be served",
+    ),
+    row(
+        "InteriorIgnoredLine",
+        Place::Gpio,
+        "an ignored line lies between the select lines",
+    ),
+    row(
+        "NoValidLayout",
+        Place::Nothing,
+        "no choice of GPIOs fits one PIO window",
+    ),
+    row(
+        "IncompatiblePinCount",
+        Place::Nothing,
+        "the chip does not go into this socket",
+    ),
+    row(
+        "RomTableTooLarge",
+        Place::Nothing,
+        "the table is larger than the limit",
+    ),
+    row(
+        "InvalidConfig",
+        Place::Nothing,
+        "the set type does not take this number of chips",
+    ),
+    row(
+        "BadPosition",
+        Place::Nothing,
+        "a line lies outside the table's index",
+    ),
+    row("MissingImageData", Place::Chip, "a chip has no bytes"),
+    row(
+        "ShortImageData",
+        Place::Chip,
+        "a chip has fewer bytes than its size",
+    ),
+    row("ShortBuffer", Place::Nothing, "a lent buffer is too short"),
+    row(
+        "WrongSize",
+        Place::Nothing,
+        "the data's length is not the declared size",
+    ),
+    row(
+        "UnknownSlotType",
+        Place::Nothing,
+        "the slot's kind is unknown",
+    ),
+    row(
+        "MissingLayout",
+        Place::Nothing,
+        "there is no layout, or a ROM has no pin map",
+    ),
+    row(
+        "UnknownAlgorithm",
+        Place::Nothing,
+        "an algorithm or bit mode is unknown",
+    ),
+    row("BadLayout", Place::Nothing, "the layout contradicts itself"),
+    row(
+        "XPin",
+        Place::XPin,
+        "not exactly one GPIO of an X pin is in the table's window",
+    ),
+    row(
+        "Inconsistent",
+        Place::RomWord,
+        "two entries give different values for one word",
+    ),
+    row("Unserved", Place::RomWord, "no entry gives a word"),
+    row(
+        "NoActiveLine",
+        Place::Nothing,
+        "the Multi set has no active line",
+    ),
+];
+
+const UNKNOWN: Row = row(
+    "Unknown",
+    Place::Nothing,
+    "a number that this program does not know",
+);
+
+const PLACES: u32 = 48;
+
+impl Refusal {
+    /// The refusal that a call's result says; none if the result is a success.
+    pub fn of(result: u64) -> Option<Self> {
+        let number = (result >> PLACES) as u16;
+        (result != 0).then(|| Self {
+            number,
+            name: row_of(number).name,
+            place: result & ((1 << PLACES) - 1),
+        })
+    }
+
+    /// What it means, in a line.
+    pub fn meaning(&self) -> &'static str {
+        row_of(self.number).meaning
+    }
+
+    /// The place in words; empty where the refusal names none. The address search counts pins on
+    /// the socket.
+    pub fn place_words(&self) -> String {
+        let place = self.place;
+        match row_of(self.number).place {
+            Place::Nothing => String::new(),
+            Place::Pin => format!("socket pin {place}"),
+            Place::XPin => format!("X{place}"),
+            Place::GpioSet => format!("GPIOs {}", members(place)),
+            Place::Gpio => format!("GPIO {place}"),
+            Place::Chip => format!("chip {place}"),
+            Place::RomWord => format!("ROM {}, address {}", place >> 32, place & 0xffff_ffff),
+        }
+    }
+}
+
+fn row_of(number: u16) -> &'static Row {
+    let place = usize::from(number).checked_sub(1);
+    place.and_then(|place| ROWS.get(place)).unwrap_or(&UNKNOWN)
+}
+
+fn members(set: u64) -> String {
+    let gpios = (0..PLACES).filter(|gpio| set >> gpio & 1 == 1);
+    let words: Vec<String> = gpios.map(|gpio| gpio.to_string()).collect();
+    words.join(" ")
+}
+
+impl fmt::Display for Refusal {
+    fn fmt(&self, f: &mut fmt::Formatter<'_>) -> fmt::Result {
+        write!(f, "{} {}, place {}", self.number, self.name, self.place)?;
+        let words = self.place_words();
+        if !words.is_empty() {
+            write!(f, " ({words})")?;
+        }
+        write!(f, ": {}", self.meaning())
+    }
+}
+
+impl std::error::Error for Refusal {}
