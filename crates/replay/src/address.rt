@@ -68,7 +68,7 @@ fn searched(case: &[u64], ours: &mut [u64], d: Description) -> usize {
     }
 }
 
-pub fn answer(case: &[u64], ours: &mut [u64]) -> usize {
+pub(crate) fn answer(case: &[u64], ours: &mut [u64]) -> usize {
     if !has_bytes(case, 425) {
         return 0;
     }

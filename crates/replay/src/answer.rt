@@ -4,7 +4,7 @@ use slot::refusal::Refusal;
 
 // Writes a number at a place and answers the place after it. What does not fit is left out, so that such an answer is
 // shorter than the list's and differs.
-pub fn put(ours: &mut [u64], at: usize, x: u64) -> usize {
+pub(crate) fn put(ours: &mut [u64], at: usize, x: u64) -> usize {
     if at < ours.len() {
         ours[at] = x;
         return at + 1;
@@ -16,7 +16,7 @@ fn wide(x: u8) -> u64 {
     x as u64
 }
 
-pub fn put_bytes(ours: &mut [u64], at: usize, bytes: &[u8]) -> usize {
+pub(crate) fn put_bytes(ours: &mut [u64], at: usize, bytes: &[u8]) -> usize {
     let mut end = at;
     let mut k: usize = 0;
     while k < bytes.len() {
@@ -33,17 +33,17 @@ fn head(case: &[u64], ours: &mut [u64], number: u64, place: u64) -> usize {
 }
 
 // What every success begins with: the kind, number 0 and place 0.
-pub fn success(case: &[u64], ours: &mut [u64]) -> usize {
+pub(crate) fn success(case: &[u64], ours: &mut [u64]) -> usize {
     head(case, ours, 0, 0)
 }
 
 // A refusal, whole.
-pub fn refused(case: &[u64], ours: &mut [u64], why: Refusal) -> usize {
+pub(crate) fn refused(case: &[u64], ours: &mut [u64], why: Refusal) -> usize {
     head(case, ours, why.number() as u64, why.place())
 }
 
 // Whether the list's answer is the first n numbers of ours.
-pub fn same(theirs: &[u64], ours: &[u64], n: usize) -> bool {
+pub(crate) fn same(theirs: &[u64], ours: &[u64], n: usize) -> bool {
     let mut ok = theirs.len() == n;
     let mut k: usize = 0;
     while k < n {

@@ -112,7 +112,7 @@ fn put_config(case: &[u64], ours: &mut [u64], config: MultiCsConfig) -> usize {
     put_kinds(ours, listed, ignored)
 }
 
-pub fn answer(case: &[u64], ours: &mut [u64]) -> usize {
+pub(crate) fn answer(case: &[u64], ours: &mut [u64]) -> usize {
     if !has_bytes(case, 24) | (8 < byte_at(case, 1)) {
         return 0;
     }

@@ -13,7 +13,7 @@ fn as_byte(offset: i8) -> u64 {
     (raised(offset) as u64 + 252) % 256
 }
 
-pub fn answer(case: &[u64], ours: &mut [u64]) -> usize {
+pub(crate) fn answer(case: &[u64], ours: &mut [u64]) -> usize {
     if !has_bytes(case, 3) {
         return 0;
     }

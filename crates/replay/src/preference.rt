@@ -5,7 +5,7 @@ use crate::case::has_bytes;
 use crate::case::number_at;
 use control::alg_preference::cs_alg_preference;
 
-pub fn answer(case: &[u64], ours: &mut [u64]) -> usize {
+pub(crate) fn answer(case: &[u64], ours: &mut [u64]) -> usize {
     let qualifiers = number_at(case, 1);
     let ignore_index = number_at(case, 2);
     if !has_bytes(case, 3) | (1 < qualifiers) | (1 < ignore_index) {

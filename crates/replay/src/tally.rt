@@ -10,7 +10,7 @@ const LAST_KIND: usize = 5;
 // Differences whose line is named.
 const SHOWN: u64 = 5;
 
-pub fn say(text: &[u8]) {
+pub(crate) fn say(text: &[u8]) {
     io::write_all(STDOUT_FILENO, text);
 }
 
@@ -30,7 +30,7 @@ fn name(place: u64) {
     say(b" differs\n");
 }
 
-pub fn add(verdict: Verdict, place: u64, cases: &mut [u64], differ: &mut [u64]) {
+pub(crate) fn add(verdict: Verdict, place: u64, cases: &mut [u64], differ: &mut [u64]) {
     match verdict {
         Verdict::Same(kind) => count(cases, kind as usize),
         Verdict::Differs(kind) => {
@@ -55,7 +55,7 @@ fn report_kind(cases: &[u64], differ: &[u64], kind: usize) {
     say(b" differ\n");
 }
 
-pub fn report(cases: &[u64], differ: &[u64]) {
+pub(crate) fn report(cases: &[u64], differ: &[u64]) {
     let mut kind: usize = 1;
     while kind <= LAST_KIND {
         report_kind(cases, differ, kind);

@@ -40,7 +40,7 @@ fn compared(case: &[u64], theirs: &[u64]) -> Verdict {
     Verdict::Differs(kind)
 }
 
-pub fn of(line: Line, numbers: &[u64]) -> Verdict {
+pub(crate) fn of(line: Line, numbers: &[u64]) -> Verdict {
     let split = line.case;
     let end = line.count;
     if line.spoiled | !line.parted {

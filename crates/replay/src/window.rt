@@ -9,7 +9,7 @@ fn bit(b: bool) -> u64 {
     if b { 1 } else { 0 }
 }
 
-pub fn answer(case: &[u64], ours: &mut [u64]) -> usize {
+pub(crate) fn answer(case: &[u64], ours: &mut [u64]) -> usize {
     if !has_bytes(case, 3) {
         return 0;
     }
