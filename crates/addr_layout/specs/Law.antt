@@ -44,7 +44,7 @@ pub record Sound (d : Description) (c : ℕ) : Type 0 where
   -- the window is one of the PIO's, and at least 8 wide
   pub window : fits (layoutOf d (addrListed d) c .«gpio_base») (layoutOf d (addrListed d) c .«num_addr_pins») ≡ true
   pub wide : 8 ≤ layoutOf d (addrListed d) c .«num_addr_pins»
-  -- the base is the lowest of the GPIOs that are spanned, and each of them is in the window
+  -- no GPIO that is spanned is below the base, and each of them is in the window
   pub inside : (k : ℕ) → k < length (addrListed d) → spanned (inRange d) (lines d) k ≡ true
       → (layoutOf d (addrListed d) c .«gpio_base» ≤ gpioAt (addrListed d) c k)
       × (gpioAt (addrListed d) c k < layoutOf d (addrListed d) c .«gpio_base» + layoutOf d (addrListed d) c .«num_addr_pins»)
