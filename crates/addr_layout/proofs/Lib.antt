@@ -1,2 +1,3 @@
 pub mod Law
 pub mod Sound
+pub mod Parts

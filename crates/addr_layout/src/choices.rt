@@ -5,13 +5,14 @@ use crate::layout::AddrLayout;
 use crate::layout::AddrOutcome;
 use crate::layout::XGpio;
 use crate::lines::num_lines;
-use domain::lists::entry;
 use gpio::candidates::Candidates;
 use gpio::span::Span;
 use gpio::window::Window;
 use listing::Listing;
+use listing::choice::in_part;
 use listing::choice::pick;
 use listing::choice::resolve;
+use listing::lines::commoned_kind;
 use listing::lines::kind_pin;
 use listing::lines::pin_candidates;
 use search::Found;
@@ -19,16 +20,17 @@ use search::Trial;
 use search::better;
 use slot::description::Description;
 ghost use mathlib.Core.Path.{_≡_};
-ghost use mathlib.Core.Bool.{cond};
-ghost use Prim.Native.Nat.{ℕ, _^_, _≤_};
+ghost use mathlib.Core.Bool.{true, false, cond};
+ghost use Prim.Native.Nat.{ℕ, _+_, _^_, _≤_};
 ghost use lib.Dec.{ltb};
-ghost use lib.ListN.{getD};
+ghost use lib.ListN.{getD, take};
 ghost use Rattle.gpio.specs.Tab.{tab};
-ghost use Rattle.gpio.specs.Span.{widened};
+ghost use Rattle.gpio.specs.Span.{widened, joined};
 ghost use Rattle.listing.specs.Listing.{listOf};
-ghost use Rattle.search.specs.Search.{best};
+ghost use Rattle.search.specs.Search.{best, bestOnward};
 ghost use Rattle.addr_layout.specs.Lines.{lines};
 ghost use Rattle.addr_layout.specs.Choices.{mostEntries, reach, inRange, widenedFirst, kindCandidates, selectSpan, fixedSpan, choiceSpan, width, pinsOf, trialOf, xGpio, layoutFrom, layoutOf};
+ghost use Rattle.addr_layout.specs.Parts.{partSpan, noSpan};
 
 // The entries of the largest table.
 fn most_entries(d: Description) -> u32
@@ -95,14 +97,6 @@ fn kind_candidates(d: Description, kind: u8) -> Candidates
     pin_candidates(d, pin)
 }
 
-fn commoned_kind(d: Description, k: usize) -> u8
-    ensures { λ r. ⌜ r ≡ getD (d .multi .commoned) k 0 ⌝ }
-{
-    let multi = d.multi;
-    let kinds = multi.commoned;
-    entry(&kinds, k)
-}
-
 // The select and commoned lines of a Multi set, each by its first candidate: the index reads them too.
 fn select_span(d: Description) -> Span
     ensures { λ r. ⌜ r ≡ selectSpan d (d .multi .«num_commoned») ⌝ }
@@ -135,25 +129,45 @@ fn widen_if(s: Span, wanted: bool, g: u8) -> Span
     if wanted { s.widen(g) } else { s }
 }
 
-// The GPIOs that a choice spans: the first `in_range` of `lines` lines, and the X pins behind the lines.
-fn span_of(l: Listing, in_range: usize, lines: usize, fixed: Span, choice: u32) -> Span
+// The GPIOs that one part of a choice number spans, the bits below `split` or those from it on: of the pins that they
+// serve, the first `in_range` of `lines` lines, and the X pins behind the lines.
+fn part_span(
+    l: Listing,
+    in_range: usize,
+    lines: usize,
+    fixed: Span,
+    low: bool,
+    split: u32,
+    choice: u32,
+) -> Span
     requires { ⌜ l .count ≤ 30 ⌝ }
-    ensures { λ r. ⌜ r ≡ choiceSpan (listOf l) «in_range» lines fixed choice ⌝ }
+    ensures { λ r. ⌜ r ≡ partSpan (listOf l) «in_range» lines fixed low split choice ⌝ }
 {
     let pins = l.pins;
     let count = l.count;
     let mut s = fixed;
     let mut rest = choice;
+    let mut bit: u32 = 0;
     let mut k: usize = 0;
     while k < count {
         let pin = pins[k];
         let gpios = pin.gpios;
         let picked = pick(gpios, rest);
-        s = widen_if(s, (k < in_range) | (lines <= k), picked.gpio);
+        let counts = (k < in_range) | (lines <= k);
+        s = widen_if(s, counts & in_part(low, split, bit), picked.gpio);
         rest = picked.rest;
+        bit += listing::bits(pin);
         k += 1;
     }
     s
+}
+
+// The GPIOs that a choice spans.
+fn span_of(l: Listing, in_range: usize, lines: usize, fixed: Span, choice: u32) -> Span
+    requires { ⌜ l .count ≤ 30 ⌝ }
+    ensures { λ r. ⌜ r ≡ choiceSpan (listOf l) «in_range» lines fixed choice ⌝ }
+{
+    part_span(l, in_range, lines, fixed, false, 0, choice)
 }
 
 fn width(s: Span) -> u32
@@ -187,6 +201,44 @@ fn trial(s: Span) -> Trial
     Trial::Misfit
 }
 
+// Choices go in rows of at most 64, those of a row having the bits from `split` on in common: the spans of the bits below
+// it are found once, and joined in each row with the span of the others.
+fn split_of(bits: u32) -> u32
+    ensures { λ r. ⌜ (r ≤ bits) × (r ≤ 6) ⌝ }
+{
+    if bits < 6 { bits } else { 6 }
+}
+
+// The spans of the bits below `split`.
+fn low_spans(l: Listing, in_range: usize, lines: usize, fixed: Span, split: u32) -> [Span; 64]
+    requires { ⌜ (l .count ≤ 30) × (split ≤ 6) ⌝ }
+    ensures { λ r. ⌜ take (2 ^ split) r ≡ tab (2 ^ split) (λ q. partSpan (listOf l) «in_range» lines fixed true split q) ⌝ }
+{
+    let count = 1usize << split;
+    let mut out = [fixed; 64];
+    let mut q: usize = 0;
+    while q < count {
+        out[q] = part_span(l, in_range, lines, fixed, true, split, q as u32);
+        q += 1;
+    }
+    out
+}
+
+// The better of what was found and of a row of choices from `first` on.
+fn best_in_row(before: Found, lows: [Span; 64], high: Span, first: u32, len: u32) -> Found
+    requires { ⌜ (len ≤ 64) × (first + len ≤ 65536) ⌝ }
+    ensures { λ r. ⌜ r ≡ bestOnward before (λ q. trialOf (joined (getD lows q noSpan) high)) first len ⌝ }
+{
+    let mut found = before;
+    let mut q: u32 = 0;
+    while q < len {
+        let low = lows[q as usize];
+        found = better(found, first + q, trial(low.join(high)));
+        q += 1;
+    }
+    found
+}
+
 // The best of the choices that `bits` two-candidate pins leave.
 pub fn best(d: Description, l: Listing, bits: u32) -> Found
     requires { ⌜ (l .count ≤ 30) × (bits ≤ 16) ⌝ }
@@ -195,12 +247,16 @@ pub fn best(d: Description, l: Listing, bits: u32) -> Found
     let used = in_range(d) as usize;
     let all = num_lines(d) as usize;
     let fixed = fixed_span(d);
-    let choices = 1u32 << bits;
+    let split = split_of(bits);
+    let lows = low_spans(l, used, all, fixed, split);
+    let rows = 1u32 << (bits - split);
     let mut found = Found::Nothing;
-    let mut c: u32 = 0;
-    while c < choices {
-        found = better(found, c, trial(span_of(l, used, all, fixed, c)));
-        c += 1;
+    let mut row: u32 = 0;
+    while row < rows {
+        let first = row << split;
+        let high = part_span(l, used, all, fixed, false, split, first);
+        found = best_in_row(found, lows, high, first, 1 << split);
+        row += 1;
     }
     found
 }

@@ -8,6 +8,7 @@ use domain::lists::entry;
 use gpio::candidates::Candidates;
 use listing::Listed;
 use listing::Listing;
+use listing::lines::commoned_kind;
 use listing::lines::kind_pin;
 use listing::lines::pin_candidates;
 use slot::description::Description;
@@ -124,14 +125,6 @@ fn list_selects(d: Description, before: Listing) -> Listing
         return listing::push_x(with_select, board, 2 <= d.num_chips, 3 <= d.num_chips);
     }
     list_active(d, before)
-}
-
-fn commoned_kind(d: Description, k: usize) -> u8
-    ensures { λ r. ⌜ r ≡ getD (d .multi .commoned) k 0 ⌝ }
-{
-    let multi = d.multi;
-    let kinds = multi.commoned;
-    entry(&kinds, k)
 }
 
 // The list, with the commoned lines.

@@ -3,3 +3,4 @@ pub mod Each
 pub mod Lists
 pub mod Tab
 pub mod Fits
+pub mod Spans

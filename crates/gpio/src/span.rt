@@ -2,7 +2,7 @@
 ghost use mathlib.Core.Path.{_≡_};
 ghost use mathlib.Core.Bool.{cond};
 ghost use lib.Dec.{ltb};
-ghost use Rattle.gpio.specs.Span.{empty, widened};
+ghost use Rattle.gpio.specs.Span.{empty, widened, joined};
 
 pub struct Span {
     pub low: u8,
@@ -35,6 +35,16 @@ impl Span {
         Span {
             low: lower(g, self.low),
             high: higher(g, self.high),
+        }
+    }
+
+    // Of the GPIOs of both.
+    pub fn join(self, other: Span) -> Span
+        ensures { λ r. ⌜ r ≡ joined self other ⌝ }
+    {
+        Span {
+            low: lower(other.low, self.low),
+            high: higher(other.high, self.high),
         }
     }
 }

@@ -1,3 +1,4 @@
 pub mod Twos
 pub mod Faults
 pub mod Pushed
+pub mod Parts

@@ -1,9 +1,11 @@
 -- What a choice number makes of a list of pins. Assumes nothing.
 use Prim.Native.Nat.{ℕ, zero, suc, _/_, _%_}
-use mathlib.Core.Bool.{cond}
+use mathlib.Core.Bool.{Bool, cond, not}
 use mathlib.Core.List.{List}
-use lib.Dec.{eqb}
+use lib.Dec.{ltb, eqb}
 use lib.ListN.{getD}
+use Rattle.gpio.specs.Each.{tally}
+use Rattle.gpio.specs.Candidates.{two}
 use Rattle.gpio.specs.declared.candidates.Candidates.{Candidates}
 use Rattle.gpio.specs.declared.candidates.Candidates.the-variants.{Absent, One, Two}
 use Rattle.slot.specs.declared.refusal.Refusal.the-variants.{OutOfDomain}
@@ -34,3 +36,11 @@ restAt ls c (suc k) = leftBy (pinAt ls k) (restAt ls c k)
 -- the k-th pin's GPIO
 unfoldable pub gpioAt : List Listed → ℕ → ℕ → ℕ
 gpioAt ls c k = chosen (pinAt ls k) (restAt ls c k)
+
+-- which bit serves the k-th pin: the two-candidate pins before it are served first
+abbrev pub bitOf : List Listed → ℕ → ℕ
+bitOf ls k = tally k (λ i. two (pinAt ls i))
+
+-- the bits of a number in two parts: those below a split, and those from it on
+abbrev pub inPart : Bool → ℕ → ℕ → Bool
+inPart low split bit = cond low (ltb bit split) (not (ltb bit split))

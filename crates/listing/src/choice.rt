@@ -6,7 +6,7 @@ ghost use mathlib.Core.Path.{_≡_};
 ghost use Prim.Native.Nat.{ℕ, _≤_};
 ghost use Rattle.gpio.specs.Tab.{tab};
 ghost use Rattle.listing.specs.Listing.{listOf};
-ghost use Rattle.listing.specs.Choice.{chosen, leftBy, pinAt, gpioAt};
+ghost use Rattle.listing.specs.Choice.{chosen, leftBy, pinAt, gpioAt, inPart};
 
 // A pin's GPIO under a choice, and what is left of the choice for the pins after it.
 pub struct Picked {
@@ -34,6 +34,14 @@ pub fn pick(gpios: Candidates, rest: u32) -> Picked
             }
         }
     }
+}
+
+// Whether a choice bit is in one part of the number: below `split` if `low`, else from it on.
+pub fn in_part(low: bool, split: u32, bit: u32) -> bool
+    ensures { λ r. ⌜ r ≡ inPart low split bit ⌝ }
+{
+    let below = bit < split;
+    if low { below } else { !below }
 }
 
 // The candidates of the `k`-th pin.

@@ -102,7 +102,7 @@ pub fn push_x(l: Listing, b: Board, one: bool, both: bool) -> Listing
 }
 
 // 1 for a two-candidate pin, else 0.
-fn bits(pin: Listed) -> u32
+pub fn bits(pin: Listed) -> u32
     ensures { λ r. ⌜ r ≡ count (twoListed pin) ⌝ }
     ensures { λ r. ⌜ r ≤ 1 ⌝ }
 {

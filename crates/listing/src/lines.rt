@@ -1,5 +1,6 @@
 // A chip's pins in the socket, and its control lines by kind.
 use domain::chip::control_line;
+use domain::lists::entry;
 use gpio::candidates::Candidates;
 use slot::description::ControlLine;
 use slot::description::ControlLines;
@@ -9,6 +10,7 @@ use slot::slot_context::Socket;
 ghost use mathlib.Core.Path.{_≡_};
 ghost use mathlib.Core.Bool.{cond};
 ghost use lib.Dec.{eqb};
+ghost use lib.ListN.{getD};
 ghost use Rattle.listing.specs.Lines.{pinSocket, pinCandidates, pinOf, kindPin};
 
 // The socket pin under a chip pin.
@@ -60,4 +62,13 @@ pub fn kind_pin(d: Description, kind: u8) -> u8
     let chip = d.chip0();
     let lines = chip.control;
     pin_of(lines, kind)
+}
+
+// The kind of the `k`-th commoned line of a Multi set.
+pub fn commoned_kind(d: Description, k: usize) -> u8
+    ensures { λ r. ⌜ r ≡ getD (d .multi .commoned) k 0 ⌝ }
+{
+    let multi = d.multi;
+    let kinds = multi.commoned;
+    entry(&kinds, k)
 }

@@ -1,55 +1,109 @@
--- `best` meets its contract. The loop's invariant: `found` is the best of the choices passed. Assumes nothing.
-use mathlib.Core.Path.{_≡_, refl, _∙_}
+-- `best` meets its contract. The loop's invariant: `found` is the best of the choices of the rows passed. Assumes nothing.
+use mathlib.Core.Path.{_≡_, refl, sym, _∙_, ap}
+use mathlib.Core.Bool.{true, false}
+use mathlib.Core.List.{List}
 use Prim.Native.Nat.{ℕ, _+_, _*_, _%_, _^_, _≤_, _<_, _-_}
-use native.Mathlib.Numerals.{add-one}
-use native.Mathlib.Nat.{one-mul}
 use native.Mathlib.Omega.{arith}
-use lib.Pow.{shl-exact}
+use native.Mathlib.Nat.{zero-mul, le-trans}
+use lib.ListN.{length, getD, take}
+use lib.Pow.{pow-mono}
+use lib.Seq.{getD-take}
+use Rattle.gpio.specs.Span.{joined}
+use Rattle.gpio.specs.Tab.{tab}
 use Rattle.gpio.specs.declared.span.Span.{Span}
+use Rattle.gpio.proofs.Tab.{getD-tab}
 use Rattle.slot.specs.declared.description.Description.{Description}
 use Rattle.listing.specs.Listing.{listOf}
-use Rattle.listing.specs.declared.Listing.{Listing}
-use Rattle.search.specs.Search.{betterOf, best}
+use Rattle.listing.specs.declared.Listed.{Listed}
+use Rattle.search.specs.Search.{best, bestOnward}
 use Rattle.search.specs.declared.Found.{Found}
 use Rattle.search.specs.declared.Trial.{Trial}
+use Rattle.search.proofs.Rows.{onward, shifted-one, row-short, row-first, next-row, all-rows, row-within}
 use Rattle.addr_layout.specs.Lines.{lines}
 use Rattle.addr_layout.specs.Choices.{inRange, fixedSpan, choiceSpan, trialOf}
+use Rattle.addr_layout.specs.Parts.{partSpan, noSpan}
+use Rattle.addr_layout.proofs.Parts.{parts-join}
 use borrow.Author.Needs.{needs}
 use Rattle.addr_layout.proofs.choices.best.Statement.{statement}
 use Rattle.addr_layout.proofs.choices.best.Tie as tie
 
-turn : (f : ℕ → Trial) (c : ℕ) (found later : Found) (t : Trial) → found ≡ best f c → t ≡ f c → later ≡ betterOf found c t → later ≡ best f (c + 1)
-unfolding best
-turn f c found later t e h i = rw (i, e, h, add-one)
+module _ (ls : List Listed) (r n : ℕ) (fixed : Span) (s : ℕ) where
+  -- the table of low spans
+  abbrev Lows : List Span → Type 0
+  Lows lows = take (2 ^ s) lows ≡ tab (2 ^ s) (λ q. partSpan ls r n fixed true s q)
 
--- 1 << bits
-all-choices : (bits : ℕ) → bits ≤ 16 → (1 * 2 ^ bits) % 2 ^ 32 ≡ 2 ^ bits
-all-choices bits h = shl-exact 1 bits 32 (omega arith) (omega arith) ∙ rw one-mul
+  abbrev trials : ℕ → Trial
+  trials c = trialOf (choiceSpan ls r n fixed c)
 
-done : (l : Listing) (d : Description) (u n c choices bits : ℕ) (fixed : Span) (found : Found) → u ≡ inRange d → n ≡ lines d → fixed ≡ fixedSpan d → c ≡ choices
-    → choices ≡ 2 ^ bits → found ≡ best (λ j. trialOf (choiceSpan (listOf l) u n fixed j)) c
-    → found ≡ best (λ j. trialOf (choiceSpan (listOf l) (inRange d) (lines d) (fixedSpan d) j)) (2 ^ bits)
-done l d u n c choices bits fixed found eu en ef ec eb h = rw (eu, en, ef, ec, eb) at h
+  low-is : (lows : List Span) (q : ℕ) → Lows lows → q < 2 ^ s → getD lows q noSpan ≡ partSpan ls r n fixed true s q
+  low-is lows q t l =
+      sym (getD-take (2 ^ s) lows q noSpan l) ∙ ap (λ (x : List Span). getD x q noSpan) t ∙ getD-tab (λ j. partSpan ls r n fixed true s j) (2 ^ s) q noSpan l
+
+  -- a choice of a row spans what its two parts span
+  row-trial : (lows : List Span) (high : Span) (row q : ℕ) → Lows lows → high ≡ partSpan ls r n fixed false s (row * 2 ^ s) → q < 2 ^ s
+      → trialOf (joined (getD lows q noSpan) high) ≡ trials (row * 2 ^ s + q)
+  row-trial lows high row q t e l = ap trialOf (rw (low-is lows q t l, e) (sym (parts-join ls r n fixed row s q l (length ls))))
+
+  turn : (lows : List Span) (high : Span) (found later : Found) (row first count : ℕ) → Lows lows → first ≡ row * 2 ^ s → count ≡ 2 ^ s
+      → high ≡ partSpan ls r n fixed false s first → found ≡ best trials (row * 2 ^ s)
+      → later ≡ bestOnward found (λ q. trialOf (joined (getD lows q noSpan) high)) first count → later ≡ best trials ((row + 1) * 2 ^ s)
+  turn lows high found later row first count t f g e h i =
+      rw (i, h, f, g, ← next-row) (onward trials (λ q. trialOf (joined (getD lows q noSpan) high)) (row * 2 ^ s) (2 ^ s) (λ q l. row-trial lows high row q t (rw f at e) l))
+
+done : (ls : List Listed) (d : Description) (u n row rows s bits : ℕ) (fixed : Span) (found : Found) → u ≡ inRange d → n ≡ lines d → fixed ≡ fixedSpan d → row ≡ rows
+    → rows ≡ 2 ^ (bits - s) → s ≤ bits → found ≡ best (trials ls u n fixed s) (row * 2 ^ s)
+    → found ≡ best (λ c. trialOf (choiceSpan ls (inRange d) (lines d) (fixedSpan d) c)) (2 ^ bits)
+done ls d u n row rows s bits fixed found eu en ef er eb h f = rw (eu, en, ef, er, eb, all-rows bits s h) at f
 
 abbrev Inv-loop : tie.InvT-loop
-Inv-loop l bits used all fixed choices found₀ c₀ found c = (c ≤ choices) × (found ≡ best (λ j. trialOf (choiceSpan (listOf l) used all fixed j)) c)
+Inv-loop l bits used all fixed split lows rows found₀ row₀ found row =
+    (row ≤ rows) × (rows ≡ 2 ^ (bits - split)) × (split ≤ bits) × (split ≤ 6) × (bits ≤ 16) × Lows (listOf l) used all fixed split lows
+    × (found ≡ best (trials (listOf l) used all fixed split) (row * 2 ^ split))
 
 abbrev μ-loop : tie.MeasureT-loop
-μ-loop l bits used all fixed choices found₀ c₀ found c = choices - c
+μ-loop l bits used all fixed split lows rows found₀ row₀ found row = rows - row
 
 loop-holds : tie.Need-loop-holds Inv-loop μ-loop
 unfolding best
-loop-holds c = (omega arith, refl)
+loop-holds c =
+    let a = c .before .before .before .before .before .args in
+    let s = c .before .split-of .ensures in
+    (omega arith, shifted-one _ 32 (omega arith), s .0, s .1, omega arith, c .low-spans .ensures, rw zero-mul refl)
+
+-- a row's choices are below 2^16
+row-fits : (row rows b s first count : ℕ) → row < rows → rows ≡ 2 ^ (b - s) → s ≤ b → s ≤ 6 → b ≤ 16 → first ≡ row * 2 ^ s → count ≡ 2 ^ s → (count ≤ 64) × (first + count ≤ 65536)
+row-fits row rows b s first count l e h i j f g =
+    (rw g (row-short s i), rw (f, g) (le-trans (row-within row b s h (rw e at l)) (pow-mono j)))
+
+first-is : (row rows b s : ℕ) → row < rows → rows ≡ 2 ^ (b - s) → s ≤ b → b ≤ 16 → (row * 2 ^ s) % 2 ^ 32 ≡ row * 2 ^ s
+first-is row rows b s l e h i = row-first row b s h i (rw e at l)
+
+best-in-row-requires : tie.Need-best-in-row-requires Inv-loop μ-loop
+best-in-row-requires c κs =
+    let v = c .before .before .loop in
+    let l = c .before .loop-test .taken in
+    row-fits _ _ _ _ _ _ l (v .inv .1) (v .inv .2) (v .inv .3) (v .inv .4) (first-is _ _ _ _ l (v .inv .1) (v .inv .2) (v .inv .4)) (shifted-one _ 32 (omega arith))
 
 loop-again : tie.Need-loop-again Inv-loop μ-loop
 loop-again c =
-    (omega arith, turn _ _ _ _ _ (c .before .before .before .before .loop .inv .1) (c .before .trial .ensures ∙ rw (c .before .before .span-of .ensures)) (c .better .ensures))
+    let v = c .before .before .before .loop in
+    let l = c .before .before .loop-test .taken in
+    let i = v .inv in (
+      omega arith,
+      i .1,
+      i .2,
+      i .3,
+      i .4,
+      i .5,
+      turn _ _ _ _ _ _ _ _ _ _ _ _ (i .5) (first-is _ _ _ _ l (i .1) (i .2) (i .4)) (shifted-one _ 32 (omega arith)) (c .before .part-span .ensures) (i .6) (c .best-in-row .ensures),
+    )
 
 returns : tie.Need-returns Inv-loop μ-loop
 returns c =
-    let a = c .before .before .before .before .before .args in
-    done (a .l) (a .d) _ _ _ _ (a .bits) _ _ (c .before .before .before .before .in-range .ensures) (c .before .before .before .num-lines .ensures) (c .before .before .fixed-span .ensures) (omega arith)
-    (all-choices (a .bits) (omega arith)) (c .before .loop .inv .1)
+    let v = c .before .loop in
+    let a = c .before .before .before .before .before .before .before .args in
+    done (listOf (a .l)) (a .d) _ _ _ _ _ (a .bits) _ _ (c .before .before .before .before .before .before .in-range .ensures) (c .before .before .before .before .before .num-lines .ensures)
+    (c .before .before .before .before .fixed-span .ensures) (omega arith) (v .inv .1) (v .inv .2) (v .inv .6)
 
 pub best-spec : {M : Type 1} → statement M
-best-spec = tie.close (tie.spec Inv-loop μ-loop (λ c κs. search needs) (λ c. search needs) (λ c κs. search needs) (λ c. search needs) (λ c κs. search needs) (λ c. search needs) loop-holds (λ c κs. search needs) (λ c κs. search needs) (λ c κs. search needs) (λ c. search needs) (λ c. search needs) loop-again returns)
+best-spec = tie.close (tie.spec Inv-loop μ-loop (λ c κs. search needs) (λ c. search needs) (λ c κs. search needs) (λ c. search needs) (λ c κs. search needs) (λ c κs. search needs) (λ c κs. search needs) (λ c. search needs) (λ c. search needs) loop-holds (λ c. search needs) (λ c κs. search needs) (λ c. search needs) best-in-row-requires (λ c. search needs) (λ c. search needs) loop-again returns)

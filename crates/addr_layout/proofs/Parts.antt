@@ -1,0 +1,36 @@
+-- The two parts of a choice number span what the number spans. Assumes nothing.
+use mathlib.Core.Path.{_≡_, refl, sym, _∙_, ap}
+use mathlib.Core.Bool.{Bool, true, false, _&&_, not, cond}
+use mathlib.Core.List.{List}
+use Prim.Native.Nat.{ℕ, zero, suc, _+_, _*_, _^_, _≤_, _<_}
+use native.Mathlib.Omega.{arith}
+use lib.Dec.{ltb}
+use lib.ListN.{length}
+use borrow.Author.Tests.{le-ltb, ltb-true, ltb-false}
+use Rattle.gpio.specs.Span.{widened, joined}
+use Rattle.gpio.specs.declared.span.Span.{Span}
+use Rattle.gpio.proofs.Spans.{joined-turn, joined-same}
+use Rattle.listing.specs.Choice.{gpioAt, bitOf}
+use Rattle.listing.specs.declared.Listed.{Listed}
+use Rattle.listing.proofs.Parts.{gpio-low, gpio-high}
+use Rattle.addr_layout.specs.Choices.{spanned, spanAt, choiceSpan}
+use Rattle.addr_layout.specs.Parts.{partAt, partSpan}
+
+and-true : (b : Bool) → b && true ≡ b
+and-true true = refl
+and-true false = refl
+
+-- every bit is at or past 0
+pub part-all : (ls : List Listed) (r n : ℕ) (fixed : Span) (c k : ℕ) → partAt ls r n fixed false 0 c k ≡ spanAt ls r n fixed c k
+unfolding partAt spanAt
+part-all ls r n fixed c zero = refl
+part-all ls r n fixed c (suc k) = rw (le-ltb (bitOf ls k) 0 (omega arith), and-true (spanned r n k), part-all ls r n fixed c k)
+
+module _ (ls : List Listed) (r n : ℕ) (fixed : Span) (b s q : ℕ) (h : q < 2 ^ s) where
+  pub parts-join : (k : ℕ) → spanAt ls r n fixed (b * 2 ^ s + q) k ≡ joined (partAt ls r n fixed true s q k) (partAt ls r n fixed false s (b * 2 ^ s) k)
+  unfolding partAt spanAt
+  parts-join zero = sym (joined-same fixed)
+  parts-join (suc k) =
+      -- the k-th pin is of one part, and has there the GPIO that it has under the whole number
+      rw (parts-join k) (joined-turn (partAt ls r n fixed true s q k) (partAt ls r n fixed false s (b * 2 ^ s) k) (gpioAt ls (b * 2 ^ s + q) k) (gpioAt ls q k) (gpioAt ls (b * 2 ^ s) k)
+      (spanned r n k) (ltb (bitOf ls k) s) (λ e. gpio-low ls b s q k h (ltb-true _ _ e)) (λ e. gpio-high ls b s q k h (ltb-false _ _ e)))
