@@ -4,17 +4,18 @@ use mathlib.Core.Bool.{Bool, true}
 use mathlib.Core.List.{List}
 use mathlib.Core.Logic.{_⊎_}
 use Prim.Native.Nat.{ℕ, _+_, _^_, _≤_, _<_}
-use lib.ListN.{length}
+use lib.ListN.{length, getD}
 use Rattle.gpio.specs.Window.{fits}
 use Rattle.gpio.specs.declared.candidates.Candidates.{Candidates}
 use Rattle.gpio.specs.declared.candidates.Candidates.the-variants.{Absent, One, Two}
+use Rattle.slot.specs.Description.{isMulti}
 use Rattle.slot.specs.declared.description.Description.{Description}
 use Rattle.listing.specs.Listing.{twos, firstFault}
 use Rattle.listing.specs.Choice.{pinAt, gpioAt}
 use Rattle.listing.specs.declared.FirstFault.the-variants.{None}
 use Rattle.search.specs.Law.{Best}
 use Rattle.addr_layout.specs.Lines.{lines, addrListed}
-use Rattle.addr_layout.specs.Choices.{inRange, spanned, addrTrial, layoutOf}
+use Rattle.addr_layout.specs.Choices.{inRange, kindCandidates, spanned, addrTrial, layoutOf}
 use Rattle.addr_layout.specs.Search.{inDomain, addrAnswer}
 use Rattle.addr_layout.specs.declared.layout.AddrLayout.{AddrLayout}
 use Rattle.addr_layout.specs.declared.layout.AddrOutcome.the-variants.{LaidOut}
@@ -39,14 +40,31 @@ CandidateOf Absent g = ⊥
 CandidateOf (One a) g = g ≡ a
 CandidateOf (Two a b) g = (g ≡ a) ⊎ (g ≡ b)
 
+-- a GPIO is the first of a pin's candidates
+abbrev pub FirstOf : Candidates → ℕ → Type 0
+FirstOf Absent g = ⊥
+FirstOf (One a) g = g ≡ a
+FirstOf (Two a b) g = g ≡ a
+
+-- a GPIO that choice c spans: that of an in-range line or of an X pin; in Multi, the first candidate of the select line or of
+-- a commoned line
+pub data Spanned (d : Description) (c g : ℕ) : Type 0 where
+  of-pin : (k : ℕ) → k < length (addrListed d) → spanned (inRange d) (lines d) k ≡ true
+      → g ≡ gpioAt (addrListed d) c k → Spanned d c g
+  of-select : isMulti (d .«set_type») ≡ true → FirstOf (kindCandidates d (d .multi .select)) g → Spanned d c g
+  of-commoned : isMulti (d .«set_type») ≡ true → (k : ℕ) → k < d .multi .«num_commoned»
+      → FirstOf (kindCandidates d (getD (d .multi .commoned) k 0)) g → Spanned d c g
+
 -- what the layout of a choice that fits keeps
 pub record Sound (d : Description) (c : ℕ) : Type 0 where
   -- the window is one of the PIO's, and at least 8 wide
   pub window : fits (layoutOf d (addrListed d) c .«gpio_base») (layoutOf d (addrListed d) c .«num_addr_pins») ≡ true
   pub wide : 8 ≤ layoutOf d (addrListed d) c .«num_addr_pins»
-  -- no GPIO that is spanned is below the base, and each of them is in the window
-  pub inside : (k : ℕ) → k < length (addrListed d) → spanned (inRange d) (lines d) k ≡ true
-      → (layoutOf d (addrListed d) c .«gpio_base» ≤ gpioAt (addrListed d) c k)
-      × (gpioAt (addrListed d) c k < layoutOf d (addrListed d) c .«gpio_base» + layoutOf d (addrListed d) c .«num_addr_pins»)
+  -- the base is one of the GPIOs that the choice spans
+  pub attained : Spanned d c (layoutOf d (addrListed d) c .«gpio_base»)
+  -- none of them is below the base, and each is in the window
+  pub inside : (g : ℕ) → Spanned d c g
+      → (layoutOf d (addrListed d) c .«gpio_base» ≤ g)
+      × (g < layoutOf d (addrListed d) c .«gpio_base» + layoutOf d (addrListed d) c .«num_addr_pins»)
   -- each listed pin's GPIO is a candidate of its pin
   pub candidate : (k : ℕ) → k < length (addrListed d) → CandidateOf (pinAt (addrListed d) k) (gpioAt (addrListed d) c k)
