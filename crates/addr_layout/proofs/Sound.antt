@@ -14,6 +14,7 @@ use Rattle.gpio.specs.declared.span.Span.{Span}
 use Rattle.gpio.specs.declared.candidates.Candidates.{Candidates}
 use Rattle.gpio.specs.declared.candidates.Candidates.the-variants.{Absent, One, Two}
 use Rattle.gpio.proofs.Fits.{fits-within}
+use Rattle.gpio.proofs.Spans.{least-both, most-both}
 use Rattle.slot.specs.Description.{isMulti}
 use Rattle.slot.specs.declared.description.Description.{Description}
 use Rattle.listing.specs.Choice.{chosen, pinAt, restAt, gpioAt}
@@ -27,21 +28,13 @@ use Rattle.addr_layout.specs.Law.{CandidateOf, FirstOf, PastTests, Spann
 abbrev Within : Span → ℕ → Type 0
 Within s g = (s .low ≤ g) × (g ≤ s .high)
 
-lower-of : (g low : ℕ) (t : Bool) → ltb g low ≡ t → (cond t g low ≤ g) × (cond t g low ≤ low)
-lower-of g low true e = omega (arith, ltb-true g low e)
-lower-of g low false e = omega (arith, ltb-false g low e)
-
-higher-of : (g high : ℕ) (t : Bool) → ltb high g ≡ t → (g ≤ cond t g high) × (high ≤ cond t g high)
-higher-of g high true e = omega (arith, ltb-true high g e)
-higher-of g high false e = omega (arith, ltb-false high g e)
-
 -- a widened span has the GPIO, and what it had before
 widened-has : (s : Span) (g : ℕ) → Within (widened s g) g
-widened-has s g = (lower-of g (s .low) (ltb g (s .low)) refl .0, higher-of g (s .high) (ltb (s .high) g) refl .0)
+widened-has s g = (least-both g (s .low) (ltb g (s .low)) refl .0, most-both g (s .high) (ltb (s .high) g) refl .0)
 
 widened-keeps : (s : Span) (g x : ℕ) → Within s x → Within (widened s g) x
 widened-keeps s g x w =
-    (omega (arith, lower-of g (s .low) (ltb g (s .low)) refl, w .0), omega (arith, higher-of g (s .high) (ltb (s .high) g) refl, w .1))
+    (omega (arith, least-both g (s .low) (ltb g (s .low)) refl, w .0), omega (arith, most-both g (s .high) (ltb (s .high) g) refl, w .1))
 
 -- the lowest of a span is one of some GPIOs, or that of the empty span
 abbrev Attained : (ℕ → Type 0) → ℕ → Type 0

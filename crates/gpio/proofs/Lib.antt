@@ -4,3 +4,5 @@ pub mod Lists
 pub mod Tab
 pub mod Fits
 pub mod Spans
+pub mod Shifts
+pub mod Sets

@@ -1,7 +1,7 @@
 -- The choices of a search taken in rows. Assumes nothing.
 use mathlib.Core.Path.{_≡_, sym, _∙_}
 use Prim.Native.Nat.{ℕ, zero, suc, _+_, _*_, _%_, _^_, _-_, _≤_, _<_}
-use native.Mathlib.Nat.{add-zero, add-suc, one-mul, mul-le-mul-right, suc-mul}
+use native.Mathlib.Nat.{add-zero, add-suc, mul-le-mul-right, suc-mul}
 use native.Mathlib.Numerals.{add-one}
 use native.Mathlib.Omega.{arith}
 use lib.Pow.{shl-exact, pow-mono, pow-add}
@@ -13,10 +13,6 @@ pub onward : (trial row : ℕ → Trial) (c k : ℕ) → ((q : ℕ) → q < k �
 unfolding best bestOnward
 onward trial row c zero h = rw add-zero
 onward trial row c (suc k) h = rw (onward trial row c k (λ q l. h q (omega arith)), h k (omega arith), add-suc)
-
--- 1 << k in w bits
-pub shifted-one : (k w : ℕ) → 1 + k ≤ w → (1 * 2 ^ k) % 2 ^ w ≡ 2 ^ k
-shifted-one k w h = shl-exact 1 k w (omega arith) h ∙ rw one-mul
 
 -- a row that the choices of 6 bits make
 pub row-short : (k : ℕ) → k ≤ 6 → 2 ^ k ≤ 64

@@ -11,6 +11,7 @@ use lib.Seq.{getD-take}
 use Rattle.gpio.specs.Span.{joined}
 use Rattle.gpio.specs.Tab.{tab}
 use Rattle.gpio.specs.declared.span.Span.{Span}
+use Rattle.gpio.proofs.Shifts.{shifted-one}
 use Rattle.gpio.proofs.Tab.{getD-tab}
 use Rattle.slot.specs.declared.description.Description.{Description}
 use Rattle.listing.specs.Listing.{listOf}
@@ -18,7 +19,7 @@ use Rattle.listing.specs.declared.Listed.{Listed}
 use Rattle.search.specs.Search.{best, bestOnward}
 use Rattle.search.specs.declared.Found.{Found}
 use Rattle.search.specs.declared.Trial.{Trial}
-use Rattle.search.proofs.Rows.{onward, shifted-one, row-short, row-first, next-row, all-rows, row-within}
+use Rattle.search.proofs.Rows.{onward, row-short, row-first, next-row, all-rows, row-within}
 use Rattle.addr_layout.specs.Lines.{lines}
 use Rattle.addr_layout.specs.Choices.{inRange, fixedSpan, choiceSpan, trialOf}
 use Rattle.addr_layout.specs.Parts.{partSpan, noSpan}

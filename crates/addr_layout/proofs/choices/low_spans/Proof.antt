@@ -10,7 +10,8 @@ use Rattle.gpio.specs.declared.span.Span.{Span}
 use Rattle.gpio.proofs.Tab.{Filled, filled-none, filled-turn}
 use Rattle.listing.specs.Listing.{listOf}
 use Rattle.addr_layout.specs.Parts.{partSpan}
-use Rattle.search.proofs.Rows.{shifted-one, row-short}
+use Rattle.gpio.proofs.Shifts.{shifted-one}
+use Rattle.search.proofs.Rows.{row-short}
 use borrow.Author.Needs.{needs}
 use Rattle.addr_layout.proofs.choices.low_spans.Statement.{statement}
 use Rattle.addr_layout.proofs.choices.low_spans.Tie as tie
