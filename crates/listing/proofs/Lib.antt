@@ -2,3 +2,4 @@ pub mod Twos
 pub mod Faults
 pub mod Pushed
 pub mod Parts
+pub mod InDomain

@@ -1,11 +1,12 @@
 -- What a choice number makes of a list of pins. Assumes nothing.
 use Prim.Native.Nat.{ℕ, zero, suc, _/_, _%_}
-use mathlib.Core.Bool.{Bool, cond, not}
+use mathlib.Core.Path.{_≡_}
+use mathlib.Core.Bool.{Bool, true, cond, not}
 use mathlib.Core.List.{List}
 use lib.Dec.{ltb, eqb}
 use lib.ListN.{getD}
 use Rattle.gpio.specs.Each.{tally}
-use Rattle.gpio.specs.Candidates.{two}
+use Rattle.gpio.specs.Candidates.{two, candidatesIn}
 use Rattle.gpio.specs.declared.candidates.Candidates.{Candidates}
 use Rattle.gpio.specs.declared.candidates.Candidates.the-variants.{Absent, One, Two}
 use Rattle.slot.specs.declared.refusal.Refusal.the-variants.{OutOfDomain}
@@ -27,6 +28,10 @@ leftBy (Two g h) rest = rest / 2
 -- the candidates of the k-th pin
 abbrev pub pinAt : List Listed → ℕ → Candidates
 pinAt ls k = getD ls k (listed Absent OutOfDomain) .gpios
+
+-- each candidate is a GPIO of the RP2350
+abbrev pub GpiosIn : List Listed → Type 0
+GpiosIn ls = (k : ℕ) → candidatesIn (pinAt ls k) ≡ true
 
 -- what is left of the number before the k-th pin
 unfoldable pub restAt : List Listed → ℕ → ℕ → ℕ
