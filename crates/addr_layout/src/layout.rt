@@ -1,7 +1,13 @@
 // The address layout: the address PIO reads `num_addr_pins` GPIOs from `gpio_base`, and that number indexes the table.
+use domain::lists::all_between;
 use slot::refusal::Refusal;
 ghost use mathlib.Core.Path.{_≡_};
-ghost use Rattle.addr_layout.specs.Layout.{refusedFor};
+ghost use mathlib.Core.Bool.{_&&_};
+ghost use lib.Dec.{leb};
+ghost use lib.ListN.{getD};
+ghost use Rattle.gpio.specs.Each.{each};
+ghost use Rattle.domain.specs.Domain.{between};
+ghost use Rattle.addr_layout.specs.Layout.{noLayout, refusedFor, xIn, allLines, layoutIn};
 
 // The GPIO of an X pin that picks a bank or a chip.
 pub enum XGpio {
@@ -33,19 +39,55 @@ pub struct AddrAnswer {
     pub layout: AddrLayout,
 }
 
+// Nothing laid out.
+pub fn no_layout() -> AddrLayout
+    ensures { λ r. ⌜ r ≡ noLayout ⌝ }
+{
+    AddrLayout {
+        gpio_base: 0,
+        num_addr_pins: 0,
+        x1_gpio: XGpio::Unused,
+        x2_gpio: XGpio::Unused,
+        gpios: [0u8; 24],
+        num_lines: 0,
+        num_excess: 0,
+    }
+}
+
 pub fn refused(why: Refusal) -> AddrAnswer
     ensures { λ r. ⌜ r ≡ refusedFor why ⌝ }
 {
     AddrAnswer {
         outcome: AddrOutcome::Refused(why),
-        layout: AddrLayout {
-            gpio_base: 0,
-            num_addr_pins: 0,
-            x1_gpio: XGpio::Unused,
-            x2_gpio: XGpio::Unused,
-            gpios: [0u8; 24],
-            num_lines: 0,
-            num_excess: 0,
-        },
+        layout: no_layout(),
     }
+}
+
+fn x_in(x: XGpio) -> bool
+    ensures { λ r. ⌜ r ≡ xIn x ⌝ }
+{
+    match x {
+        XGpio::Unused => true,
+        XGpio::At(g) => g <= 47,
+    }
+}
+
+fn lines_in(l: AddrLayout) -> bool
+    ensures { λ r. ⌜ r ≡ (leb (allLines l) 24 && each (allLines l) (λ k. between 0 47 (getD (l .gpios) k 0))) ⌝ }
+{
+    let all = l.num_lines as u32 + l.num_excess as u32;
+    if 24 < all {
+        return false;
+    }
+    let gpios = l.gpios;
+    all_between(&gpios, all as u8, 0, 47)
+}
+
+// Whether a layout that is handed in keeps to the domain.
+pub fn layout_in(l: AddrLayout) -> bool
+    ensures { λ r. ⌜ r ≡ layoutIn l ⌝ }
+{
+    let x1 = l.x1_gpio;
+    let x2 = l.x2_gpio;
+    (l.gpio_base <= 47) & (l.num_addr_pins <= 48) & (x_in(x1) & x_in(x2)) & lines_in(l)
 }

@@ -8,7 +8,7 @@ use slot::refusal::Refusal;
 ghost use mathlib.Core.Path.{_≡_};
 ghost use mathlib.Core.List.{[], _∷_, _++_};
 ghost use Prim.Native.Nat.{ℕ, _+_, _≤_, _<_};
-ghost use Rattle.listing.specs.Listing.{candidatesAt, xListed, xPins, twoListed, count, twos, listOf, keepFault, firstFault};
+ghost use Rattle.listing.specs.Listing.{candidatesAt, xListed, xPins, twoListed, count, twos, listOf, orElse, keepFault, firstFault};
 
 // A listed pin.
 pub struct Listed {
@@ -126,6 +126,16 @@ pub fn choice_bits(l: Listing) -> u32
         k += 1;
     }
     sum
+}
+
+// The first of two faults.
+pub fn or_else(first: FirstFault, second: FirstFault) -> FirstFault
+    ensures { λ r. ⌜ r ≡ orElse first second ⌝ }
+{
+    match first {
+        FirstFault::Of(r) => FirstFault::Of(r),
+        FirstFault::None => second,
+    }
 }
 
 // The fault found before, else the pin's where it has no candidates.
