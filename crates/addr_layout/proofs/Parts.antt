@@ -9,16 +9,13 @@ use lib.ListN.{length}
 use borrow.Author.Tests.{le-ltb, ltb-true, ltb-false}
 use Rattle.gpio.specs.Span.{widened, joined}
 use Rattle.gpio.specs.declared.span.Span.{Span}
+use Rattle.gpio.proofs.Bools.{and-true}
 use Rattle.gpio.proofs.Spans.{joined-turn, joined-same}
 use Rattle.listing.specs.Choice.{gpioAt, bitOf}
 use Rattle.listing.specs.declared.Listed.{Listed}
 use Rattle.listing.proofs.Parts.{gpio-low, gpio-high}
 use Rattle.addr_layout.specs.Choices.{spanned, spanAt, choiceSpan}
 use Rattle.addr_layout.specs.Parts.{partAt, partSpan}
-
-and-true : (b : Bool) → b && true ≡ b
-and-true true = refl
-and-true false = refl
 
 -- every bit is at or past 0
 pub part-all : (ls : List Listed) (r n : ℕ) (fixed : Span) (c k : ℕ) → partAt ls r n fixed false 0 c k ≡ spanAt ls r n fixed c k

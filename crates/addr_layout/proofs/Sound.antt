@@ -2,10 +2,10 @@
 use mathlib.Core.Path.{_≡_, refl}
 use mathlib.Core.Bool.{Bool, true, false, cond}
 use mathlib.Core.Logic.{_⊎_, inl, inr}
-use Prim.Native.Nat.{ℕ, zero, suc, _+_, _*_, _%_, _≤_, _<_}
+use Prim.Native.Nat.{ℕ, zero, suc, _+_, _*_, _≤_, _<_}
 use native.Mathlib.Nat.{le-of-suc-le-suc, eq-or-lt-of-le}
 use native.Mathlib.Omega.{arith}
-use lib.Dec.{ltb, eqb}
+use lib.Dec.{ltb}
 use lib.ListN.{length, getD}
 use borrow.Author.Tests.{ltb-true, ltb-false}
 use Rattle.gpio.specs.Window.{fits}
@@ -17,12 +17,13 @@ use Rattle.gpio.proofs.Fits.{fits-within}
 use Rattle.gpio.proofs.Spans.{least-both, most-both}
 use Rattle.slot.specs.Description.{isMulti}
 use Rattle.slot.specs.declared.description.Description.{Description}
-use Rattle.listing.specs.Choice.{chosen, pinAt, restAt, gpioAt}
+use Rattle.listing.specs.Choice.{gpioAt}
+use Rattle.listing.proofs.Candidate.{candidate-at}
 use Rattle.listing.proofs.Faults.{no-fault-at}
 use Rattle.search.specs.declared.Trial.the-variants.{Misfit, Score}
 use Rattle.addr_layout.specs.Lines.{lines, addrListed}
 use Rattle.addr_layout.specs.Choices.{inRange, widenedFirst, kindCandidates, selectSpan, fixedSpan, spanned, spanAt, choiceSpan, width, pinsOf, trialOf, addrTrial}
-use Rattle.addr_layout.specs.Law.{CandidateOf, FirstOf, PastTests, Spanned, of-pin, of-select, of-commoned, Sound}
+use Rattle.addr_layout.specs.Law.{FirstOf, PastTests, Spanned, of-pin, of-select, of-commoned, Sound}
 
 -- a GPIO within a span
 abbrev Within : Span → ℕ → Type 0
@@ -153,18 +154,8 @@ not-empty : (P : ℕ → Type 0) (base n : ℕ) → fits base n ≡ true → Att
 not-empty P base n w (inl e) = absurd (omega (arith, fits-within base n w))
 not-empty P base n w (inr p) = p
 
-chosen-two : (a b : ℕ) (t : Bool) → (cond t a b ≡ a) ⊎ (cond t a b ≡ b)
-chosen-two a b true = inl refl
-chosen-two a b false = inr refl
-
-candidate-of : (c : Candidates) (rest : ℕ) → (c ≡ Absent → ⊥) → CandidateOf c (chosen c rest)
-candidate-of Absent rest n = n refl
-candidate-of (One g) rest n = refl
-candidate-of (Two g h) rest n = chosen-two g h (eqb (rest % 2) 0)
-
 -- the layout of a choice that fits
 pub sound : (d : Description) → PastTests d → (c s : ℕ) → addrTrial d c ≡ Score s → Sound d c
-unfolding gpioAt
 sound d past c s e =
     let ls = addrListed d in
     let span = choiceSpan ls (inRange d) (lines d) (fixedSpan d) c in
@@ -174,5 +165,5 @@ sound d past c s e =
       wide = wide .0;
       attained = not-empty (Spanned d c) (span .low) (pinsOf span) (window-of span s e) (lowest d c);
       inside = λ g t. let w = within d c g t in (w .0, omega (arith, wide .1, w .0, w .1));
-      candidate = λ k l. candidate-of (pinAt ls k) (restAt ls c k) (no-fault-at ls (past .no-fault) k l);
+      candidate = λ k l. candidate-at ls c k (no-fault-at ls (past .no-fault) k l);
     }

@@ -2,7 +2,6 @@
 use mathlib.Core.Path.{_≡_}
 use mathlib.Core.Bool.{Bool, true}
 use mathlib.Core.List.{List}
-use mathlib.Core.Logic.{_⊎_}
 use Prim.Native.Nat.{ℕ, _+_, _^_, _≤_, _<_}
 use lib.ListN.{length, getD}
 use Rattle.gpio.specs.Window.{fits}
@@ -11,7 +10,7 @@ use Rattle.gpio.specs.declared.candidates.Candidates.the-variants.{Absent, One,
 use Rattle.slot.specs.Description.{isMulti}
 use Rattle.slot.specs.declared.description.Description.{Description}
 use Rattle.listing.specs.Listing.{twos, firstFault}
-use Rattle.listing.specs.Choice.{pinAt, gpioAt}
+use Rattle.listing.specs.Choice.{CandidateOf, pinAt, gpioAt}
 use Rattle.listing.specs.declared.FirstFault.the-variants.{None}
 use Rattle.search.specs.Law.{Best}
 use Rattle.addr_layout.specs.Lines.{lines, addrListed}
@@ -33,12 +32,6 @@ choices d = 2 ^ twos (addrListed d)
 pub record LaidOutBest (d : Description) (c s : ℕ) : Type 0 where
   pub answer : addrAnswer d ≡ record { outcome = LaidOut; layout = layoutOf d (addrListed d) c }
   pub best : Best (addrTrial d) (choices d) c s
-
--- a GPIO is one of a pin's candidates
-abbrev pub CandidateOf : Candidates → ℕ → Type 0
-CandidateOf Absent g = ⊥
-CandidateOf (One a) g = g ≡ a
-CandidateOf (Two a b) g = (g ≡ a) ⊎ (g ≡ b)
 
 -- a GPIO is the first of a pin's candidates
 abbrev pub FirstOf : Candidates → ℕ → Type 0

@@ -18,6 +18,7 @@ use listing::lines::pin_candidates;
 use search::Found;
 use search::Trial;
 use search::better;
+use search::row_bits;
 use slot::description::Description;
 ghost use mathlib.Core.Path.{_≡_};
 ghost use mathlib.Core.Bool.{true, false, cond};
@@ -201,14 +202,6 @@ fn trial(s: Span) -> Trial
     Trial::Misfit
 }
 
-// Choices go in rows of at most 64, those of a row having the bits from `split` on in common: the spans of the bits below
-// it are found once, and joined in each row with the span of the others.
-fn split_of(bits: u32) -> u32
-    ensures { λ r. ⌜ (r ≤ bits) × (r ≤ 6) ⌝ }
-{
-    if bits < 6 { bits } else { 6 }
-}
-
 // The spans of the bits below `split`.
 fn low_spans(l: Listing, in_range: usize, lines: usize, fixed: Span, split: u32) -> [Span; 64]
     requires { ⌜ (l .count ≤ 30) × (split ≤ 6) ⌝ }
@@ -247,7 +240,7 @@ pub fn best(d: Description, l: Listing, bits: u32) -> Found
     let used = in_range(d) as usize;
     let all = num_lines(d) as usize;
     let fixed = fixed_span(d);
-    let split = split_of(bits);
+    let split = row_bits(bits);
     let lows = low_spans(l, used, all, fixed, split);
     let rows = 1u32 << (bits - split);
     let mut found = Found::Nothing;

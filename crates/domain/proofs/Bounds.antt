@@ -116,6 +116,14 @@ module _ (d : Description) (e : descriptionIn d ≡ true) where
       leb-true (d .multi .«num_commoned») 6
       (and-left c k (and-right (leb (d .multi .select) 5) (c && k) (and-left (leb (d .multi .select) 5 && (c && k)) i (multi-config-in m))))
 
+  pub ignored-lines : isMulti (d .«set_type») ≡ true → d .multi .«num_ignored» ≤ 6
+  ignored-lines m =
+      let s = leb (d .multi .select) 5 in
+      let c = leb (d .multi .«num_commoned») 6 && kindsIn (d .multi .commoned) (d .multi .«num_commoned») in
+      let i = leb (d .multi .«num_ignored») 6 in
+      let k = kindsIn (d .multi .ignored) (d .multi .«num_ignored») in
+      leb-true (d .multi .«num_ignored») 6 (and-left i k (and-right (s && c) (i && k) (multi-config-in m)))
+
 -- the parts of a chip that is in
 module _ (c : Chip) (w : ℕ) (e : chipIn c w ≡ true) where
   address : Bool

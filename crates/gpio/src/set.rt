@@ -1,7 +1,7 @@
 // A set of GPIOs as a number: bit g of 48 says whether GPIO g is in it.
 ghost use mathlib.Core.Path.{_≡_};
 ghost use mathlib.Core.Bool.{cond};
-ghost use Prim.Native.Nat.{ℕ, _^_, _<_};
+ghost use Prim.Native.Nat.{ℕ, _≤_, _<_};
 ghost use Rattle.gpio.specs.Set.{with, lowest, end, width, size, gapless, gap};
 
 // A set as the place of a refusal.
@@ -20,6 +20,7 @@ pub fn with(s: u64, g: u8) -> u64
 // The lowest GPIO; 64 where there is none.
 pub fn lowest(s: u64) -> u32
     ensures { λ r. ⌜ r ≡ lowest s ⌝ }
+    ensures { λ r. ⌜ r ≤ 64 ⌝ }
 {
     u64::trailing_zeros(s)
 }
@@ -27,6 +28,7 @@ pub fn lowest(s: u64) -> u32
 // One past the highest GPIO; 0 where there is none.
 pub fn end(s: u64) -> u32
     ensures { λ r. ⌜ r ≡ end s ⌝ }
+    ensures { λ r. ⌜ r ≤ 64 ⌝ }
 {
     64 - u64::leading_zeros(s)
 }
@@ -34,6 +36,7 @@ pub fn end(s: u64) -> u32
 // How many GPIOs there are from the lowest to the highest, those between that are missing too.
 pub fn width(s: u64) -> u32
     ensures { λ r. ⌜ r ≡ width s ⌝ }
+    ensures { λ r. ⌜ r ≤ 64 ⌝ }
 {
     let low = lowest(s);
     let end = end(s);
@@ -42,6 +45,7 @@ pub fn width(s: u64) -> u32
 
 pub fn size(s: u64) -> u32
     ensures { λ r. ⌜ r ≡ size s ⌝ }
+    ensures { λ r. ⌜ r ≤ 64 ⌝ }
 {
     u64::count_ones(s)
 }
@@ -55,14 +59,12 @@ pub fn gapless(s: u64) -> bool
 
 // The GPIOs from the lowest to the highest that are missing.
 pub fn gap(s: u64) -> u64
-    requires { ⌜ s < 2 ^ 48 ⌝ }
     ensures { λ r. ⌜ r ≡ gap s ⌝ }
 {
-    let low = lowest(s);
-    let end = end(s);
-    if end < low {
+    let w = width(s);
+    if w == 0 {
         return s;
     }
-    let all = (1u64 << (end - low)) - 1;
-    (all << low) ^ s
+    let all = 0xffff_ffff_ffff_ffffu64 >> (64 - w);
+    (all << lowest(s)) ^ s
 }

@@ -12,7 +12,7 @@ use Rattle.listing.specs.Choice.{pinAt}
 use Rattle.listing.specs.declared.FirstFault.the-variants.{None, Of}
 use Rattle.listing.specs.declared.Listed.{Listed}
 use Rattle.listing.specs.declared.FirstFault.{FirstFault}
-use Rattle.listing.specs.Listing.{faultFrom, faultOf, firstFault, keepFault}
+use Rattle.listing.specs.Listing.{orElse, faultFrom, faultOf, firstFault, keepFault}
 
 pub fault-snoc : (f : FirstFault) (ls : List Listed) (l : Listed) → faultFrom f (ls ++ (l ∷ [])) ≡ keepFault (faultFrom f ls) l
 unfolding faultFrom
@@ -44,3 +44,24 @@ unfolding faultFrom
 no-fault-at [] e k h q = omega arith
 no-fault-at (l ∷ ls) e zero h q = head-tail l ls (l .gpios) e .0 q
 no-fault-at (l ∷ ls) e (suc k) h q = no-fault-at ls (head-tail l ls (l .gpios) e .1) k (le-of-suc-le-suc h) q
+
+-- neither of two has a fault
+pub or-none : (f g : FirstFault) → orElse f g ≡ None → (f ≡ None) × (g ≡ None)
+or-none (Of r) g e = let z : _≡_ {A = ℕ} 0 1 = cc in absurd (omega arith)
+or-none None g e = (refl, e)
+
+-- lists put together have no fault exactly if neither has
+fault-append : (f : FirstFault) (a b : List Listed) → faultFrom f (a ++ b) ≡ faultFrom (faultFrom f a) b
+unfolding faultFrom
+fault-append f [] b = refl
+fault-append f (l ∷ a) b = fault-append (keepFault f l) a b
+
+from-none : (f : FirstFault) (b : List Listed) → faultFrom f b ≡ None → (f ≡ None) × (firstFault b ≡ None)
+from-none (Of r) b e = absurd (fault-first r b e)
+from-none None b e = (refl, e)
+
+pub append-none : (a b : List Listed) → firstFault (a ++ b) ≡ None → (firstFault a ≡ None) × (firstFault b ≡ None)
+append-none a b e = from-none (firstFault a) b (rw fault-append at e)
+
+pub none-append : (a b : List Listed) → firstFault a ≡ None → firstFault b ≡ None → firstFault (a ++ b) ≡ None
+none-append a b p q = rw (fault-append, p) q

@@ -1,5 +1,7 @@
 pub mod Twos
 pub mod Faults
+pub mod Candidate
 pub mod Pushed
 pub mod Parts
 pub mod InDomain
+pub mod Walked

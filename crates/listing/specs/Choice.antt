@@ -3,6 +3,7 @@ use Prim.Native.Nat.{ℕ, zero, suc, _/_, _%_}
 use mathlib.Core.Path.{_≡_}
 use mathlib.Core.Bool.{Bool, true, cond, not}
 use mathlib.Core.List.{List}
+use mathlib.Core.Logic.{_⊎_}
 use lib.Dec.{ltb, eqb}
 use lib.ListN.{getD}
 use Rattle.gpio.specs.Each.{tally}
@@ -24,6 +25,12 @@ abbrev pub leftBy : Candidates → ℕ → ℕ
 leftBy Absent rest = rest
 leftBy (One g) rest = rest
 leftBy (Two g h) rest = rest / 2
+
+-- a GPIO is one of a pin's candidates
+abbrev pub CandidateOf : Candidates → ℕ → Type 0
+CandidateOf Absent g = ⊥
+CandidateOf (One a) g = g ≡ a
+CandidateOf (Two a b) g = (g ≡ a) ⊎ (g ≡ b)
 
 -- the candidates of the k-th pin
 abbrev pub pinAt : List Listed → ℕ → Candidates

@@ -1,12 +1,13 @@
 -- The choices of a search taken in rows. Assumes nothing.
 use mathlib.Core.Path.{_≡_, sym, _∙_}
 use Prim.Native.Nat.{ℕ, zero, suc, _+_, _*_, _%_, _^_, _-_, _≤_, _<_}
-use native.Mathlib.Nat.{add-zero, add-suc, mul-le-mul-right, suc-mul}
+use native.Mathlib.Nat.{add-zero, add-suc, le-trans, mul-le-mul-right, suc-mul}
 use native.Mathlib.Numerals.{add-one}
 use native.Mathlib.Omega.{arith}
 use lib.Pow.{shl-exact, pow-mono, pow-add}
 use Rattle.search.specs.declared.Trial.{Trial}
-use Rattle.search.specs.Search.{best, bestOnward}
+use Rattle.search.specs.declared.Found.{Found}
+use Rattle.search.specs.Search.{betterOf, best, bestOnward}
 
 -- the choices below c, then k more in a row
 pub onward : (trial row : ℕ → Trial) (c k : ℕ) → ((q : ℕ) → q < k → row q ≡ trial (c + q)) → bestOnward (best trial c) row c k ≡ best trial (c + k)
@@ -14,13 +15,22 @@ unfolding best bestOnward
 onward trial row c zero h = rw add-zero
 onward trial row c (suc k) h = rw (onward trial row c k (λ q l. h q (omega arith)), h k (omega arith), add-suc)
 
+-- one turn of a loop over a row, and its end
+pub onward-turn : (before : Found) (row : ℕ → Trial) (c k : ℕ) (found later : Found) (t : Trial) → found ≡ bestOnward before row c k → t ≡ row k → later ≡ betterOf found (c + k) t
+    → later ≡ bestOnward before row c (k + 1)
+unfolding bestOnward
+onward-turn before row c k found later t e h i = rw (i, e, h, add-one)
+
+pub onward-done : (before : Found) (row : ℕ → Trial) (c k n : ℕ) (found : Found) → k ≡ n → found ≡ bestOnward before row c k → found ≡ bestOnward before row c n
+onward-done before row c k n found e h = rw e at h
+
 -- a row that the choices of 6 bits make
 pub row-short : (k : ℕ) → k ≤ 6 → 2 ^ k ≤ 64
 row-short k h = pow-mono h
 
 -- row << k in 32 bits, a row below those that b choice bits make
-pub row-first : (row b k : ℕ) → k ≤ b → b ≤ 16 → row < 2 ^ (b - k) → (row * 2 ^ k) % 2 ^ 32 ≡ row * 2 ^ k
-row-first row b k h i l = shl-exact (b - k) k 32 l (omega arith)
+pub row-first : (row rows b k : ℕ) → row < rows → rows ≡ 2 ^ (b - k) → k ≤ b → b ≤ 16 → (row * 2 ^ k) % 2 ^ 32 ≡ row * 2 ^ k
+row-first row rows b k l e h i = shl-exact (b - k) k 32 (rw e at l) (omega arith)
 
 -- the next row begins where a row ends
 pub next-row : (row n : ℕ) → row * n + n ≡ (row + 1) * n
@@ -32,3 +42,18 @@ all-rows b k h = let e : (b - k) + k ≡ b = omega arith in sym (pow-add 2 (b - 
 
 pub row-within : (row b k : ℕ) → k ≤ b → row < 2 ^ (b - k) → row * 2 ^ k + 2 ^ k ≤ 2 ^ b
 row-within row b k h l = rw (next-row, add-one, ← all-rows b k h) (mul-le-mul-right (2 ^ k) l)
+
+-- a row's choices are below 2^16
+pub row-fits : (row rows b k first count : ℕ) → row < rows → rows ≡ 2 ^ (b - k) → k ≤ b → k ≤ 6 → b ≤ 16 → first ≡ row * 2 ^ k → count ≡ 2 ^ k
+    → (count ≤ 64) × (first + count ≤ 65536)
+row-fits row rows b k first count l e h i j f g =
+    (rw g (row-short k i), rw (f, g) (le-trans (row-within row b k h (rw e at l)) (pow-mono j)))
+
+-- one turn of a loop over the rows, and its end
+pub rows-turn : (trial each : ℕ → Trial) (row k first count : ℕ) (found later : Found) → first ≡ row * 2 ^ k → count ≡ 2 ^ k
+    → ((q : ℕ) → q < 2 ^ k → each q ≡ trial (row * 2 ^ k + q)) → found ≡ best trial (row * 2 ^ k) → later ≡ bestOnward found each first count
+    → later ≡ best trial ((row + 1) * 2 ^ k)
+rows-turn trial each row k first count found later f g h e i = rw (i, e, f, g, ← next-row) (onward trial each (row * 2 ^ k) (2 ^ k) h)
+
+pub rows-done : (trial : ℕ → Trial) (row rows b k : ℕ) (found : Found) → row ≡ rows → rows ≡ 2 ^ (b - k) → k ≤ b → found ≡ best trial (row * 2 ^ k) → found ≡ best trial (2 ^ b)
+rows-done trial row rows b k found e f h i = rw (e, f, all-rows b k h) at i

@@ -4,22 +4,20 @@ use mathlib.Core.Bool.{true, false}
 use mathlib.Core.List.{List}
 use Prim.Native.Nat.{ℕ, _+_, _*_, _%_, _^_, _≤_, _<_, _-_}
 use native.Mathlib.Omega.{arith}
-use native.Mathlib.Nat.{zero-mul, le-trans}
+use native.Mathlib.Nat.{zero-mul}
 use lib.ListN.{length, getD, take}
-use lib.Pow.{pow-mono}
-use lib.Seq.{getD-take}
 use Rattle.gpio.specs.Span.{joined}
 use Rattle.gpio.specs.Tab.{tab}
 use Rattle.gpio.specs.declared.span.Span.{Span}
 use Rattle.gpio.proofs.Shifts.{shifted-one}
-use Rattle.gpio.proofs.Tab.{getD-tab}
+use Rattle.gpio.proofs.Tab.{getD-begins}
 use Rattle.slot.specs.declared.description.Description.{Description}
 use Rattle.listing.specs.Listing.{listOf}
 use Rattle.listing.specs.declared.Listed.{Listed}
-use Rattle.search.specs.Search.{best, bestOnward}
+use Rattle.search.specs.Search.{best}
 use Rattle.search.specs.declared.Found.{Found}
 use Rattle.search.specs.declared.Trial.{Trial}
-use Rattle.search.proofs.Rows.{onward, row-short, row-first, next-row, all-rows, row-within}
+use Rattle.search.proofs.Rows.{row-first, row-fits, rows-turn, rows-done}
 use Rattle.addr_layout.specs.Lines.{lines}
 use Rattle.addr_layout.specs.Choices.{inRange, fixedSpan, choiceSpan, trialOf}
 use Rattle.addr_layout.specs.Parts.{partSpan, noSpan}
@@ -36,25 +34,15 @@ module _ (ls : List Listed) (r n : ℕ) (fixed : Span) (s : ℕ) where
   abbrev trials : ℕ → Trial
   trials c = trialOf (choiceSpan ls r n fixed c)
 
-  low-is : (lows : List Span) (q : ℕ) → Lows lows → q < 2 ^ s → getD lows q noSpan ≡ partSpan ls r n fixed true s q
-  low-is lows q t l =
-      sym (getD-take (2 ^ s) lows q noSpan l) ∙ ap (λ (x : List Span). getD x q noSpan) t ∙ getD-tab (λ j. partSpan ls r n fixed true s j) (2 ^ s) q noSpan l
-
   -- a choice of a row spans what its two parts span
   row-trial : (lows : List Span) (high : Span) (row q : ℕ) → Lows lows → high ≡ partSpan ls r n fixed false s (row * 2 ^ s) → q < 2 ^ s
       → trialOf (joined (getD lows q noSpan) high) ≡ trials (row * 2 ^ s + q)
-  row-trial lows high row q t e l = ap trialOf (rw (low-is lows q t l, e) (sym (parts-join ls r n fixed row s q l (length ls))))
-
-  turn : (lows : List Span) (high : Span) (found later : Found) (row first count : ℕ) → Lows lows → first ≡ row * 2 ^ s → count ≡ 2 ^ s
-      → high ≡ partSpan ls r n fixed false s first → found ≡ best trials (row * 2 ^ s)
-      → later ≡ bestOnward found (λ q. trialOf (joined (getD lows q noSpan) high)) first count → later ≡ best trials ((row + 1) * 2 ^ s)
-  turn lows high found later row first count t f g e h i =
-      rw (i, h, f, g, ← next-row) (onward trials (λ q. trialOf (joined (getD lows q noSpan) high)) (row * 2 ^ s) (2 ^ s) (λ q l. row-trial lows high row q t (rw f at e) l))
+  row-trial lows high row q t e l = ap trialOf (rw (getD-begins (partSpan ls r n fixed true s) lows (2 ^ s) q noSpan t l, e) (sym (parts-join ls r n fixed row s q l (length ls))))
 
 done : (ls : List Listed) (d : Description) (u n row rows s bits : ℕ) (fixed : Span) (found : Found) → u ≡ inRange d → n ≡ lines d → fixed ≡ fixedSpan d → row ≡ rows
     → rows ≡ 2 ^ (bits - s) → s ≤ bits → found ≡ best (trials ls u n fixed s) (row * 2 ^ s)
     → found ≡ best (λ c. trialOf (choiceSpan ls (inRange d) (lines d) (fixedSpan d) c)) (2 ^ bits)
-done ls d u n row rows s bits fixed found eu en ef er eb h f = rw (eu, en, ef, er, eb, all-rows bits s h) at f
+done ls d u n row rows s bits fixed found eu en ef er eb h f = rw (eu, en, ef) at (rows-done (trials ls u n fixed s) row rows bits s found er eb h f)
 
 abbrev Inv-loop : tie.InvT-loop
 Inv-loop l bits used all fixed split lows rows found₀ row₀ found row =
@@ -68,35 +56,28 @@ loop-holds : tie.Need-loop-holds Inv-loop μ-loop
 unfolding best
 loop-holds c =
     let a = c .before .before .before .before .before .args in
-    let s = c .before .split-of .ensures in
+    let s = c .before .row-bits .ensures in
     (omega arith, shifted-one _ 32 (omega arith), s .0, s .1, omega arith, c .low-spans .ensures, rw zero-mul refl)
-
--- a row's choices are below 2^16
-row-fits : (row rows b s first count : ℕ) → row < rows → rows ≡ 2 ^ (b - s) → s ≤ b → s ≤ 6 → b ≤ 16 → first ≡ row * 2 ^ s → count ≡ 2 ^ s → (count ≤ 64) × (first + count ≤ 65536)
-row-fits row rows b s first count l e h i j f g =
-    (rw g (row-short s i), rw (f, g) (le-trans (row-within row b s h (rw e at l)) (pow-mono j)))
-
-first-is : (row rows b s : ℕ) → row < rows → rows ≡ 2 ^ (b - s) → s ≤ b → b ≤ 16 → (row * 2 ^ s) % 2 ^ 32 ≡ row * 2 ^ s
-first-is row rows b s l e h i = row-first row b s h i (rw e at l)
 
 best-in-row-requires : tie.Need-best-in-row-requires Inv-loop μ-loop
 best-in-row-requires c κs =
     let v = c .before .before .loop in
     let l = c .before .loop-test .taken in
-    row-fits _ _ _ _ _ _ l (v .inv .1) (v .inv .2) (v .inv .3) (v .inv .4) (first-is _ _ _ _ l (v .inv .1) (v .inv .2) (v .inv .4)) (shifted-one _ 32 (omega arith))
+    row-fits _ _ _ _ _ _ l (v .inv .1) (v .inv .2) (v .inv .3) (v .inv .4) (row-first _ _ _ _ l (v .inv .1) (v .inv .2) (v .inv .4)) (shifted-one _ 32 (omega arith))
 
 loop-again : tie.Need-loop-again Inv-loop μ-loop
 loop-again c =
     let v = c .before .before .before .loop in
     let l = c .before .before .loop-test .taken in
-    let i = v .inv in (
+    let i = v .inv in
+    let first = row-first _ _ _ _ l (i .1) (i .2) (i .4) in (
       omega arith,
       i .1,
       i .2,
       i .3,
       i .4,
       i .5,
-      turn _ _ _ _ _ _ _ _ _ _ _ _ (i .5) (first-is _ _ _ _ l (i .1) (i .2) (i .4)) (shifted-one _ 32 (omega arith)) (c .before .part-span .ensures) (i .6) (c .best-in-row .ensures),
+      rows-turn _ _ _ _ _ _ _ _ first (shifted-one _ 32 (omega arith)) (λ q h. row-trial _ _ _ _ _ _ _ _ q (i .5) (c .before .part-span .ensures ∙ ap (partSpan _ _ _ _ false _) first) h) (i .6) (c .best-in-row .ensures),
     )
 
 returns : tie.Need-returns Inv-loop μ-loop

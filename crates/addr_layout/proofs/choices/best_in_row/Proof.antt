@@ -1,27 +1,16 @@
 -- `best_in_row` meets its contract. The loop's invariant: `found` is the best of what was found before and of the choices passed. Assumes nothing.
 use mathlib.Core.Path.{_≡_, refl, _∙_}
-use mathlib.Core.List.{List}
-use Prim.Native.Nat.{ℕ, _+_, _≤_, _-_}
-use native.Mathlib.Numerals.{add-one}
+use Prim.Native.Nat.{_≤_, _-_}
 use native.Mathlib.Omega.{arith}
 use lib.ListN.{length, getD}
 use Rattle.gpio.specs.Span.{joined}
-use Rattle.gpio.specs.declared.span.Span.{Span}
-use Rattle.search.specs.Search.{betterOf, bestOnward}
-use Rattle.search.specs.declared.Found.{Found}
-use Rattle.search.specs.declared.Trial.{Trial}
+use Rattle.search.specs.Search.{bestOnward}
+use Rattle.search.proofs.Rows.{onward-turn, onward-done}
 use Rattle.addr_layout.specs.Choices.{trialOf}
 use Rattle.addr_layout.specs.Parts.{noSpan}
 use borrow.Author.Needs.{needs}
 use Rattle.addr_layout.proofs.choices.best_in_row.Statement.{statement}
 use Rattle.addr_layout.proofs.choices.best_in_row.Tie as tie
-
-turn : (before : Found) (f : ℕ → Trial) (c k : ℕ) (found later : Found) (t : Trial) → found ≡ bestOnward before f c k → t ≡ f k → later ≡ betterOf found (c + k) t → later ≡ bestOnward before f c (k + 1)
-unfolding bestOnward
-turn before f c k found later t e h i = rw (i, e, h, add-one)
-
-done : (before : Found) (f : ℕ → Trial) (c k n : ℕ) (found : Found) → k ≡ n → found ≡ bestOnward before f c k → found ≡ bestOnward before f c n
-done before f c k n found e h = rw e at h
 
 abbrev Inv-loop : tie.InvT-loop
 Inv-loop high first len lows found₀ q₀ found q =
@@ -37,10 +26,10 @@ loop-holds c = (omega arith, search needs, refl)
 loop-again : tie.Need-loop-again Inv-loop μ-loop
 loop-again c =
     let v = c .before .before .before .before .before .loop in
-    (omega arith, v .inv .1, turn _ _ _ _ _ _ _ (v .inv .2) (c .before .trial .ensures ∙ rw (c .before .before .join .ensures)) (c .better .ensures))
+    (omega arith, v .inv .1, onward-turn _ _ _ _ _ _ _ (v .inv .2) (c .before .trial .ensures ∙ rw (c .before .before .join .ensures)) (c .better .ensures))
 
 returns : tie.Need-returns Inv-loop μ-loop
-returns c = let v = c .before .loop in done _ _ _ _ _ _ (omega arith) (v .inv .2)
+returns c = let v = c .before .loop in onward-done _ _ _ _ _ _ (omega arith) (v .inv .2)
 
 pub best-in-row-spec : {M : Type 1} → statement M
 best-in-row-spec = tie.close (tie.spec Inv-loop μ-loop loop-holds (λ c. search needs) (λ c. search needs) (λ c. search needs) (λ c. search needs) (λ c κs. search needs) (λ c κs. search needs) (λ c κs. search needs) (λ c. search needs) (λ c. search needs) loop-again returns)

@@ -1,22 +1,19 @@
 -- `part_span` meets its contract. The loop's invariant: `rest` is what the pins passed left of the choice, `bit` the next pin's bit, and `s` spans those that count. Assumes nothing.
-use mathlib.Core.Path.{_≡_, refl, sym, ap}
+use mathlib.Core.Path.{_≡_, refl}
 use mathlib.Core.Bool.{Bool, _&&_, cond}
 use mathlib.Core.List.{List}
 use Prim.Native.Nat.{ℕ, _+_, _≤_, _<_, _-_}
 use native.Mathlib.Numerals.{add-one}
 use native.Mathlib.Omega.{arith}
-use lib.ListN.{length, take, getD, length-take}
-use lib.Seq.{getD-take}
-use Rattle.gpio.specs.Candidates.{two}
+use lib.ListN.{length, take, length-take}
 use Rattle.gpio.specs.Span.{widened}
 use Rattle.gpio.specs.declared.candidates.Candidates.{Candidates}
 use Rattle.gpio.specs.declared.span.Span.{Span}
 use Rattle.gpio.proofs.Lists.{mapped-length}
-use Rattle.gpio.specs.declared.candidates.Candidates.the-variants.{Absent}
-use Rattle.slot.specs.declared.refusal.Refusal.the-variants.{OutOfDomain}
-use Rattle.listing.specs.Listing.{listed, listOf}
+use Rattle.listing.specs.Listing.{listOf}
 use Rattle.listing.specs.Choice.{chosen, leftBy, pinAt, restAt, gpioAt, bitOf, inPart}
-use Rattle.gpio.proofs.Each.{tally-none, tally-turn}
+use Rattle.gpio.proofs.Each.{tally-none}
+use Rattle.listing.proofs.Walked.{pin-taken, rest-left, bit-served}
 use Rattle.listing.specs.declared.Listed.{Listed}
 use Rattle.listing.specs.declared.choice.Picked.{Picked}
 use Rattle.addr_layout.specs.Choices.{spanned}
@@ -24,17 +21,6 @@ use Rattle.addr_layout.specs.Parts.{partAt}
 use borrow.Author.Needs.{needs}
 use Rattle.addr_layout.proofs.choices.part_span.Statement.{statement}
 use Rattle.addr_layout.proofs.choices.part_span.Tie as tie
-
-pin-taken : (ps : List Listed) (n k : ℕ) → k < n → getD ps k (listed Absent OutOfDomain) .gpios ≡ pinAt (take n ps) k
-pin-taken ps n k h = ap (λ (l : Listed). l .gpios) (sym (getD-take n ps k (listed Absent OutOfDomain) h))
-
-left : (ls : List Listed) (c k r : ℕ) (g : Candidates) (p : Picked) → r ≡ restAt ls c k → g ≡ pinAt ls k
-    → p ≡ record { gpio = chosen g r; rest = leftBy g r } → p .rest ≡ restAt ls c (k + 1)
-unfolding restAt
-left ls c k r g p e h i = rw (i, h, e, add-one)
-
-served : (ls : List Listed) (k t n : ℕ) (g : Candidates) → t ≡ bitOf ls k → g ≡ pinAt ls k → n ≡ cond (two g) 1 0 → t + n ≡ bitOf ls (k + 1)
-served ls k t n g e h i = rw (i, h) (tally-turn (λ j. two (pinAt ls j)) k t e)
 
 wider : (ls : List Listed) (u n split c k r t : ℕ) (low : Bool) (fixed s s' : Span) (g : Candidates) (p : Picked) (b : Bool) → r ≡ restAt ls c k → t ≡ bitOf ls k → g ≡ pinAt ls k
     → p ≡ record { gpio = chosen g r; rest = leftBy g r } → b ≡ inPart low split t → s ≡ partAt ls u n fixed low split c k → s' ≡ cond (spanned u n k && b) (widened s (p .gpio)) s
@@ -68,8 +54,8 @@ loop-again c =
       omega arith,
       omega arith,
       v .inv .3,
-      left _ _ _ _ _ _ (v .inv .4) g pick,
-      served (listOf (a .l)) (v .k) _ _ _ (v .inv .5) g (c .bits .ensures .0),
+      rest-left _ _ _ _ _ _ (v .inv .4) g pick,
+      bit-served (listOf (a .l)) (v .k) _ _ _ (v .inv .5) g (c .bits .ensures .0),
       wider _ _ _ _ _ _ _ _ _ _ _ _ _ _ _ (v .inv .4) (v .inv .5) g pick (c .before .before .in-part .ensures) (v .inv .6) (c .before .widen-if .ensures),
     )
 

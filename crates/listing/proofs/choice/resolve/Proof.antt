@@ -1,29 +1,13 @@
 -- `resolve` meets its contract. The loop's invariant: the GPIOs of the pins passed are in place, and `rest` is what they left of the choice. Assumes nothing.
-use mathlib.Core.Path.{_≡_, refl, _∙_}
-use mathlib.Core.List.{List}
-use Prim.Native.Nat.{ℕ, _+_, _≤_, _<_, _-_}
-use native.Mathlib.Numerals.{add-one}
-use native.Mathlib.Omega.{arith}
-use Rattle.gpio.specs.Tab.{tab}
+use mathlib.Core.Path.{_≡_, refl}
+use Prim.Native.Nat.{_-_}
 use Rattle.gpio.proofs.Tab.{Filled, filled-none, filled-turn, filled}
-use Rattle.gpio.specs.declared.candidates.Candidates.{Candidates}
-use Rattle.listing.specs.declared.Listed.{Listed}
-use Rattle.listing.specs.declared.choice.Picked.{Picked}
 use Rattle.listing.specs.Listing.{listOf}
-use Rattle.listing.specs.Choice.{chosen, leftBy, pinAt, restAt, gpioAt}
+use Rattle.listing.specs.Choice.{restAt, gpioAt}
+use Rattle.listing.proofs.Walked.{gpio-taken, rest-left}
 use borrow.Author.Needs.{needs}
 use Rattle.listing.proofs.choice.resolve.Statement.{statement}
 use Rattle.listing.proofs.choice.resolve.Tie as tie
-
-taken : (ls : List Listed) (c k r : ℕ) (g : Candidates) (p : Picked) → r ≡ restAt ls c k → g ≡ pinAt ls k
-    → p ≡ record { gpio = chosen g r; rest = leftBy g r } → p .gpio ≡ gpioAt ls c k
-unfolding gpioAt
-taken ls c k r g p e h i = rw (i, h, e)
-
-left : (ls : List Listed) (c k r : ℕ) (g : Candidates) (p : Picked) → r ≡ restAt ls c k → g ≡ pinAt ls k
-    → p ≡ record { gpio = chosen g r; rest = leftBy g r } → p .rest ≡ restAt ls c (k + 1)
-unfolding restAt
-left ls c k r g p e h i = rw (i, h, e, add-one)
 
 abbrev Inv-loop : tie.InvT-loop
 Inv-loop l choice out₀ rest₀ k₀ out rest k = Filled 30 (λ j. gpioAt (listOf l) choice j) out k × (rest ≡ restAt (listOf l) choice k)
@@ -38,8 +22,8 @@ loop-holds c = (filled-none refl, refl)
 loop-again : tie.Need-loop-again Inv-loop μ-loop
 loop-again c =
     let v = c .before .before .before .loop in (
-      filled-turn (v .inv .0) (c .before .before .loop-test .taken) (taken _ _ _ _ _ _ (v .inv .1) (c .before .pin-at .ensures) (c .pick .ensures)),
-      left _ _ _ _ _ _ (v .inv .1) (c .before .pin-at .ensures) (c .pick .ensures),
+      filled-turn (v .inv .0) (c .before .before .loop-test .taken) (gpio-taken _ _ _ _ _ _ (v .inv .1) (c .before .pin-at .ensures) (c .pick .ensures)),
+      rest-left _ _ _ _ _ _ (v .inv .1) (c .before .pin-at .ensures) (c .pick .ensures),
     )
 
 returns : tie.Need-returns Inv-loop μ-loop
