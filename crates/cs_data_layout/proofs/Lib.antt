@@ -1,1 +1,6 @@
-pub mod InDomain
+pub mod Bounds
+pub mod Searched
+pub mod Scores
+pub mod Why
+pub mod Law
+pub mod Sound

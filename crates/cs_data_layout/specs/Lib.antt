@@ -1,1 +1,4 @@
-pub mod Pins
+pub mod Layout
+pub mod Choices
+pub mod Search
+pub mod Law

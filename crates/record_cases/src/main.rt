@@ -1,12 +1,19 @@
 // Cases through the record. The edges of the domain: for each number the smallest and the largest that is in, and one past
 // each; a line of output is what was written where, and whether the description was taken. Then document 01's bench cases
-// of the address search.
+// of both searches.
 use addr_layout::derive_addr_layout;
 use addr_layout::layout::AddrLayout;
 use addr_layout::layout::AddrOutcome;
+use addr_layout::layout::no_layout;
+use cs_data_layout::derive_cs_data_layout;
+use cs_data_layout::layout::CsDataLayout;
+use cs_data_layout::layout::CsDataOutcome;
+use cs_data_layout::layout::GivenLayout;
+use cs_data_layout::layout::IgnoreIndex;
 use libc::STDOUT_FILENO;
 use record::Answer;
 use slot::description::Description;
+use slot::refusal::Refusal;
 use std::num::wrapping_add_u8;
 ghost use Prim.Native.Nat.{_≤_};
 
@@ -279,7 +286,7 @@ fn searches(set_type: u8, chips: u8, first: usize, lines: usize, x1: u8) {
     say(b"address search");
     say_verdict(address_taken(decoded.description));
     say(b"select search");
-    say_verdict(cs_data_layout::pins::in_domain(decoded.description));
+    say_verdict(cs_pins::pins::in_domain(decoded.description));
 }
 
 fn say_layout(layout: AddrLayout) {
@@ -299,12 +306,51 @@ fn three_lines(first: u8, second: u8, third: u8, or: u8) {
     let outcome = answer.outcome;
     match outcome {
         AddrOutcome::LaidOut => say_layout(answer.layout),
-        AddrOutcome::Refused(r) => {
-            say(b"number ");
-            say_number(r.number() as u64);
+        AddrOutcome::Refused(r) => say_refusal(r),
+    }
+}
+
+fn say_refusal(r: Refusal) {
+    say(b"number ");
+    say_number(r.number() as u64);
+    say(b", place ");
+    say_number(r.place());
+    say(b"\n");
+}
+
+fn say_ignore_index(layout: CsDataLayout) {
+    let index = layout.cs_ignore_index;
+    match index {
+        IgnoreIndex::None => say(b"no ignore index\n"),
+        IgnoreIndex::At(k) => {
+            say(b"ignore index ");
+            say_number(k as u64);
             say(b"\n");
         }
     }
+}
+
+// The sample with ce and oe at two GPIOs, changed further by the caller.
+fn two_selects(b: [u8; 424], ce: u8, oe: u8) {
+    let decoded = record::decode(&with(with(b, 124, ce), 126, oe));
+    let none = GivenLayout {
+        given: false,
+        layout: no_layout(),
+    };
+    let answer = derive_cs_data_layout(decoded.description, none);
+    let outcome = answer.outcome;
+    match outcome {
+        CsDataOutcome::LaidOut => say_ignore_index(answer.layout),
+        CsDataOutcome::Refused(r) => say_refusal(r),
+    }
+}
+
+// A Multi set of one chip: ce its select, oe commoned, and a cs1 line at GPIO 19 that is ignored.
+fn multi_sample() -> [u8; 424] {
+    let set = with(with(with(sample(), 2, 2), 7, 1), 24, 1);
+    let configured = with(with(with(set, 25, 1), 28, 1), 36, 2);
+    let controlled = with(with(with(configured, 142, 3), 190, 2), 191, 39);
+    with(controlled, 128, 19)
 }
 
 fn main() {
@@ -326,4 +372,8 @@ fn main() {
     say(b"address search\n");
     three_lines(45, 46, 47, 255);
     three_lines(8, 15, 9, 10);
+    say(b"select search\n");
+    two_selects(sample(), 18, 20);
+    two_selects(sample(), 18, 21);
+    two_selects(multi_sample(), 18, 20);
 }

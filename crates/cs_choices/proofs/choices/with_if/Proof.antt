@@ -1,0 +1,13 @@
+-- `with_if` meets its contract. Assumes nothing.
+use borrow.Author.Needs.{needs}
+use Rattle.cs_choices.proofs.choices.with_if.Statement.{statement}
+use Rattle.cs_choices.proofs.choices.with_if.Tie as tie
+
+returns : tie.Need-returns
+returns c = rw (c .before .if1 .taken) (c .with .ensures)
+
+returns-2 : tie.Need-returns-2
+returns-2 c = rw (c .if1 .left)
+
+pub with-if-spec : {M : Type 1} → statement M
+with-if-spec = tie.close (tie.spec (λ c κs. search needs) returns returns-2)

@@ -1,0 +1,4 @@
+pub mod Verdict
+pub mod Sets
+pub mod Parts
+pub mod Nothing

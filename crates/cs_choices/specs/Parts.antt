@@ -1,0 +1,42 @@
+-- What the search keeps while it runs over the choices in rows. No answer is defined by it: `dataSet` and `selectSet` say
+-- which GPIOs a choice has. Assumes nothing.
+use Prim.Native.Nat.{ℕ, zero, suc}
+use mathlib.Core.Bool.{Bool, _&&_, cond}
+use mathlib.Core.List.{List}
+use lib.Bits.{bitOr}
+use lib.Dec.{leb}
+use lib.ListN.{length}
+use Rattle.gpio.specs.Set.{with}
+use Rattle.listing.specs.Choice.{gpioAt, bitOf, inPart}
+use Rattle.listing.specs.declared.Listed.{Listed}
+use Rattle.cs_choices.specs.Verdict.{verdictOf}
+use Rattle.cs_choices.specs.Sets.{dataSet, selectSet}
+use Rattle.cs_choices.specs.declared.choices.Sets.{Sets}
+use Rattle.cs_choices.specs.declared.choices.Fixed.{Fixed}
+use Rattle.cs_choices.specs.declared.verdict.Verdict.{Verdict}
+
+-- of the GPIOs that choice c gives the pins from one on, those of pins whose bit is in one part of the number, the first k
+-- numbered pins passed
+unfoldable pub partAt : List Listed → ℕ → Bool → ℕ → ℕ → ℕ → ℕ
+partAt ls from low split c zero = 0
+partAt ls from low split c (suc k) =
+    cond (leb from k && inPart low split (bitOf ls k)) (with (partAt ls from low split c k) (gpioAt ls c k))
+    (partAt ls from low split c k)
+
+-- past a table's end
+abbrev pub noSets : Sets
+noSets = record { «data_gpios» = 0; «select_gpios» = 0 }
+
+-- the same of data and select pins, the first n being the data pins
+abbrev pub partsOf : List Listed → ℕ → Bool → ℕ → ℕ → Sets
+partsOf ls n low split c = record { «data_gpios» = partAt ls 0 low split c n; «select_gpios» = partAt ls n low split c (length ls) }
+
+-- the GPIOs of a choice
+abbrev pub setsOf : List Listed → ℕ → ℕ → ℕ → Sets
+setsOf ls n excess c = record { «data_gpios» = dataSet ls n c; «select_gpios» = selectSet ls n excess c }
+
+-- the verdict on the choice that two parts of a number make
+abbrev pub inRow : Fixed → Sets → Sets → Verdict
+inRow f low high =
+    verdictOf (f .multi) (f .qualifiers) (bitOr (low .«data_gpios») (high .«data_gpios»))
+    (bitOr (bitOr (low .«select_gpios») (high .«select_gpios»)) (f .excess))

@@ -1,0 +1,4 @@
+// The choices of the select and data search: the verdict on each, the best of them, and why none fits.
+pub mod verdict; // the verdict on one choice
+pub mod choices; // the choices, and the best of them
+pub mod nothing; // why nothing fits

@@ -1,0 +1,73 @@
+-- What the layout of a choice that fits keeps. Assumes nothing.
+use mathlib.Core.Path.{_≡_, refl}
+use mathlib.Core.Bool.{Bool, true, false}
+use mathlib.Core.List.{List, [], _∷_, _++_}
+use Prim.Native.Nat.{ℕ}
+use lib.Dec.{leb}
+use lib.ListN.{getD}
+use Rattle.gpio.specs.Tab.{tab}
+use Rattle.slot.specs.Description.{isMulti, chip0}
+use Rattle.slot.specs.declared.description.Description.{Description}
+use Rattle.listing.specs.Listing.{xPins, faultFrom, firstFault}
+use Rattle.listing.specs.declared.Listed.{Listed}
+use Rattle.listing.specs.declared.FirstFault.the-variants.{None}
+use Rattle.listing.proofs.Candidate.{candidate-at}
+use Rattle.listing.proofs.Faults.{no-fault-at, or-none, append-none, none-append}
+use Rattle.cs_pins.specs.Pins.{dataListed, activeListed, kindListed, selectListed, commonedListed, numbered}
+use Rattle.cs_pins.specs.Checked.{orNoActive, ignoredListed, multiChecked, checked}
+use Rattle.cs_choices.specs.Sets.{dataSet}
+use Rattle.cs_choices.specs.declared.verdict.Verdict.the-variants.{Fits}
+use Rattle.cs_data_layout.specs.Layout.{handed}
+use Rattle.cs_data_layout.specs.Choices.{numData, qualifierSet}
+use Rattle.cs_data_layout.specs.Search.{missingLayout, tooLarge, earlier}
+use Rattle.cs_data_layout.specs.Law.{PastTests, verdictAt, selectsAt, Sound}
+use Rattle.cs_data_layout.specs.declared.layout.GivenLayout.{GivenLayout}
+use Rattle.cs_data_layout.proofs.Scores.{fits-only}
+
+-- the pins of a list that must not be empty
+active-none : (ls : List Listed) → firstFault (orNoActive ls) ≡ None → firstFault ls ≡ None
+unfolding orNoActive faultFrom
+active-none [] e = refl
+active-none (l ∷ ls) e = e
+
+module _ (d : Description) where
+  abbrev selectLine : List Listed
+  selectLine = kindListed d (d .multi .select) ∷ []
+
+  abbrev commonedPins : List Listed
+  commonedPins = tab (d .multi .«num_commoned») (λ k. kindListed d (getD (d .multi .commoned) k 0))
+
+  abbrev xs : List Listed
+  xs = xPins (d .board) (leb 2 (d .«num_chips»)) (leb 3 (d .«num_chips»))
+
+  -- the select and commoned pins are among those checked
+  select-none : (m : Bool) → isMulti (d .«set_type») ≡ m → firstFault (checked d) ≡ None → (firstFault (selectListed d) ≡ None) × (firstFault (commonedListed d) ≡ None)
+  unfolding selectListed commonedListed checked multiChecked faultFrom
+  select-none true m e =
+      let all : firstFault (((selectLine ++ commonedPins) ++ ignoredListed d) ++ xs) ≡ None = rw m at e in
+      let (lines, x) = append-none ((selectLine ++ commonedPins) ++ ignoredListed d) xs all in
+      let (s, c) = append-none selectLine commonedPins (append-none (selectLine ++ commonedPins) (ignoredListed d) lines .0) in
+      rw m (none-append selectLine xs s x, c)
+  select-none false m e =
+      let active : firstFault (orNoActive (activeListed d (chip0 d .control .count))) ≡ None = rw m at e in
+      rw m (active-none (activeListed d (chip0 d .control .count)) active, refl)
+
+  -- past the earlier tests no numbered pin has a fault
+  numbered-none : (a : GivenLayout) → earlier d a ≡ None → firstFault (numbered d) ≡ None
+  unfolding earlier numbered
+  numbered-none a e =
+      let (ds, cs) = or-none (firstFault (dataListed d)) _ (or-none (tooLarge d (handed a)) _ (or-none (missingLayout d a) _ e .1) .1) in
+      let (s, c) = select-none (isMulti (d .«set_type»)) refl cs in
+      none-append (dataListed d ++ selectListed d) (commonedListed d) (none-append (dataListed d) (selectListed d) ds s) c
+
+-- the layout of a choice that fits
+pub sound : (d : Description) (a : GivenLayout) → PastTests d a → (c s : ℕ) → verdictAt d a c ≡ Fits s → Sound d a c
+sound d a past c s e =
+    let ls = numbered d in
+    let (gapless, gap, window, score) = fits-only (isMulti (d .«set_type»)) (qualifierSet d (handed a)) (dataSet ls (numData d) c) (selectsAt d a c) s e in
+    record {
+      data-gapless = gapless;
+      select-gap = gap;
+      window = window;
+      candidate = λ k l. candidate-at ls c k (no-fault-at ls (numbered-none d a (past .no-fault)) k l);
+    }

@@ -1,0 +1,117 @@
+-- Demand 2's law of the select search, why a search in which nothing fits refuses, and what a found layout keeps. Assumes nothing.
+use mathlib.Core.Path.{_≡_}
+use mathlib.Core.Bool.{true, not, _&&_}
+use mathlib.Core.Logic.{_⊎_}
+use Prim.Native.Nat.{ℕ, _^_, _≤_, _<_}
+use lib.Bits.{bitAnd}
+use lib.Dec.{eqb}
+use lib.ListN.{length}
+use Rattle.gpio.specs.Set.{lowest, width, gapless, gap}
+use Rattle.slot.specs.Description.{isMulti}
+use Rattle.slot.specs.declared.description.Description.{Description}
+use Rattle.slot.specs.declared.refusal.Refusal.{Refusal}
+use Rattle.slot.specs.declared.refusal.Refusal.the-variants.{NonContiguousSelect, InteriorIgnoredLine, NoValidLayout}
+use Rattle.control.specs.AlgPreference.{preferenceOf}
+use Rattle.listing.specs.Listing.{twos}
+use Rattle.listing.specs.Choice.{CandidateOf, pinAt, gpioAt}
+use Rattle.listing.specs.declared.FirstFault.the-variants.{None}
+use Rattle.search.specs.Law.{Best}
+use Rattle.cs_pins.specs.Pins.{numbered, inDomain}
+use Rattle.cs_choices.specs.Sets.{dataSet, selectSet}
+use Rattle.cs_choices.specs.Verdict.{selectable, allOf, inWindow, trialOf}
+use Rattle.cs_choices.specs.declared.verdict.Verdict.{Verdict}
+use Rattle.cs_choices.specs.declared.verdict.Verdict.the-variants.{SelectGap, Fits}
+use Rattle.cs_data_layout.specs.Layout.{handed}
+use Rattle.cs_data_layout.specs.Choices.{numData, excessSet, qualifierSet, csVerdict, layoutOf, ignoredSet}
+use Rattle.cs_data_layout.specs.Search.{givenIn, earlier, csDataAnswer}
+use Rattle.cs_data_layout.specs.declared.layout.GivenLayout.{GivenLayout}
+use Rattle.cs_data_layout.specs.declared.layout.CsDataOutcome.the-variants.{LaidOut}
+
+-- "once 01's earlier tests are past"
+pub record PastTests (d : Description) (a : GivenLayout) : Type 0 where
+  pub domain : inDomain d && givenIn d a ≡ true
+  pub no-fault : earlier d a ≡ None
+
+-- how many choices there are, and what choice c comes to
+abbrev pub choices : Description → ℕ
+choices d = 2 ^ twos (numbered d)
+
+abbrev pub verdictAt : Description → GivenLayout → ℕ → Verdict
+verdictAt d a c = csVerdict d (handed a) c
+
+-- the layout found is that of choice c, which fits with score s; no fitting choice scores lower, every earlier one higher
+pub record LaidOutBest (d : Description) (a : GivenLayout) (c s : ℕ) : Type 0 where
+  pub answer : csDataAnswer d a ≡ record { outcome = LaidOut; layout = layoutOf d (handed a) (numbered d) c }
+  pub best : Best (λ j. trialOf (verdictAt d a j)) (choices d) c s
+
+-- no choice fits
+abbrev pub NoneFits : Description → GivenLayout → Type 0
+NoneFits d a = (j t : ℕ) → j < choices d → verdictAt d a j ≡ Fits t → ⊥
+
+-- the select, excess and commoned GPIOs of choice c, and all its GPIOs
+abbrev pub selectsAt : Description → GivenLayout → ℕ → ℕ
+selectsAt d a c = selectSet (numbered d) (numData d) (excessSet (handed a)) c
+
+abbrev pub allAt : Description → GivenLayout → ℕ → ℕ
+allAt d a c = allOf (dataSet (numbered d) (numData d) c) (selectsAt d a c) (qualifierSet d (handed a))
+
+-- "Score: preference, then total span."
+abbrev pub preferenceAt : Description → GivenLayout → ℕ → ℕ
+preferenceAt d a c = preferenceOf (not (eqb (qualifierSet d (handed a)) 0)) (not (gapless (selectsAt d a c)))
+
+abbrev pub totalSpan : Description → GivenLayout → ℕ → ℕ
+totalSpan d a c = width (allAt d a c)
+
+-- choice c is no worse than choice j: preferred, or as preferred and no wider
+abbrev pub NoWorse : Description → GivenLayout → ℕ → ℕ → Type 0
+NoWorse d a c j =
+    (preferenceAt d a c < preferenceAt d a j) ⊎ ((preferenceAt d a c ≡ preferenceAt d a j) × (totalSpan d a c ≤ totalSpan d a j))
+
+-- choice c is no worse than any that fits, and no earlier one that fits is as good
+pub record BestOrdered (d : Description) (a : GivenLayout) (c : ℕ) : Type 0 where
+  pub lowest : (j t : ℕ) → j < choices d → verdictAt d a j ≡ Fits t → NoWorse d a c j
+  pub earliest : (j t : ℕ) → j < c → verdictAt d a j ≡ Fits t → NoWorse d a j c → ⊥
+
+-- the ignored GPIOs in the gap of a refused set
+abbrev pub seenIn : Description → ℕ → ℕ
+seenIn d s = bitAnd (gap s) (ignoredSet d)
+
+-- choice c has gapless data, its set s is refused, and some ignored GPIO is in the gap
+pub record Sees (d : Description) (a : GivenLayout) (c s : ℕ) : Type 0 where
+  pub refused : verdictAt d a c ≡ SelectGap s
+  pub some : seenIn d s ≡ 0 → ⊥
+
+-- the first choice that sees one
+pub record FirstSeen (d : Description) (a : GivenLayout) (c s : ℕ) : Type 0 where
+  pub within : c < choices d
+  pub sees : Sees d a c s
+  pub earlier-none : (j t : ℕ) → j < c → Sees d a j t → ⊥
+
+-- the last choice whose set is refused
+pub record LastRefused (d : Description) (a : GivenLayout) (c s : ℕ) : Type 0 where
+  pub within : c < choices d
+  pub refused : verdictAt d a c ≡ SelectGap s
+  pub later-none : (j t : ℕ) → c < j → j < choices d → verdictAt d a j ≡ SelectGap t → ⊥
+
+-- no choice sees an ignored GPIO; no choice's set is refused
+abbrev pub NoneSeen : Description → GivenLayout → Type 0
+NoneSeen d a = (j t : ℕ) → j < choices d → Sees d a j t → ⊥
+
+abbrev pub NoneRefused : Description → GivenLayout → Type 0
+NoneRefused d a = (j t : ℕ) → j < choices d → verdictAt d a j ≡ SelectGap t → ⊥
+
+-- "If nothing fits: .. 8 with the first ignored GPIO seen in a refused gap (lowest in its choice), else 7 with the last refused
+-- set, rising, else 9"
+pub data WhyNone (d : Description) (a : GivenLayout) (why : Refusal) : Type 0 where
+  eight : (c s : ℕ) → FirstSeen d a c s → why ≡ InteriorIgnoredLine (lowest (seenIn d s)) → WhyNone d a why
+  seven : (c s : ℕ) → NoneSeen d a → LastRefused d a c s → why ≡ NonContiguousSelect (record { bits = s }) → WhyNone d a why
+  nine : NoneRefused d a → why ≡ NoValidLayout → WhyNone d a why
+
+-- what the layout of a choice that fits keeps
+pub record Sound (d : Description) (a : GivenLayout) (c : ℕ) : Type 0 where
+  -- the data GPIOs have no gap, the select GPIOs none or the one that 01 allows, and all are in one window
+  pub data-gapless : gapless (dataSet (numbered d) (numData d) c) ≡ true
+  pub select-gap : selectable (isMulti (d .«set_type»)) (selectsAt d a c) ≡ true
+  pub window : inWindow (allAt d a c) ≡ true
+  -- each numbered pin's GPIO is a candidate of its pin
+  pub candidate : (k : ℕ) → k < length (numbered d) → CandidateOf (pinAt (numbered d) k) (gpioAt (numbered d) c k)

@@ -1,0 +1,61 @@
+// The refusals before any choice, in their order.
+use crate::layout::GivenLayout;
+use crate::layout::handed;
+use addr_layout::layout::AddrLayout;
+use addr_layout::layout::layout_in;
+use control::cs_config::line_ignored;
+use cs_pins::checked::checked;
+use cs_pins::pins::list_data;
+use domain::qualifiers::qualifiers_in;
+use listing::FirstFault;
+use listing::first_fault;
+use listing::or_else;
+use slot::description::Description;
+use slot::refusal::Refusal;
+ghost use mathlib.Core.Path.{_≡_};
+ghost use mathlib.Core.Bool.{true};
+ghost use Rattle.cs_pins.specs.Pins.{inDomain};
+ghost use Rattle.cs_data_layout.specs.Search.{givenIn, missingLayout, tooLarge, earlier};
+
+// Whether the layout that is handed in keeps to the domain, and the qualifiers beside it.
+pub fn given_in(d: Description, a: GivenLayout) -> bool
+    ensures { λ r. ⌜ r ≡ givenIn d a ⌝ }
+{
+    let layout = a.layout;
+    let gpios = layout.gpios;
+    let qualifiers = d.qualifiers;
+    let list_in = qualifiers_in(qualifiers, d.num_qualifiers, gpios, layout.num_lines);
+    !a.given | (layout_in(layout) & list_in)
+}
+
+fn missing_layout(d: Description, a: GivenLayout) -> FirstFault
+    ensures { λ r. ⌜ r ≡ missingLayout d a ⌝ }
+{
+    if !a.given & (0 < d.num_qualifiers) {
+        return FirstFault::Of(Refusal::MissingAddrPinGpios);
+    }
+    FirstFault::None
+}
+
+// Excess lines select by cs1's setting.
+fn too_large(d: Description, h: AddrLayout) -> FirstFault
+    ensures { λ r. ⌜ r ≡ tooLarge d h ⌝ }
+{
+    let config = d.cs_config;
+    if (0 < h.num_excess) & line_ignored(2, config) {
+        return FirstFault::Of(Refusal::RomTooLargeNoCsConfig);
+    }
+    FirstFault::None
+}
+
+// The first refusal of all.
+pub fn earlier(d: Description, a: GivenLayout) -> FirstFault
+    requires { ⌜ inDomain d ≡ true ⌝ }
+    ensures { λ r. ⌜ r ≡ earlier d a ⌝ }
+{
+    let pins_fault = or_else(first_fault(list_data(d)), first_fault(checked(d)));
+    or_else(
+        missing_layout(d, a),
+        or_else(too_large(d, handed(a)), pins_fault),
+    )
+}

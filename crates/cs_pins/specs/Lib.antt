@@ -1,0 +1,3 @@
+pub mod Pins
+pub mod Checked
+pub mod Roles

@@ -1,0 +1,4 @@
+// The pins of the select and data search.
+pub mod pins; // the pins that the search numbers, in order
+pub mod checked; // the pins in the order in which their faults answer
+pub mod roles; // what each select line is for
