@@ -11,12 +11,16 @@ use addr_layout::layout::AddrOutcome;
 use addr_layout::layout::XGpio;
 use record::Answer;
 use slot::description::Description;
+ghost use Prim.Native.Nat.{_≤_};
 
-fn record_bytes(case: &[u64]) -> [u8; 424] {
+// The record, whose first byte stands at a place of the case.
+pub(crate) fn record_bytes(case: &[u64], at: usize) -> [u8; 424]
+    requires { ⌜ at ≤ 2 ⌝ }
+{
     let mut out = [0u8; 424];
     let mut k: usize = 0;
     while k < 424 {
-        out[k] = byte_at(case, k + 1);
+        out[k] = byte_at(case, at + k);
         k += 1;
     }
     out
@@ -72,7 +76,7 @@ pub(crate) fn answer(case: &[u64], ours: &mut [u64]) -> usize {
     if !has_bytes(case, 425) {
         return 0;
     }
-    let bytes = record_bytes(case);
+    let bytes = record_bytes(case, 1);
     let decoded = record::decode(&bytes);
     let read = decoded.answer;
     match read {

@@ -12,6 +12,10 @@ pub(crate) fn put(ours: &mut [u64], at: usize, x: u64) -> usize {
     at
 }
 
+pub(crate) fn bit(b: bool) -> u64 {
+    if b { 1 } else { 0 }
+}
+
 fn wide(x: u8) -> u64 {
     x as u64
 }

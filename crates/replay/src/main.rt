@@ -10,6 +10,7 @@ mod offset; // kind 2
 mod preference; // kind 3
 mod multi; // kind 4
 mod address; // kind 5
+mod select; // kind 6
 
 use crate::line::Line;
 use libc::STDIN_FILENO;

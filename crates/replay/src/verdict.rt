@@ -6,6 +6,7 @@ use crate::line::Line;
 use crate::multi;
 use crate::offset;
 use crate::preference;
+use crate::select;
 use crate::window;
 
 // The kind goes with the verdict. A line that holds no case of a known kind is unread.
@@ -23,6 +24,7 @@ fn answered(case: &[u64], ours: &mut [u64]) -> usize {
         3 => preference::answer(case, ours),
         4 => multi::answer(case, ours),
         5 => address::answer(case, ours),
+        6 => select::answer(case, ours),
         _ => 0,
     }
 }

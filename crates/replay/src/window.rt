@@ -1,13 +1,10 @@
 // Kind 1: whether a run of GPIOs lies in one window.
+use crate::answer::bit;
 use crate::answer::put;
 use crate::answer::success;
 use crate::case::byte_at;
 use crate::case::has_bytes;
 use gpio::window::Window;
-
-fn bit(b: bool) -> u64 {
-    if b { 1 } else { 0 }
-}
 
 pub(crate) fn answer(case: &[u64], ours: &mut [u64]) -> usize {
     if !has_bytes(case, 3) {

@@ -7,10 +7,10 @@ use Rattle.replay.proofs.address.record_bytes.Statement.{statement}
 use Rattle.replay.proofs.address.record_bytes.Tie as tie
 
 abbrev Inv-loop : tie.InvT-loop
-Inv-loop case out₀ k₀ out k = (k ≤ 424) × (length out ≡ 424)
+Inv-loop case at out₀ k₀ out k = (k ≤ 424) × (length out ≡ 424)
 
 abbrev μ-loop : tie.MeasureT-loop
-μ-loop case out₀ k₀ out k = 424 - k
+μ-loop case at out₀ k₀ out k = 424 - k
 
 pub record-bytes-spec : {M : Type 1} → statement M
 record-bytes-spec = tie.close (tie.spec Inv-loop μ-loop (λ c. search needs) (λ c. search needs) (λ c κs. search needs) (λ c. search needs) (λ c. search needs) (λ c. search needs) (λ c. search needs) (λ c. search needs))
