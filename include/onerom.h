@@ -15,10 +15,11 @@
 extern "C" {
 #endif
 
-/* Lengths of the records. A description has to have just this length; a buffer for a layout may be longer. */
+/* Lengths of the records. A record that is handed in has to have just this length; a buffer for a layout may be longer. */
 enum {
     ONEROM_DESCRIPTION_SIZE = 424,
-    ONEROM_ADDR_LAYOUT_SIZE = 36
+    ONEROM_ADDR_LAYOUT_SIZE = 36,
+    ONEROM_CS_DATA_LAYOUT_SIZE = 100
 };
 
 /* A GPIO byte of a record that names none. */
@@ -77,6 +78,26 @@ static inline uint64_t onerom_place(uint64_t result)
  *   ONEROM_SHORT_BUFFER      there is a layout: lend ONEROM_ADDR_LAYOUT_SIZE bytes.
  */
 uint64_t onerom_derive_addr_layout(const uint8_t *description, size_t description_len, uint8_t *layout, size_t layout_len);
+
+/*
+ * Finds the select and data layout of the slot that a description record describes. addr_layout is its address layout's
+ * record as the call above writes it; a length of 0 says that none is given.
+ *
+ * Returns 0 if there is one: the first ONEROM_CS_DATA_LAYOUT_SIZE bytes of layout are then its record, and later bytes are
+ * as before. Otherwise nothing is written, and onerom_number of the result is one of:
+ *   ONEROM_OUT_OF_DOMAIN               correct the records;
+ *   ONEROM_NO_SELECT_LINE              the chip has no active select line, or lacks one that the Multi configuration names;
+ *   ONEROM_UNMAPPED_PIN                the chip's pin that the place names needs a GPIO on the socket;
+ *   ONEROM_MISSING_X_PIN               give X1 or X2, as the place says, a GPIO;
+ *   ONEROM_MISSING_ADDR_PIN_GPIOS      the description has qualifiers: hand the address layout in;
+ *   ONEROM_ROM_TOO_LARGE_NO_CS_CONFIG  the layout has excess lines: cs1 must not be ignored;
+ *   ONEROM_NON_CONTIGUOUS_SELECT       the place has the GPIOs of the select lines, which have a gap;
+ *   ONEROM_INTERIOR_IGNORED_LINE       the place names the ignored line's GPIO that lies between select GPIOs;
+ *   ONEROM_NO_VALID_LAYOUT             no choice of GPIOs has gapless data and lies in one PIO window;
+ *   ONEROM_SHORT_BUFFER                there is a layout: lend ONEROM_CS_DATA_LAYOUT_SIZE bytes.
+ */
+uint64_t onerom_derive_cs_data_layout(const uint8_t *description, size_t description_len, const uint8_t *addr_layout,
+                                      size_t addr_layout_len, uint8_t *layout, size_t layout_len);
 
 #ifdef __cplusplus
 }

@@ -1,40 +1,18 @@
 // The C interface: calls on numbers and byte slices. docs/INTERFACE.md has the records byte by byte and each call's answers;
 // include/onerom.h declares the calls for C.
 mod refused; // a refusal as one number
-mod addr_record; // the address layout as a record
+mod addr; // the address search's answer, handed over
+mod cs_data; // the select search's answer, handed over
 
 use addr_layout::derive_addr_layout;
-use addr_layout::layout::AddrAnswer;
-use addr_layout::layout::AddrLayout;
-use addr_layout::layout::AddrOutcome;
+use cs_data_layout::derive_cs_data_layout;
+use layout_record::addr_record::given_at;
+use layout_record::addr_record::given_formed;
 use record::Answer;
 use refused::packed;
 use slot::refusal::Refusal;
 ghost use mathlib.Core.Path.{_≡_};
-ghost use Rattle.onerom.specs.AddrRecord.{addrSize, layoutBytes};
-ghost use Rattle.onerom.specs.Calls.{answer, written, addrFound, addrCall};
-
-// Writes the layout's record, if the buffer holds one.
-fn write(l: AddrLayout, buffer: &mut [u8]) -> u64
-    ensures { λ r. ⌜ answer r (now (buffer .exit)) ≡ written addrSize (layoutBytes l) (now (buffer .entry)) ⌝ }
-{
-    if buffer.len() < 36 {
-        return packed(Refusal::ShortBuffer);
-    }
-    addr_record::store(l, buffer);
-    0
-}
-
-// Answers as the search did.
-fn hand_over(a: AddrAnswer, buffer: &mut [u8]) -> u64
-    ensures { λ r. ⌜ answer r (now (buffer .exit)) ≡ addrFound a (now (buffer .entry)) ⌝ }
-{
-    let outcome = a.outcome;
-    match outcome {
-        AddrOutcome::LaidOut => write(a.layout, buffer),
-        AddrOutcome::Refused(why) => packed(why),
-    }
-}
+ghost use Rattle.onerom.specs.Calls.{answer, addrCall, csDataCall};
 
 // Finds the address layout of the slot that the record describes, and writes it as a record.
 #[no_mangle]
@@ -44,7 +22,33 @@ pub extern "C" fn onerom_derive_addr_layout(description: &[u8], layout: &mut [u8
     let decoded = record::decode(description);
     let outcome = decoded.answer;
     match outcome {
-        Answer::Described => hand_over(derive_addr_layout(decoded.description), layout),
+        Answer::Described => addr::hand_over(derive_addr_layout(decoded.description), layout),
+        Answer::Refused(why) => packed(why),
+    }
+}
+
+// Finds the select and data layout of the slot that the record describes, with an address layout or, by no bytes, without
+// one, and writes it as a record.
+#[no_mangle]
+pub extern "C" fn onerom_derive_cs_data_layout(
+    description: &[u8],
+    addr_layout: &[u8],
+    layout: &mut [u8],
+) -> u64
+    ensures { λ r. ⌜ answer r (now (layout .exit)) ≡ csDataCall (now (description .entry)) (now («addr_layout» .entry)) (now (layout .entry)) ⌝ }
+{
+    if !given_formed(addr_layout) {
+        return packed(Refusal::OutOfDomain);
+    }
+    let decoded = record::decode(description);
+    let outcome = decoded.answer;
+    match outcome {
+        Answer::Described => {
+            cs_data::hand_over(
+                derive_cs_data_layout(decoded.description, given_at(addr_layout)),
+                layout,
+            )
+        }
         Answer::Refused(why) => packed(why),
     }
 }

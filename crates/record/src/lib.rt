@@ -1,5 +1,5 @@
 // The description record: docs/INTERFACE.md gives the place of each number.
-mod bytes; // numbers at a place
+pub mod bytes; // numbers at a place
 mod shape; // which records are refused
 mod parts; // board, chips and settings at their places
 

@@ -1,7 +1,7 @@
 -- `hand_over` meets its contract. Assumes nothing.
 use borrow.Author.Needs.{needs}
-use Rattle.onerom.proofs.hand_over.Statement.{statement}
-use Rattle.onerom.proofs.hand_over.Tie as tie
+use Rattle.onerom.proofs.cs_data.hand_over.Statement.{statement}
+use Rattle.onerom.proofs.cs_data.hand_over.Tie as tie
 
 returns : tie.Need-returns
 returns c = rw (c .before .before .before .before .enum-told .given .1) (c .before .before .write .ensures)

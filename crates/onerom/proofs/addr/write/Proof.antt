@@ -3,9 +3,9 @@ use native.Mathlib.Omega.{arith}
 use lib.ListN.{length}
 use borrow.Author.Needs.{needs}
 use borrow.Author.Tests.{lt-ltb, le-ltb}
-use Rattle.onerom.specs.AddrRecord.{addrSize}
-use Rattle.onerom.proofs.write.Statement.{statement}
-use Rattle.onerom.proofs.write.Tie as tie
+use Rattle.layout_record.specs.AddrRecord.{addrSize}
+use Rattle.onerom.proofs.addr.write.Statement.{statement}
+use Rattle.onerom.proofs.addr.write.Tie as tie
 
 returns : tie.Need-returns
 returns c = rw (c .packed .ensures, lt-ltb (length (c .before .before .before .args .buffer .now)) addrSize (omega arith))

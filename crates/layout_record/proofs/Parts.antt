@@ -1,10 +1,12 @@
 -- A record stored part by part: each part is copied over what stands behind the parts before it. Assumes nothing.
-use mathlib.Core.Path.{_≡_}
+use mathlib.Core.Path.{_≡_, refl}
 use mathlib.Core.List.{List, append-assoc, append-nil, _++_}
 use Prim.Native.Nat.{ℕ, _+_, _-_, _≤_}
 use native.Mathlib.Omega.{arith}
 use borrow.Rule.Slice.PartMut.{putMid}
-use lib.ListN.{length, take, drop, length-append, length-take, length-drop, drop-of-length-le}
+use lib.ListN.{length, take, drop, getD, length-append, length-take, length-drop, drop-of-length-le}
+use Rattle.gpio.proofs.Tab.{tab-is}
+use Rattle.encoding.specs.Encoded.{field}
 use lib.Seq.{take-at, drop-at, take-all, take-length, drop-drop}
 
 -- what stands from a on holds the part
@@ -33,3 +35,25 @@ module _ (front part old now lent : List ℕ) (a k : ℕ) (ea : length front ≡
       let all : take (length old - a) (drop a old) ≡ drop a old = take-all (length old - a) (drop a old) (simp length-drop (omega arith)) in
       let none = drop-of-length-le (drop a old) {i = length old - a} (simp length-drop (omega arith)) in
       rw (el, before, behind, same-length, all, none, take-length, ek, drop-drop, append-nil) (simp append-assoc)
+
+-- a record of three parts, each copied behind those before it: one, two and three are what the copies left of the bytes lent to them
+module _ (h g t old head one two three : List ℕ) (a b k : ℕ) (ea : length h ≡ a) (eb : length g ≡ b) (ek : length t ≡ k)
+    (room : a + b + k ≤ length old) (eh : head ≡ h)
+    (e1 : one ≡ take (length head) head ++ drop (length head) old)
+    (e2 : two ≡ take (length g) g ++ drop (length g) (take (length one - a) (drop a one))) where
+  abbrev both : List ℕ
+  both = putMid a (length one - a) one two
+
+  heads : one ≡ h ++ drop a old
+  heads = rw (eh, ea) at (first-part head old one e1)
+
+  boths : both ≡ (h ++ g) ++ drop (a + b) old
+  boths = next-part h g old one two a b ea eb (omega arith) heads e2
+
+  pub three-parts : three ≡ take (length t) t ++ drop (length t) (take (length both - (a + b)) (drop (a + b) both))
+      → putMid (a + b) (length both - (a + b)) both three ≡ (h ++ g ++ t) ++ drop (a + b + k) old
+  three-parts e3 = next-part (h ++ g) t old both three (a + b) k (rw (length-append, ea, eb)) ek room boths e3
+
+-- an array's bytes as they are, and as a record's field
+pub field-is : (l : List ℕ) (n : ℕ) → length l ≡ n → field n l ≡ l
+field-is l n e = tab-is (λ k. getD l k 0) l 0 n e (λ j h. refl)

@@ -1,0 +1,18 @@
+-- `formed` meets its contract: each place is looked at. Assumes nothing.
+use borrow.Author.Needs.{needs}
+use Rattle.layout_record.specs.AddrRecord.{layoutFormed}
+use Rattle.layout_record.proofs.addr_record.formed.Statement.{statement}
+use Rattle.layout_record.proofs.addr_record.formed.Tie as tie
+
+returns : tie.Need-returns
+unfolding layoutFormed
+returns c = cc
+
+pub formed-spec : {M : Type 1} → statement M
+formed-spec =
+    tie.close
+    (tie.spec
+    (λ c κs. search needs)
+    (λ c κs. search needs)
+    (λ c κs. search needs)
+    returns)

@@ -1,0 +1,14 @@
+-- `given_at` meets its contract. Assumes nothing.
+use borrow.Author.Needs.{needs}
+use Rattle.layout_record.proofs.addr_record.given_at.Statement.{statement}
+use Rattle.layout_record.proofs.addr_record.given_at.Tie as tie
+
+returns : tie.Need-returns
+returns c = cc
+
+pub given-at-spec : {M : Type 1} → statement M
+given-at-spec =
+    tie.close
+    (tie.spec
+    (λ c κs. search needs)
+    returns)

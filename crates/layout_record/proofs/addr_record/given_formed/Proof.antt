@@ -1,0 +1,14 @@
+-- `given_formed` meets its contract. Assumes nothing.
+use borrow.Author.Needs.{needs}
+use Rattle.layout_record.proofs.addr_record.given_formed.Statement.{statement}
+use Rattle.layout_record.proofs.addr_record.given_formed.Tie as tie
+
+returns : tie.Need-returns
+returns c = cc
+
+pub given-formed-spec : {M : Type 1} → statement M
+given-formed-spec =
+    tie.close
+    (tie.spec
+    (λ c κs. search needs)
+    returns)

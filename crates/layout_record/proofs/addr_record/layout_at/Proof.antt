@@ -1,0 +1,24 @@
+-- `layout_at` meets its contract: each number is what its place has. Assumes nothing.
+use borrow.Author.Needs.{needs}
+use Rattle.layout_record.specs.AddrRecord.{layoutAt}
+use Rattle.layout_record.proofs.addr_record.layout_at.Statement.{statement}
+use Rattle.layout_record.proofs.addr_record.layout_at.Tie as tie
+
+returns : tie.Need-returns
+unfolding layoutAt
+returns c = cc
+
+pub layout-at-spec : {M : Type 1} → statement M
+layout-at-spec =
+    tie.close
+    (tie.spec
+    (λ c κs. search needs)
+    (λ c κs. search needs)
+    (λ c κs. search needs)
+    (λ c κs. search needs)
+    (λ c κs. search needs)
+    (λ c κs. search needs)
+    (λ c κs. search needs)
+    (λ c κs. search needs)
+    (λ c κs. search needs)
+    returns)

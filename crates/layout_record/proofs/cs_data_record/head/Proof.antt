@@ -1,0 +1,15 @@
+-- `head` meets its contract. Assumes nothing.
+use borrow.Author.Needs.{needs}
+use Rattle.layout_record.proofs.cs_data_record.head.Statement.{statement}
+use Rattle.layout_record.proofs.cs_data_record.head.Tie as tie
+
+returns : tie.Need-returns
+returns c = cc
+
+pub head-spec : {M : Type 1} → statement M
+head-spec =
+    tie.close
+    (tie.spec
+    (λ c κs. search needs)
+    (λ c κs. search needs)
+    returns)

@@ -1,0 +1,2 @@
+pub mod AddrRecord
+pub mod CsDataRecord

@@ -1,0 +1,3 @@
+// The layout records: docs/INTERFACE.md gives the place of each number.
+pub mod addr_record; // the address layout
+pub mod cs_data_record; // the select and data layout

@@ -1,0 +1,32 @@
+// The address search's answer, handed over to a caller that has no structs.
+use crate::refused::packed;
+use addr_layout::layout::AddrAnswer;
+use addr_layout::layout::AddrLayout;
+use addr_layout::layout::AddrOutcome;
+use layout_record::addr_record;
+use slot::refusal::Refusal;
+ghost use mathlib.Core.Path.{_≡_};
+ghost use Rattle.layout_record.specs.AddrRecord.{addrSize, layoutBytes};
+ghost use Rattle.onerom.specs.Calls.{answer, written, addrFound};
+
+// Writes the layout's record, if the buffer holds one.
+fn write(l: AddrLayout, buffer: &mut [u8]) -> u64
+    ensures { λ r. ⌜ answer r (now (buffer .exit)) ≡ written addrSize (layoutBytes l) (now (buffer .entry)) ⌝ }
+{
+    if buffer.len() < 36 {
+        return packed(Refusal::ShortBuffer);
+    }
+    addr_record::store(l, buffer);
+    0
+}
+
+// Answers as the search did.
+pub fn hand_over(a: AddrAnswer, buffer: &mut [u8]) -> u64
+    ensures { λ r. ⌜ answer r (now (buffer .exit)) ≡ addrFound a (now (buffer .entry)) ⌝ }
+{
+    let outcome = a.outcome;
+    match outcome {
+        AddrOutcome::LaidOut => write(a.layout, buffer),
+        AddrOutcome::Refused(why) => packed(why),
+    }
+}
