@@ -93,7 +93,7 @@ uint64_t onerom_derive_addr_layout(const uint8_t *description, size_t descriptio
  *   ONEROM_ROM_TOO_LARGE_NO_CS_CONFIG  the layout has excess lines: cs1 must not be ignored;
  *   ONEROM_NON_CONTIGUOUS_SELECT       the place has the GPIOs of the select lines, which have a gap;
  *   ONEROM_INTERIOR_IGNORED_LINE       the place names the ignored line's GPIO that lies between select GPIOs;
- *   ONEROM_NO_VALID_LAYOUT             no choice of GPIOs has gapless data and lies in one PIO window;
+ *   ONEROM_NO_VALID_LAYOUT             no choice of GPIOs has gapless data and selects and lies in one PIO window;
  *   ONEROM_SHORT_BUFFER                there is a layout: lend ONEROM_CS_DATA_LAYOUT_SIZE bytes.
  */
 uint64_t onerom_derive_cs_data_layout(const uint8_t *description, size_t description_len, const uint8_t *addr_layout,
