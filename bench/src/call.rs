@@ -1,12 +1,22 @@
 //! The calls over the C interface.
 
-use crate::layout::{self, AddrLayout};
-use crate::refusal::Refusal;
+use crate::layout::addr::{self, AddrLayout};
+use crate::layout::cs_data::{self, CsDataLayout};
+use crate::refusal::{Refusal, Search};
 
 unsafe extern "C" {
     fn onerom_derive_addr_layout(
         description: *const u8,
         description_len: usize,
+        layout: *mut u8,
+        layout_len: usize,
+    ) -> u64;
+
+    fn onerom_derive_cs_data_layout(
+        description: *const u8,
+        description_len: usize,
+        addr_layout: *const u8,
+        addr_layout_len: usize,
         layout: *mut u8,
         layout_len: usize,
     ) -> u64;
@@ -30,9 +40,44 @@ pub fn derive_addr_layout_into(description: &[u8], layout: &mut [u8]) -> u64 {
 
 /// The address layout of the slot that a record describes.
 pub fn derive_addr_layout(description: &[u8]) -> Result<AddrLayout, Refusal> {
-    let mut record = [0; layout::LENGTH];
-    match Refusal::of(derive_addr_layout_into(description, &mut record)) {
+    let mut record = [0; addr::LENGTH];
+    let result = derive_addr_layout_into(description, &mut record);
+    match Refusal::of(Search::Address, result) {
         None => Ok(AddrLayout::read(&record)),
+        Some(refusal) => Err(refusal),
+    }
+}
+
+/// The select search in the same way. An address layout of no bytes is none.
+pub fn derive_cs_data_layout_into(
+    description: &[u8],
+    addr_layout: &[u8],
+    layout: &mut [u8],
+) -> u64 {
+    // SAFETY: as above. The two slices that are read may share bytes: while nobody writes them
+    // they are as good as two copies. The one that is written overlaps neither.
+    unsafe {
+        onerom_derive_cs_data_layout(
+            description.as_ptr(),
+            description.len(),
+            addr_layout.as_ptr(),
+            addr_layout.len(),
+            layout.as_mut_ptr(),
+            layout.len(),
+        )
+    }
+}
+
+/// The select and data layout of the slot that a record describes, beside its address layout's
+/// record.
+pub fn derive_cs_data_layout(
+    description: &[u8],
+    addr_layout: &[u8],
+) -> Result<CsDataLayout, Refusal> {
+    let mut record = [0; cs_data::LENGTH];
+    let result = derive_cs_data_layout_into(description, addr_layout, &mut record);
+    match Refusal::of(Search::Select, result) {
+        None => Ok(CsDataLayout::read(&record)),
         Some(refusal) => Err(refusal),
     }
 }

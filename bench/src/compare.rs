@@ -1,97 +1,118 @@
 //! The oracle's cases through the static library, against the original and the model.
 
+mod searches;
+
 use std::collections::BTreeMap;
 use std::process::ExitCode;
 
-use onerom_bench::{AddrLayout, Refusal, derive_addr_layout_into, description, layout};
 use oracle::answer::answer;
 use oracle::case::{Case, line_of};
 use oracle::engine::Engine;
-use oracle::layout::AddressLayout;
 use oracle::model::Model;
+use oracle::random::Random;
 use oracle::tally::Tally;
 use oracle::{SKIPPED, generate};
 
-/// The address search among the kinds of cases.
-const KIND: u64 = 5;
+use searches::{AddressSearch, Search, SelectSearch};
 
 /// What the lent buffer holds before a call.
 const FILL: u8 = 0xA5;
 
-const SHORT_BUFFER: u64 = 16 << 48;
+const OUT_OF_DOMAIN: u64 = 1;
+const SHORT_BUFFER: u64 = 16;
 
-type Record = [u8; description::LENGTH];
+/// A result has the refusal's number from this bit on, and its place below.
+const PLACES: u32 = 48;
 
 #[derive(Default)]
 struct Seen {
     count: u64,
+    /// How many no case can be, so that docs/INTERFACE.md alone has their answer.
+    unsaid: u64,
     tally: Tally,
     different: BTreeMap<&'static str, u64>,
     example: Option<String>,
 }
 
-/// Each case as it is, with a buffer that is too short, and with one byte changed. Fails on any
-/// difference.
+/// Each case of each search as it is, with a buffer that is too short, and with one byte wrong.
+/// Fails on any difference.
 pub fn compare(seed: u64, count: u64) -> ExitCode {
     let Some(original) = oracle::original() else {
         println!("{SKIPPED}");
         return ExitCode::SUCCESS;
     };
     oracle::quiet_panics();
-    let (mut whole, mut changed) = (Seen::default(), Seen::default());
-    for number in 0..count {
-        let case = generate::case(seed, number, &[KIND]);
-        let Case::AddressSearch(record) = case else {
-            continue;
-        };
-        let both: [&dyn Engine; 2] = [original, &Model];
-        whole.add(&record, both.map(|who| asked(who, &record)));
-        let damaged = damage(&record, seed, number);
-        changed.add(&damaged, both.map(|who| asked(who, &damaged)));
-    }
-    println!("the oracle's cases");
-    let good = whole.print();
-    println!("the same with one byte changed");
-    let good = changed.print() && good;
-    if good {
+    let both: [&dyn Engine; 2] = [original, &Model];
+    let good = compare_search::<AddressSearch>(both, seed, count);
+    if compare_search::<SelectSearch>(both, seed, count) && good {
         ExitCode::SUCCESS
     } else {
         ExitCode::FAILURE
     }
 }
 
+/// Whether nothing differed.
+fn compare_search<S: Search>(both: [&dyn Engine; 2], seed: u64, count: u64) -> bool {
+    let (mut whole, mut changed) = (Seen::default(), Seen::default());
+    for number in 0..count {
+        let case = generate::case(seed, number, &[S::KIND]);
+        let Some(search) = S::of(&case) else {
+            continue;
+        };
+        whole.add(&search, Some(&case), both);
+        // Other numbers than the case was made of.
+        let mut random = Random::of_case(!seed, number);
+        let damaged = search.damaged(&mut random);
+        changed.add(&damaged, damaged.case().as_ref(), both);
+    }
+    println!("{}, the oracle's cases", S::NAME);
+    let good = whole.print();
+    println!("{}, the same with one byte wrong", S::NAME);
+    changed.print() && good
+}
+
 impl Seen {
-    /// Holds the library's answer to a record against those of the original and the model.
-    fn add(&mut self, record: &Record, wanted: [String; 2]) {
-        let ours = ours(record);
+    /// Holds the library's answer against those of the original and the model to the same case;
+    /// without a case, against 1.
+    fn add<S: Search>(&mut self, search: &S, case: Option<&Case>, both: [&dyn Engine; 2]) {
+        let (result, ours) = ours(search);
         self.count += 1;
         self.tally.add(&ours);
-        for (who, theirs) in ["the original", "the model"].into_iter().zip(&wanted) {
-            if ours != *theirs {
-                self.note(who, record, &ours, theirs);
+        let wanted = match case {
+            Some(case) => vec![
+                ("the original", answer(both[0], case)),
+                ("the model", answer(both[1], case)),
+            ],
+            None => {
+                self.unsaid += 1;
+                let refused = line_of(&[S::KIND, OUT_OF_DOMAIN, 0]);
+                vec![("docs/INTERFACE.md", refused)]
+            }
+        };
+        let handed_in = || case.map_or_else(|| format!("{:?}", search.bytes()), Case::line);
+        for (who, theirs) in wanted {
+            if ours != theirs {
+                self.note(who, &handed_in(), &ours, &theirs);
             }
         }
-        if !refuses_short_buffer(record) {
-            self.note(
-                "01 on a buffer too short",
-                record,
-                &ours,
-                "16, nothing written",
-            );
+        if !refuses_short_buffer(search, result) {
+            let (who, wanted) = ("01 on a buffer too short", "16, nothing written");
+            self.note(who, &handed_in(), &ours, wanted);
         }
     }
 
-    fn note(&mut self, who: &'static str, record: &Record, ours: &str, theirs: &str) {
+    fn note(&mut self, who: &'static str, case: &str, ours: &str, theirs: &str) {
         *self.different.entry(who).or_default() += 1;
-        self.example.get_or_insert_with(|| {
-            let case = case(record).line();
-            format!("  case {case}\n  ours {ours}\n  {who}: {theirs}")
-        });
+        self.example
+            .get_or_insert_with(|| format!("  case {case}\n  ours {ours}\n  {who}: {theirs}"));
     }
 
     /// Whether nothing differed.
     fn print(&self) -> bool {
         self.tally.print();
+        if self.unsaid > 0 {
+            println!("  held against docs/INTERFACE.md alone: {}", self.unsaid);
+        }
         for (who, number) in &self.different {
             println!("  different from {who}: {number}");
         }
@@ -104,102 +125,40 @@ impl Seen {
     }
 }
 
-fn case(record: &Record) -> Case {
-    Case::AddressSearch(Box::new(*record))
-}
-
-fn asked(engine: &dyn Engine, record: &Record) -> String {
-    answer(engine, &case(record))
-}
-
-/// The library's answer as a line of docs/CASES.md. Where it wrote more or less than the record,
-/// the line says so and equals no other.
-fn ours(record: &Record) -> String {
-    let mut lent = [FILL; layout::LENGTH + 4];
-    let result = derive_addr_layout_into(record, &mut lent);
-    let untouched = |bytes: &[u8]| bytes.iter().all(|&byte| byte == FILL);
-    let (line, kept) = match Refusal::of(result) {
-        Some(refusal) => {
-            let numbers = [KIND, u64::from(refusal.number), refusal.place];
-            (line_of(&numbers), untouched(&lent))
-        }
-        None => {
-            let (written, past) = lent.split_first_chunk().expect("the record and four bytes");
-            let zeros = [6, 7, 32, 33, 34, 35]
-                .iter()
-                .all(|&place| written[place] == 0);
-            (
-                found(&plain(AddrLayout::read(written))),
-                untouched(past) && zeros,
-            )
-        }
+/// The library's result, and its answer as a line of docs/CASES.md. Where it wrote more or less
+/// than the record, the line says so and equals no other.
+fn ours<S: Search>(search: &S) -> (u64, String) {
+    let mut lent = vec![FILL; S::LENGTH + 4];
+    let result = search.call(&mut lent);
+    let (fields, past) = match result {
+        0 => (S::numbers(&lent[..S::LENGTH]), &lent[S::LENGTH..]),
+        _ => (Some(Vec::new()), &lent[..]),
     };
-    if kept {
-        line
-    } else {
-        line + " and the buffer is wrong"
-    }
+    let mut numbers = vec![S::KIND, result >> PLACES, place(result)];
+    let line = match fields.filter(|_| untouched(past)) {
+        Some(fields) => {
+            numbers.extend(fields);
+            line_of(&numbers)
+        }
+        None => line_of(&numbers) + " and the buffer is wrong",
+    };
+    (result, line)
 }
 
-fn plain(layout: AddrLayout) -> AddressLayout {
-    AddressLayout {
-        base: layout.base,
-        pins: layout.pins,
-        x1: layout.x1,
-        x2: layout.x2,
-        lines: layout.lines,
-        excess: layout.excess,
-    }
+fn place(result: u64) -> u64 {
+    result & ((1 << PLACES) - 1)
 }
 
-/// A found layout's line.
-fn found(layout: &AddressLayout) -> String {
-    let mut numbers = vec![KIND, 0, 0];
-    numbers.extend(layout.fields());
-    line_of(&numbers)
+fn untouched(lent: &[u8]) -> bool {
+    lent.iter().all(|&byte| byte == FILL)
 }
 
 /// A buffer one byte short: 16 where a layout was found, else the same refusal, nothing written.
-fn refuses_short_buffer(record: &Record) -> bool {
-    let mut enough = [FILL; layout::LENGTH];
-    let mut short = [FILL; layout::LENGTH - 1];
-    let wanted = match derive_addr_layout_into(record, &mut enough) {
-        0 => SHORT_BUFFER,
+fn refuses_short_buffer<S: Search>(search: &S, result: u64) -> bool {
+    let mut short = vec![FILL; S::LENGTH - 1];
+    let wanted = match result {
+        0 => SHORT_BUFFER << PLACES,
         refused => refused,
     };
-    derive_addr_layout_into(record, &mut short) == wanted && short.iter().all(|&b| b == FILL)
-}
-
-/// The record with one byte changed: in half of the cases one of the slot's own, else any.
-fn damage(record: &Record, seed: u64, number: u64) -> Record {
-    let mut random = mixed(seed ^ mixed(number));
-    let mut below = |bound: u64| {
-        random = mixed(random);
-        (random % bound) as usize
-    };
-    let reach = [136, record.len() as u64][below(2)];
-    let place = below(reach);
-    let was = record[place];
-    let any = below(256) as u8;
-    let values = [
-        any,
-        was.wrapping_add(1),
-        was.wrapping_sub(1),
-        0,
-        47,
-        48,
-        254,
-        255,
-    ];
-    let mut damaged = *record;
-    damaged[place] = values[below(values.len() as u64)];
-    damaged
-}
-
-/// A step of splitmix64.
-fn mixed(number: u64) -> u64 {
-    let mut mixed = number.wrapping_add(0x9e37_79b9_7f4a_7c15);
-    mixed = (mixed ^ mixed >> 30).wrapping_mul(0xbf58_476d_1ce4_e5b9);
-    mixed = (mixed ^ mixed >> 27).wrapping_mul(0x94d0_49bb_1331_11eb);
-    mixed ^ mixed >> 31
+    search.call(&mut short) == wanted && untouched(&short)
 }

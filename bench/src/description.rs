@@ -1,10 +1,9 @@
 //! The description of a slot, and its record.
 
+use crate::bytes::{NONE, count, gpio, put};
+
 /// Bytes of the description record.
 pub const LENGTH: usize = 424;
-
-/// The record's word for no GPIO, and for a setting that nobody gave.
-const NONE: u8 = 255;
 
 pub const SOCKET_PINS: usize = 40;
 pub const MOST_CHIPS: usize = 4;
@@ -124,23 +123,6 @@ impl Description {
         put(&mut record[136..], self.chips.iter().flat_map(chip));
         record
     }
-}
-
-fn count<T>(list: &[T]) -> u8 {
-    u8::try_from(list.len()).unwrap_or(u8::MAX)
-}
-
-/// Fills the places from the front, as far as both go.
-fn put(places: &mut [u8], bytes: impl IntoIterator<Item = u8>) {
-    for (place, byte) in places.iter_mut().zip(bytes) {
-        *place = byte;
-    }
-}
-
-/// 255 would read as no GPIO. As a GPIO it has to be refused, and so it goes as another number
-/// that is none.
-fn gpio(gpio: u8) -> u8 {
-    if gpio == NONE { NONE - 1 } else { gpio }
 }
 
 fn pair(candidates: Candidates) -> [u8; 2] {

@@ -1,6 +1,7 @@
 //! The bench program: lays out the sample or a described board, compares and measures.
 
 mod compare;
+mod plain;
 mod speed;
 
 use std::ffi::OsString;
@@ -8,7 +9,9 @@ use std::io::Write;
 use std::path::Path;
 use std::process::ExitCode;
 
-use onerom_bench::{derive_addr_layout, show, text};
+use onerom_bench::{
+    Description, Refusal, Search, derive_addr_layout, derive_cs_data_layout, show, text,
+};
 
 const SAMPLE: &str = include_str!("../sample/2764.txt");
 
@@ -62,17 +65,30 @@ fn lay_out(name: &str, bytes: &[u8]) -> ExitCode {
             return ExitCode::from(UNREAD);
         }
     };
-    match derive_addr_layout(&slot.to_bytes()) {
-        Ok(layout) => {
-            say(&show::summary(&slot, &layout));
-            say(&show::table(&layout));
-            ExitCode::SUCCESS
-        }
+    match print_layouts(&slot) {
+        Ok(()) => ExitCode::SUCCESS,
         Err(refusal) => {
-            say(&format!("refused: {refusal}\n"));
+            let who = match refusal.search {
+                Search::Address => "",
+                Search::Select => "\nselect search ",
+            };
+            say(&format!("{who}refused: {refusal}\n"));
             ExitCode::FAILURE
         }
     }
+}
+
+/// Prints each layout as soon as it is found: an address layout without the other is of use too.
+fn print_layouts(slot: &Description) -> Result<(), Refusal> {
+    let record = slot.to_bytes();
+    let addr = derive_addr_layout(&record)?;
+    say(&show::addr_summary(slot, &addr));
+    say(&show::addr_table(&addr));
+    let cs_data = derive_cs_data_layout(&record, &addr.to_bytes())?;
+    say("\n");
+    say(&show::cs_data_summary(&cs_data));
+    say(&show::cs_data_table(&cs_data));
+    Ok(())
 }
 
 /// Writes to the standard output. A reader who has gone away is no fault.

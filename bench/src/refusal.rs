@@ -2,9 +2,18 @@
 
 use std::fmt;
 
-/// Why a call gave no result.
+/// A search of the library.
+#[derive(Debug, Clone, Copy, PartialEq, Eq)]
+pub enum Search {
+    Address,
+    Select,
+}
+
+/// Why a search gave no layout.
 #[derive(Debug, Clone, Copy, PartialEq, Eq)]
 pub struct Refusal {
+    /// Who refused: a number can mean one thing in one search and another in the other.
+    pub search: Search,
     pub number: u16,
     pub name: &'static str,
     pub place: u64,
@@ -14,7 +23,8 @@ pub struct Refusal {
 #[derive(Debug, Clone, Copy, PartialEq, Eq)]
 enum Place {
     Nothing,
-    Pin,
+    SocketPin,
+    ChipPin,
     XPin,
     GpioSet,
     Gpio,
@@ -43,8 +53,12 @@ const ROWS: [Row; 25] = [
         Place::Nothing,
         "a number is outside what any board or chip can have",
     ),
-    row("NoSelectLine", Place::Nothing, "no line selects the chip"),
-    row("UnmappedPin", Place::Pin, "a needed pin has no GPIO"),
+    row(
+        "NoSelectLine",
+        Place::Nothing,
+        "no line selects the chip, or a line of the Multi set is not on it",
+    ),
+    row("UnmappedPin", Place::SocketPin, "a needed pin has no GPIO"),
     row("MissingXPin", Place::XPin, "a needed X pin has no GPIO"),
     row(
         "MissingAddrPinGpios",
@@ -137,6 +151,26 @@ const ROWS: [Row; 25] = [
     ),
 ];
 
+/// What the select search means otherwise.
+const SELECT_ROWS: [(u16, Row); 2] = [
+    (
+        3,
+        row(
+            "UnmappedPin",
+            Place::ChipPin,
+            "a needed pin is off the socket or has no GPIO",
+        ),
+    ),
+    (
+        9,
+        row(
+            "NoValidLayout",
+            Place::Nothing,
+            "no choice of GPIOs has data and selects without gaps in one PIO window",
+        ),
+    ),
+];
+
 const UNKNOWN: Row = row(
     "Unknown",
     Place::Nothing,
@@ -146,28 +180,29 @@ const UNKNOWN: Row = row(
 const PLACES: u32 = 48;
 
 impl Refusal {
-    /// The refusal that a call's result says; none if the result is a success.
-    pub fn of(result: u64) -> Option<Self> {
+    /// The refusal that a search's result says; none if the result is a success.
+    pub fn of(search: Search, result: u64) -> Option<Self> {
         let number = (result >> PLACES) as u16;
         (result != 0).then(|| Self {
+            search,
             number,
-            name: row_of(number).name,
+            name: row_of(search, number).name,
             place: result & ((1 << PLACES) - 1),
         })
     }
 
     /// What it means, in a line.
     pub fn meaning(&self) -> &'static str {
-        row_of(self.number).meaning
+        row_of(self.search, self.number).meaning
     }
 
-    /// The place in words; empty where the refusal names none. The address search counts pins on
-    /// the socket.
+    /// The place in words; empty where the refusal names none.
     pub fn place_words(&self) -> String {
         let place = self.place;
-        match row_of(self.number).place {
+        match row_of(self.search, self.number).place {
             Place::Nothing => String::new(),
-            Place::Pin => format!("socket pin {place}"),
+            Place::SocketPin => format!("socket pin {place}"),
+            Place::ChipPin => format!("chip pin {place}"),
             Place::XPin => format!("X{place}"),
             Place::GpioSet => format!("GPIOs {}", members(place)),
             Place::Gpio => format!("GPIO {place}"),
@@ -177,7 +212,11 @@ impl Refusal {
     }
 }
 
-fn row_of(number: u16) -> &'static Row {
+fn row_of(search: Search, number: u16) -> &'static Row {
+    let own = SELECT_ROWS.iter().find(|row| row.0 == number);
+    if let (Search::Select, Some((_, row))) = (search, own) {
+        return row;
+    }
     let place = usize::from(number).checked_sub(1);
     place.and_then(|place| ROWS.get(place)).unwrap_or(&UNKNOWN)
 }

@@ -1,53 +1,64 @@
-//! The layout as a person wants to see it.
+//! The layouts as a person wants to see them.
 
 use std::collections::BTreeMap;
 use std::fmt::Write;
 
 use crate::description::Description;
-use crate::layout::AddrLayout;
+use crate::layout::addr::AddrLayout;
+use crate::layout::cs_data::CsDataLayout;
 
 /// The roles of each GPIO; one GPIO can serve two lines where the wiring shares it.
-fn roles(layout: &AddrLayout) -> BTreeMap<u8, Vec<String>> {
-    let mut roles: BTreeMap<u8, Vec<String>> = BTreeMap::new();
-    let mut add = |gpio: u8, role: String| roles.entry(gpio).or_default().push(role);
-    for (line, &gpio) in layout.lines.iter().enumerate() {
-        add(gpio, format!("A{line}"));
+#[derive(Default)]
+struct Roles(BTreeMap<u8, Vec<String>>);
+
+impl Roles {
+    fn add(&mut self, gpio: u8, role: String) {
+        self.0.entry(gpio).or_default().push(role);
     }
-    for (number, x) in (1..).zip([layout.x1, layout.x2]) {
-        if let Some(gpio) = x {
-            add(gpio, format!("X{number}"));
+
+    /// A row for each GPIO: its roles, and the number that it has under the last heading.
+    fn table(self, heading: &str, number: impl Fn(u8) -> Option<u8>) -> String {
+        let roles: Vec<(u8, String)> = self
+            .0
+            .into_iter()
+            .map(|(gpio, roles)| (gpio, roles.join("; ")))
+            .collect();
+        let width = roles.iter().map(|(_, role)| role.len()).max();
+        let width = width.unwrap_or(0).max("role".len());
+        let last = heading.len();
+        let mut text = format!("GPIO  {:<width$}  {heading}\n", "role");
+        for (gpio, role) in &roles {
+            let number = number(*gpio).map_or("-".into(), |number| number.to_string());
+            // A String takes any text, so there is nothing to fail.
+            let _ = writeln!(text, "{gpio:>4}  {role:<width$}  {number:>last$}");
         }
+        text
     }
-    for (line, &gpio) in (layout.lines.len()..).zip(&layout.excess) {
-        add(gpio, format!("A{line}, excess line"));
-    }
-    roles
 }
 
 /// A row for each GPIO that the address PIO reads, and for each excess line outside of them.
-pub fn table(layout: &AddrLayout) -> String {
-    let mut rows = roles(layout);
-    for gpio in (layout.base..).take(usize::from(layout.pins)) {
-        rows.entry(gpio).or_insert_with(|| vec!["no line".into()]);
+pub fn addr_table(layout: &AddrLayout) -> String {
+    let mut roles = Roles::default();
+    for (line, &gpio) in layout.lines.iter().enumerate() {
+        roles.add(gpio, format!("A{line}"));
     }
-    let roles: Vec<(u8, String)> = rows
-        .into_iter()
-        .map(|(gpio, roles)| (gpio, roles.join("; ")))
-        .collect();
-    let width = roles.iter().map(|(_, role)| role.len()).max();
-    let width = width.unwrap_or(0).max("role".len());
-    let mut text = format!("GPIO  {:<width$}  table bit\n", "role");
-    for (gpio, role) in &roles {
-        let bit = layout.table_bit(*gpio);
-        let bit = bit.map_or("-".into(), |bit| bit.to_string());
-        // A String takes any text, so there is nothing to fail.
-        let _ = writeln!(text, "{gpio:>4}  {role:<width$}  {bit:>9}");
+    for (number, x) in (1..).zip([layout.x1, layout.x2]) {
+        if let Some(gpio) = x {
+            roles.add(gpio, format!("X{number}"));
+        }
     }
-    text
+    for (line, &gpio) in (layout.lines.len()..).zip(&layout.excess) {
+        roles.add(gpio, format!("A{line}, excess line"));
+    }
+    for gpio in (0..layout.pins).filter_map(|pin| layout.base.checked_add(pin)) {
+        let role = roles.0.entry(gpio);
+        role.or_insert_with(|| vec!["no line".into()]);
+    }
+    roles.table("table bit", |gpio| layout.table_bit(gpio))
 }
 
 /// The table's size, and what it is held against.
-pub fn summary(slot: &Description, layout: &AddrLayout) -> String {
+pub fn addr_summary(slot: &Description, layout: &AddrLayout) -> String {
     let (base, pins) = (layout.base, layout.pins);
     let mut text = format!("base GPIO {base}, {pins} pins, ");
     match layout.table_bytes(slot.word_bytes) {
@@ -58,6 +69,52 @@ pub fn summary(slot: &Description, layout: &AddrLayout) -> String {
             }
         }
         None => text.push_str("table past all limits"),
+    }
+    text.push_str("\n\n");
+    text
+}
+
+/// A row for each GPIO of a line, for the one that is ignored among the selects, and for each
+/// qualifier.
+pub fn cs_data_table(layout: &CsDataLayout) -> String {
+    let mut roles = Roles::default();
+    for (line, &gpio) in layout.data.iter().enumerate() {
+        roles.add(gpio, format!("D{line}"));
+    }
+    for line in &layout.select {
+        roles.add(line.gpio, line.role.to_string());
+    }
+    for line in &layout.commoned {
+        roles.add(line.gpio, format!("{}, commoned", line.role));
+    }
+    if let Some(gpio) = layout.ignored_gpio() {
+        roles.add(gpio, "no select, ignored".into());
+    }
+    for gpio in layout.qualifier_gpios() {
+        roles.add(gpio, "qualifier".into());
+    }
+    roles.table("base pin", |gpio| layout.base_pin(gpio))
+}
+
+/// Where data and selects begin, how many GPIOs they take, and what the select algorithm needs.
+pub fn cs_data_summary(layout: &CsDataLayout) -> String {
+    let (data, first_data) = (layout.data.len(), layout.base_data_pin);
+    let (selects, first_select) = (layout.cs_pins, layout.base_cs_pin);
+    let mut text = format!(
+        "select and data: base GPIO {}, {data} data lines from base pin {first_data}, \
+         {selects} select pins from base pin {first_select}",
+        layout.base
+    );
+    if let Some(index) = layout.ignore_index {
+        let _ = write!(text, ", ignore index {index}");
+    }
+    if let Some(qualifiers) = layout.qualifiers {
+        let (pins, base_pin) = (qualifiers.pins, qualifiers.base_pin);
+        let pattern = qualifiers.pattern;
+        let _ = write!(
+            text,
+            ", {pins} qualifier pins from base pin {base_pin}, pattern {pattern:#010b}"
+        );
     }
     text.push_str("\n\n");
     text

@@ -27,6 +27,50 @@ fn the_sample() {
     assert!(told.starts_with("base GPIO 9, 13 pins, table of 8192 bytes\n"));
     assert!(told.contains("\n   9  A10           0\n"));
     assert!(told.contains("\n  21  A0           12\n"));
+    let select = "\n\nselect and data: base GPIO 0, 8 data lines from base pin 0, \
+        2 select pins from base pin 22\n\nGPIO  role  base pin\n   0  D0           0\n";
+    assert!(told.contains(select));
+    assert!(told.ends_with("\n   7  D7           7\n  22  ce          22\n  23  oe          23\n"));
+}
+
+/// The sample with some of its lines changed.
+fn changed_sample(name: &str, changes: &[(&str, &str)]) -> Output {
+    let mut text = include_str!("../sample/2764.txt").to_string();
+    for (line, other) in changes {
+        assert!(text.contains(line));
+        text = text.replace(line, other);
+    }
+    on_file(name, &text)
+}
+
+#[test]
+fn ignored_gpios_and_qualifiers() {
+    let changes = [
+        ("pin 22 gpio 23", "pin 22 gpio 24"),
+        ("settings ce-oe", "qualifiers 0 2"),
+    ];
+    let told = changed_sample("qualifiers.txt", &changes);
+    assert_eq!(told.status.code(), Some(0));
+    let told = text(&told.stdout);
+    assert!(told.contains(
+        "3 select pins from base pin 22, ignore index 1, \
+         3 qualifier pins from base pin 19, pattern 0b00000101\n"
+    ));
+    assert!(told.contains("\n  19  qualifier                 19\n"));
+    assert!(told.contains("\n  23  no select, ignored        23\n"));
+}
+
+#[test]
+fn commoned_lines() {
+    let changes = [
+        ("set single", "set multi\nmulti select ce commoned oe"),
+        ("settings ce-oe", "settings ce-oe\nchip again"),
+    ];
+    let told = changed_sample("multi.txt", &changes);
+    let told = text(&told.stdout);
+    let wanted = "\n  22  ce                  22\n  23  oe, commoned        23\n  \
+        24  X1                  24\n";
+    assert!(told.ends_with(wanted));
 }
 
 #[test]
@@ -59,6 +103,18 @@ fn a_refusal() {
     assert_eq!(told.status.code(), Some(1));
     let wanted = "refused: 3 UnmappedPin, place 5 (socket pin 5): a needed pin has no GPIO\n";
     assert_eq!(text(&told.stdout), wanted);
+}
+
+#[test]
+fn a_refusal_of_the_select_search() {
+    let slot = "socket 24\noffset 2\nchip size 2\naddress 1\ndata 2\npin 3 gpio 5\n";
+    let told = on_file("unselected.txt", slot);
+    assert_eq!(told.status.code(), Some(1));
+    let told = text(&told.stdout);
+    assert!(told.starts_with("base GPIO 5, 8 pins, table of 256 bytes\n"));
+    let wanted = "\n\nselect search refused: 3 UnmappedPin, place 2 (chip pin 2): \
+        a needed pin is off the socket or has no GPIO\n";
+    assert!(told.ends_with(wanted));
 }
 
 #[test]

@@ -1,4 +1,4 @@
-//! The sample's record, place by place, and the library's answers to it.
+//! The sample's record, place by place, and the address search's answers to it.
 
 use onerom_bench::description::{Candidates, Chip, Kind, Multi, SetType, Setting, Settings};
 use onerom_bench::{AddrLayout, Description, derive_addr_layout, derive_addr_layout_into, text};
@@ -80,6 +80,31 @@ fn lines_past_the_limit_are_excess() {
     assert_eq!(layout.excess, [34, 11]);
     assert_eq!(layout.table_bit(34), None);
     assert_eq!(layout.table_bytes(1), Some(1 << 13));
+}
+
+#[test]
+fn a_layout_goes_on_as_it_came() {
+    let record = sample().to_bytes();
+    let mut written = [0; 36];
+    assert_eq!(derive_addr_layout_into(&record, &mut written), 0);
+    assert_eq!(AddrLayout::read(&written).to_bytes(), written);
+}
+
+#[test]
+fn places_of_the_address_layout() {
+    let layout = AddrLayout {
+        base: 9,
+        pins: 13,
+        x1: Some(24),
+        x2: None,
+        lines: vec![21, 20],
+        excess: vec![34],
+    };
+    let record = layout.to_bytes();
+    assert_eq!(record[..8], [9, 13, 24, 255, 2, 1, 0, 0]);
+    assert_eq!(record[8..11], [21, 20, 34]);
+    assert_eq!(record[11..], [0; 25]);
+    assert_eq!(AddrLayout::read(&record), layout);
 }
 
 fn refused(slot: &Description) -> String {

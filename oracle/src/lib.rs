@@ -12,7 +12,7 @@ pub mod fields;
 pub mod generate;
 pub mod layout;
 pub mod model;
-mod random;
+pub mod random;
 pub mod run;
 pub mod slot;
 pub mod tally;
@@ -41,13 +41,14 @@ include!(concat!(env!("OUT_DIR"), "/original.rs"));
 
 use description::Description;
 use engine::{Engine, Told};
-use layout::AddressLayout;
+use layout::{AddressLayout, SelectLayout};
 
 /// What is said where the original cannot answer.
 pub const SKIPPED: &str = "original sources not found: skipped";
 
-/// An address search of the original on one description, to be run any number of times.
+/// A search of the original on one description, to be run any number of times.
 pub type AddressSearch = Box<dyn Fn() -> Told<AddressLayout>>;
+pub type SelectSearch = Box<dyn Fn() -> Told<SelectLayout>>;
 
 /// The original, if its files were there at the build.
 #[cfg(original)]
@@ -63,12 +64,29 @@ pub fn original() -> Option<&'static dyn Engine> {
 /// The original's address search with its records made beforehand, so that a clock sees the
 /// search alone.
 #[cfg(original)]
-pub fn prepared_search(slot: &Description) -> Option<AddressSearch> {
-    Some(original::prepared_search(slot))
+pub fn prepared_address_search(slot: &Description) -> Option<AddressSearch> {
+    Some(original::prepared_address_search(slot))
 }
 
 #[cfg(not(original))]
-pub fn prepared_search(_slot: &Description) -> Option<AddressSearch> {
+pub fn prepared_address_search(_slot: &Description) -> Option<AddressSearch> {
+    None
+}
+
+/// The original's select search in the same way.
+#[cfg(original)]
+pub fn prepared_select_search(
+    slot: &Description,
+    address: Option<&AddressLayout>,
+) -> Option<SelectSearch> {
+    Some(original::prepared_select_search(slot, address))
+}
+
+#[cfg(not(original))]
+pub fn prepared_select_search(
+    _slot: &Description,
+    _address: Option<&AddressLayout>,
+) -> Option<SelectSearch> {
     None
 }
 

@@ -173,13 +173,26 @@ fn context(slot: &Description) -> SlotContext {
 }
 
 /// The address search of a description whose records are made once.
-pub fn prepared_search(slot: &Description) -> crate::AddressSearch {
+pub fn prepared_address_search(slot: &Description) -> crate::AddressSearch {
     let context = context(slot);
     let largest_table = slot.largest_table as usize;
     Box::new(move || {
         // Another description may have been asked about in between.
         set_largest_table(largest_table);
         told(|| derive_addr_layout(&context).map_err(layout_refusal)).map(from_original_address)
+    })
+}
+
+/// The select search in the same way. It does not look at the largest table.
+pub fn prepared_select_search(
+    slot: &Description,
+    address: Option<&AddressLayout>,
+) -> crate::SelectSearch {
+    let context = context(slot);
+    let address = address.map(to_original_address);
+    Box::new(move || {
+        told(|| derive_cs_data_layout(&context, address.as_ref()).map_err(layout_refusal))
+            .map(from_original_select)
     })
 }
 

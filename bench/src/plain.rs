@@ -1,0 +1,60 @@
+//! The library's values as the oracle has them, and back.
+
+use onerom_bench::layout::cs_data::{Line, Qualifiers};
+use onerom_bench::{AddrLayout, CsDataLayout, Refusal};
+use oracle::engine::Failure;
+use oracle::layout::{AddressLayout, Qualifier, SelectLayout};
+
+pub fn address(layout: AddrLayout) -> AddressLayout {
+    AddressLayout {
+        base: layout.base,
+        pins: layout.pins,
+        x1: layout.x1,
+        x2: layout.x2,
+        lines: layout.lines,
+        excess: layout.excess,
+    }
+}
+
+/// The oracle's layout as the library takes it.
+pub fn handed_in(layout: AddressLayout) -> AddrLayout {
+    AddrLayout {
+        base: layout.base,
+        pins: layout.pins,
+        x1: layout.x1,
+        x2: layout.x2,
+        lines: layout.lines,
+        excess: layout.excess,
+    }
+}
+
+pub fn select(layout: CsDataLayout) -> SelectLayout {
+    let qualifier = |given: Qualifiers| Qualifier {
+        base_pin: given.base_pin,
+        pins: given.pins,
+        pattern: given.pattern,
+    };
+    SelectLayout {
+        base: layout.base,
+        base_data_pin: layout.base_data_pin,
+        base_cs_pin: layout.base_cs_pin,
+        cs_pins: layout.cs_pins,
+        ignore: layout.ignore_index,
+        qualifier: layout.qualifiers.map(qualifier),
+        data: layout.data,
+        select: lines(&layout.select),
+        commoned: lines(&layout.commoned),
+    }
+}
+
+fn lines(lines: &[Line]) -> Vec<oracle::layout::Line> {
+    let plain = |line: &Line| (line.role.number(), line.gpio);
+    lines.iter().map(plain).collect()
+}
+
+pub fn failure(refusal: Refusal) -> Failure {
+    Failure::Refused {
+        number: u64::from(refusal.number),
+        place: refusal.place,
+    }
+}
