@@ -1,2 +1,4 @@
 pub mod Verdicts
 pub mod Parts
+pub mod Rows
+pub mod Seen

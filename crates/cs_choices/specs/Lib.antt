@@ -2,3 +2,4 @@ pub mod Verdict
 pub mod Sets
 pub mod Parts
 pub mod Nothing
+pub mod Seen

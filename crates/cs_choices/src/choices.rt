@@ -67,7 +67,7 @@ fn part(l: Listing, from: usize, to: usize, low: bool, split: u32, choice: u32) 
 }
 
 // The GPIOs of all pins that one part of the choice number serves.
-fn parts(l: Listing, num_data: usize, low: bool, split: u32, choice: u32) -> Sets
+pub(crate) fn parts(l: Listing, num_data: usize, low: bool, split: u32, choice: u32) -> Sets
     requires { ⌜ («num_data» ≤ l .count) × (l .count ≤ 30) × GpiosIn (listOf l) ⌝ }
     ensures { λ r. ⌜ r ≡ partsOf (listOf l) «num_data» low split choice ⌝ }
 {
@@ -78,7 +78,7 @@ fn parts(l: Listing, num_data: usize, low: bool, split: u32, choice: u32) -> Set
 }
 
 // The verdict on the choice that two parts of a number make.
-fn joined(fixed: Fixed, low: Sets, high: Sets) -> Verdict
+pub(crate) fn joined(fixed: Fixed, low: Sets, high: Sets) -> Verdict
     ensures { λ r. ⌜ r ≡ inRow fixed low high ⌝ }
 {
     judge(
@@ -113,7 +113,7 @@ fn trial(v: Verdict) -> Trial
 }
 
 // The GPIOs of the bits below `split`.
-fn low_parts(l: Listing, num_data: usize, split: u32) -> [Sets; 64]
+pub(crate) fn low_parts(l: Listing, num_data: usize, split: u32) -> [Sets; 64]
     requires { ⌜ («num_data» ≤ l .count) × (l .count ≤ 30) × GpiosIn (listOf l) × (split ≤ 6) ⌝ }
     ensures { λ r. ⌜ take (2 ^ split) r ≡ tab (2 ^ split) (λ q. partsOf (listOf l) «num_data» true split q) ⌝ }
 {

@@ -1,5 +1,5 @@
--- The choices of a search taken in rows. Assumes nothing.
-use mathlib.Core.Path.{_≡_, sym, _∙_}
+-- The choices taken in rows, by a search or by whatever else takes them in turn. Assumes nothing.
+use mathlib.Core.Path.{_≡_, refl, sym, _∙_}
 use Prim.Native.Nat.{ℕ, zero, suc, _+_, _*_, _%_, _^_, _-_, _≤_, _<_}
 use native.Mathlib.Nat.{add-zero, add-suc, le-trans, mul-le-mul-right, suc-mul}
 use native.Mathlib.Numerals.{add-one}
@@ -8,12 +8,6 @@ use lib.Pow.{shl-exact, pow-mono, pow-add}
 use Rattle.search.specs.declared.Trial.{Trial}
 use Rattle.search.specs.declared.Found.{Found}
 use Rattle.search.specs.Search.{betterOf, best, bestOnward}
-
--- the choices below c, then k more in a row
-pub onward : (trial row : ℕ → Trial) (c k : ℕ) → ((q : ℕ) → q < k → row q ≡ trial (c + q)) → bestOnward (best trial c) row c k ≡ best trial (c + k)
-unfolding best bestOnward
-onward trial row c zero h = rw add-zero
-onward trial row c (suc k) h = rw (onward trial row c k (λ q l. h q (omega arith)), h k (omega arith), add-suc)
 
 -- one turn of a loop over a row, and its end
 pub onward-turn : (before : Found) (row : ℕ → Trial) (c k : ℕ) (found later : Found) (t : Trial) → found ≡ bestOnward before row c k → t ≡ row k → later ≡ betterOf found (c + k) t
@@ -49,11 +43,28 @@ pub row-fits : (row rows b k first count : ℕ) → row < rows → rows ≡ 2 ^ 
 row-fits row rows b k first count l e h i j f g =
     (rw g (row-short k i), rw (f, g) (le-trans (row-within row b k h (rw e at l)) (pow-mono j)))
 
--- one turn of a loop over the rows, and its end
+-- whatever takes the choices in turn: `whole k` is what those below k come to, `step` adds one, and `more q` is the same after q
+-- choices of a row
+module _ {S T : Type 0} (step : S → ℕ → T → S) (choice : ℕ → T) (whole : ℕ → S) (grows : (k : ℕ) → whole (suc k) ≡ step (whole k) k (choice k)) where
+  module _ (each : ℕ → T) (more : ℕ → S) (c : ℕ) (from : more 0 ≡ whole c) (goes : (q : ℕ) → more (suc q) ≡ step (more q) (c + q) (each q)) where
+    -- the choices below c, then k more in a row
+    onward : (k : ℕ) → ((q : ℕ) → q < k → each q ≡ choice (c + q)) → more k ≡ whole (c + k)
+    onward zero h = rw add-zero from
+    onward (suc k) h = rw (goes k, onward k (λ q l. h q (omega arith)), h k (omega arith), add-suc, grows (c + k))
+
+  -- one turn of a loop over the rows
+  pub row-added : (each : ℕ → T) (more : ℕ → S) (row k first count : ℕ) (later : S) → first ≡ row * 2 ^ k → count ≡ 2 ^ k → more 0 ≡ whole (row * 2 ^ k)
+      → ((q : ℕ) → more (suc q) ≡ step (more q) (first + q) (each q)) → ((q : ℕ) → q < 2 ^ k → each q ≡ choice (row * 2 ^ k + q)) → later ≡ more count
+      → later ≡ whole ((row + 1) * 2 ^ k)
+  row-added each more row k first count later f g from goes h i = rw (i, g, ← next-row) (onward each more (row * 2 ^ k) from (rw f at goes) (2 ^ k) h)
+
+-- and its end
+pub rows-done : {S : Type 0} (whole : ℕ → S) (row rows b k : ℕ) (state : S) → row ≡ rows → rows ≡ 2 ^ (b - k) → k ≤ b → state ≡ whole (row * 2 ^ k) → state ≡ whole (2 ^ b)
+rows-done whole row rows b k state e f h i = rw (e, f, all-rows b k h) at i
+
+-- one turn of a search for the best
 pub rows-turn : (trial each : ℕ → Trial) (row k first count : ℕ) (found later : Found) → first ≡ row * 2 ^ k → count ≡ 2 ^ k
     → ((q : ℕ) → q < 2 ^ k → each q ≡ trial (row * 2 ^ k + q)) → found ≡ best trial (row * 2 ^ k) → later ≡ bestOnward found each first count
     → later ≡ best trial ((row + 1) * 2 ^ k)
-rows-turn trial each row k first count found later f g h e i = rw (i, e, f, g, ← next-row) (onward trial each (row * 2 ^ k) (2 ^ k) h)
-
-pub rows-done : (trial : ℕ → Trial) (row rows b k : ℕ) (found : Found) → row ≡ rows → rows ≡ 2 ^ (b - k) → k ≤ b → found ≡ best trial (row * 2 ^ k) → found ≡ best trial (2 ^ b)
-rows-done trial row rows b k found e f h i = rw (e, f, all-rows b k h) at i
+unfolding best bestOnward
+rows-turn trial each row k first count found later f g h e i = row-added betterOf trial (best trial) (λ q. refl) each (bestOnward found each first) row k first count later f g e (λ q. refl) h i

@@ -42,7 +42,7 @@ module _ (ls : List Listed) (r n : ℕ) (fixed : Span) (s : ℕ) where
 done : (ls : List Listed) (d : Description) (u n row rows s bits : ℕ) (fixed : Span) (found : Found) → u ≡ inRange d → n ≡ lines d → fixed ≡ fixedSpan d → row ≡ rows
     → rows ≡ 2 ^ (bits - s) → s ≤ bits → found ≡ best (trials ls u n fixed s) (row * 2 ^ s)
     → found ≡ best (λ c. trialOf (choiceSpan ls (inRange d) (lines d) (fixedSpan d) c)) (2 ^ bits)
-done ls d u n row rows s bits fixed found eu en ef er eb h f = rw (eu, en, ef) at (rows-done (trials ls u n fixed s) row rows bits s found er eb h f)
+done ls d u n row rows s bits fixed found eu en ef er eb h f = rw (eu, en, ef) at (rows-done (best (trials ls u n fixed s)) row rows bits s found er eb h f)
 
 abbrev Inv-loop : tie.InvT-loop
 Inv-loop l bits used all fixed split lows rows found₀ row₀ found row =

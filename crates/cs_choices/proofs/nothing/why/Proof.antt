@@ -1,60 +1,67 @@
--- `why` meets its contract. The loop's invariant: `first` is the first interior ignored line of the choices passed, `last` their last refused set. Assumes nothing.
-use mathlib.Core.Path.{_≡_, refl}
+-- `why` meets its contract. The loop's invariant: `seen` is what the choices of the rows passed show. Assumes nothing.
+use mathlib.Core.Path.{_≡_, refl, sym}
 use mathlib.Core.List.{List}
-use Prim.Native.Nat.{ℕ, _+_, _^_, _≤_, _-_}
-use native.Mathlib.Numerals.{add-one}
+use Prim.Native.Nat.{ℕ, _*_, _+_, _^_, _<_, _-_}
+use native.Mathlib.Nat.{zero-mul}
 use native.Mathlib.Omega.{arith}
-use Rattle.gpio.proofs.Shifts.{shifted-one}
-use Rattle.listing.specs.Choice.{GpiosIn}
+use lib.ListN.{length}
+use Rattle.gpio.proofs.Lists.{mapped-length}
 use Rattle.listing.specs.Listing.{listOf, orElse}
 use Rattle.listing.specs.declared.FirstFault.{FirstFault}
-use Rattle.cs_choices.specs.Nothing.{interiorOf, interior, refusedOf, lastRefused, nothingFits}
 use Rattle.listing.specs.declared.Listed.{Listed}
+use Rattle.search.proofs.Rows.{row-added, rows-done}
+use Rattle.cs_choices.specs.Nothing.{interiorIn, nothingFits}
+use Rattle.cs_choices.specs.Seen.{refusedIn, seenWith, seenOnward}
 use Rattle.cs_choices.specs.Sets.{verdictOn}
-use Rattle.cs_choices.specs.Parts.{setsOf}
-use Rattle.cs_choices.specs.Verdict.{verdictOf}
 use Rattle.cs_choices.specs.declared.choices.Fixed.{Fixed}
-use Rattle.cs_choices.specs.declared.choices.Sets.{Sets}
+use Rattle.cs_choices.specs.declared.nothing.Seen.{Seen}
 use Rattle.cs_choices.specs.declared.verdict.Verdict.{Verdict}
+use Rattle.cs_choices.proofs.Rows.{AtRow, rows-begun, row-passed, count-is, choices-fit, row-judged}
+use Rattle.cs_choices.proofs.Seen.{shown, why-shown}
 use borrow.Author.Needs.{needs}
 use Rattle.cs_choices.proofs.nothing.why.Statement.{statement}
 use Rattle.cs_choices.proofs.nothing.why.Tie as tie
 
-judged : (ls : List Listed) (f : Fixed) (c : ℕ) (s : Sets) (v : Verdict) → s ≡ setsOf ls (f .«num_data») (f .excess) c
-    → v ≡ verdictOf (f .multi) (f .qualifiers) (s .«data_gpios») (s .«select_gpios») → v ≡ verdictOn ls f c
-judged ls f c s v e h = rw (h, e)
+module _ (ls : List Listed) (f : Fixed) (ignored : ℕ) where
+  turn : (each : ℕ → Verdict) (row k count : ℕ) (seen later : Seen) → count ≡ 2 ^ k
+      → ((q : ℕ) → q < 2 ^ k → each q ≡ verdictOn ls f (row * 2 ^ k + q)) → seen ≡ shown ls f ignored (row * 2 ^ k) → later ≡ seenOnward ignored seen each count
+      → later ≡ shown ls f ignored ((row + 1) * 2 ^ k)
+  unfolding seenOnward
+  turn each row k count seen later g h e i =
+      row-added (λ s c v. seenWith ignored s v) (verdictOn ls f) (shown ls f ignored) (λ q. refl) each (seenOnward ignored seen each) row k (row * 2 ^ k) count later refl g e (λ q. refl) h i
 
-module _ (verdict : ℕ → Verdict) where
-  first-turn : (ignored k : ℕ) (v : Verdict) (f g h : FirstFault) → v ≡ verdict k → f ≡ interior ignored verdict k → g ≡ interiorOf ignored v → h ≡ orElse f g → h ≡ interior ignored verdict (k + 1)
-  unfolding interior
-  first-turn ignored k v f g h e p q r = rw (r, p, q, e, add-one)
-
-  last-turn : (k : ℕ) (v : Verdict) (f g h : FirstFault) → v ≡ verdict k → f ≡ lastRefused verdict k → g ≡ refusedOf v → h ≡ orElse g f → h ≡ lastRefused verdict (k + 1)
-  unfolding lastRefused
-  last-turn k v f g h e p q r = rw (r, p, q, e, add-one)
-
-  done : (ignored k n m : ℕ) (f g h : FirstFault) → k ≡ n → n ≡ m → f ≡ interior ignored verdict k → g ≡ lastRefused verdict k → h ≡ orElse f g → h ≡ nothingFits ignored verdict m
-  done ignored k n m f g h d e p q r = rw (r, p, q, d, e)
+  done : (n : ℕ) (seen : Seen) (x y r : FirstFault) → seen ≡ shown ls f ignored n → x ≡ interiorIn (seen .interior) → y ≡ refusedIn (seen .refused) → r ≡ orElse x y
+      → r ≡ nothingFits ignored (verdictOn ls f) n
+  done n seen x y r e p q h = rw (h, p, q, e) (sym (why-shown ls f ignored n))
 
 abbrev Inv-loop : tie.InvT-loop
-Inv-loop l fixed bits ignored choices first₀ last₀ c₀ first last c =
-    (c ≤ choices) × (choices ≡ 2 ^ bits) × GpiosIn (listOf l) × (first ≡ interior ignored (verdictOn (listOf l) fixed) c) × (last ≡ lastRefused (verdictOn (listOf l) fixed) c)
+Inv-loop l fixed bits ignored split lows rows seen₀ row₀ seen row =
+    AtRow l fixed bits split lows rows row × (seen ≡ shown (listOf l) fixed ignored (row * 2 ^ split))
 
 abbrev μ-loop : tie.MeasureT-loop
-μ-loop l fixed bits ignored choices first₀ last₀ c₀ first last c = choices - c
+μ-loop l fixed bits ignored split lows rows seen₀ row₀ seen row = rows - row
 
 loop-holds : tie.Need-loop-holds Inv-loop μ-loop
-unfolding interior lastRefused
-loop-holds c = (omega arith, shifted-one _ 32 (omega arith), c .pre .2, refl, refl)
+unfolding seenOnward
+loop-holds c =
+    let long : length (c .before .before .args .l .pins) ≡ 30 = search (mapped-length, needs) in
+    (rows-begun long (c .before .before .pre) (c .before .row-bits .ensures) (c .low-parts .ensures), rw zero-mul refl)
+
+seen-in-row-requires : tie.Need-seen-in-row-requires Inv-loop μ-loop
+seen-in-row-requires c κs = choices-fit (c .before .before .loop .inv .0) (c .before .loop-test .taken) .0
 
 loop-again : tie.Need-loop-again Inv-loop μ-loop
 loop-again c =
-    let i = c .before .before .before .before .before .before .before .loop .inv in
-    let v = judged _ _ _ _ _ (c .before .before .before .before .before .whole .ensures) (c .before .before .before .before .judge .ensures) in
-    (omega arith, i .1, i .2, first-turn _ _ _ _ _ _ _ v (i .3) (c .before .before .before .interior .ensures) (c .before .before .or-else .ensures), last-turn _ _ _ _ _ _ v (i .4) (c .before .refused-set .ensures) (c .or-else2 .ensures))
+    let i = c .before .before .before .loop .inv in
+    let t = c .before .before .loop-test .taken in (
+      row-passed (i .0) t,
+      turn _ _ _ _ _ _ _ _ _ (count-is (i .0) t) (λ q h. row-judged (i .0) t (c .before .parts .ensures) q h) (i .1) (c .seen-in-row .ensures),
+    )
 
 returns : tie.Need-returns Inv-loop μ-loop
-returns c = let i = c .before .before .loop .inv in done _ _ _ _ _ _ _ _ (omega arith) (i .1) (i .3) (i .4) (c .or-else3 .ensures)
+returns c =
+    let i = c .before .before .before .before .loop .inv in
+    done _ _ _ _ _ _ _ _ (rows-done (shown _ _ _) _ _ _ _ _ (omega arith) (i .0 .all) (i .0 .split-bits) (i .1)) (c .before .before .interior-in .ensures) (c .before .refused-in .ensures) (c .or-else .ensures)
 
 pub why-spec : {M : Type 1} → statement M
-why-spec = tie.close (tie.spec Inv-loop μ-loop (λ c. search needs) loop-holds (λ c κs. search needs) (λ c κs. search needs) (λ c κs. search needs) (λ c κs. search needs) (λ c κs. search needs) (λ c κs. search needs) (λ c. search needs) (λ c. search needs) loop-again (λ c κs. search needs) returns)
+why-spec = tie.close (tie.spec Inv-loop μ-loop (λ c κs. search needs) (λ c κs. search needs) (λ c. search needs) (λ c. search needs) loop-holds (λ c. search needs) (λ c κs. search needs) (λ c. search needs) seen-in-row-requires (λ c. search needs) (λ c. search needs) loop-again (λ c κs. search needs) (λ c κs. search needs) (λ c κs. search needs) returns)
