@@ -11,7 +11,7 @@ use lib.IntN.{ℤ, pos, negsuc}
 use lib.ListN.{getD, replicate}
 use borrow.Author.Tests.{ne-eqb, le-leb, lt-leb}
 use Rattle.gpio.specs.Each.{each}
-use Rattle.gpio.specs.Tab.{tab}
+use Rattle.gpio.specs.Tab.{tab, joined}
 use Rattle.gpio.proofs.Each.{each-all}
 use Rattle.gpio.proofs.Tab.{tab-is}
 use Rattle.gpio.specs.declared.candidates.Candidates.{Candidates}
@@ -55,7 +55,7 @@ use Rattle.record.specs.Record.{
   decodedOf,
 }
 use Rattle.slot.specs.Description.{noPin, noLine, noChip}
-use Rattle.encoding.specs.Encoded.{field, joined, fourBytes, pairBytes, pairField, setTypeByte, offsetByte, logicByte, settingByte, csConfigBytes, multiBytes, pinOf, lineOf, chipOf, boardBytes, lineBytes, chipBytes, headBytes, encoded, Bytes, ValuedBoard, ValuedChip, ValuedMulti, Valued}
+use Rattle.encoding.specs.Encoded.{field, fourBytes, pairBytes, pairField, setTypeByte, offsetByte, logicByte, settingByte, csConfigBytes, multiBytes, pinOf, lineOf, chipOf, boardBytes, lineBytes, chipBytes, headBytes, encoded, Bytes, ValuedBoard, ValuedChip, ValuedMulti, Valued}
 use Rattle.encoding.proofs.InDomain.{GpiosIn, OffsetIn, EncodableBoard, Encodable, in-domain}
 
 -- lists of bytes

@@ -3,10 +3,10 @@
 use mathlib.Core.Path.{_≡_}
 use mathlib.Core.Bool.{cond}
 use mathlib.Core.List.{List, [], _∷_, _++_}
-use Prim.Native.Nat.{ℕ, zero, suc, _-_, _/_, _%_, _^_, _<_}
+use Prim.Native.Nat.{ℕ, _-_, _/_, _%_, _^_, _<_}
 use lib.IntN.{ℤ, pos, negsuc}
 use lib.ListN.{length, getD}
-use Rattle.gpio.specs.Tab.{tab}
+use Rattle.gpio.specs.Tab.{tab, joined}
 use Rattle.gpio.specs.declared.candidates.Candidates.{Candidates}
 use Rattle.gpio.specs.declared.candidates.Candidates.the-variants.{Absent, One, Two}
 use Rattle.gpio.specs.declared.candidates.Pin.{Pin}
@@ -28,11 +28,6 @@ use Rattle.slot.specs.declared.description.Description.{Description}
 -- a field of n bytes
 abbrev pub field : ℕ → List ℕ → List ℕ
 field n l = tab n (λ k. getD l k 0)
-
--- n fields, one after the other
-unfoldable pub joined : ℕ → (ℕ → List ℕ) → List ℕ
-joined zero f = []
-joined (suc n) f = joined n f ++ f n
 
 -- "Numbers of more than one byte are low byte first."
 abbrev pub fourBytes : ℕ → List ℕ
