@@ -1,0 +1,28 @@
+-- Words of w bytes, in and as bytes. Assumes nothing.
+use Prim.Native.Nat.{ℕ, zero, suc, _+_, _*_, _/_, _%_}
+use mathlib.Core.List.{List, [], _∷_}
+use lib.ListN.{getD}
+use Rattle.gpio.specs.Tab.{joined}
+
+-- the number of w bytes from a place: "Words are low byte first."
+unfoldable pub wordFrom : ℕ → List ℕ → ℕ → ℕ
+wordFrom zero b at = 0
+wordFrom (suc w) b at = getD b at 0 + 256 * wordFrom w b (at + 1)
+
+-- word n of a chip's bytes
+abbrev pub word : ℕ → List ℕ → ℕ → ℕ
+word w b n = wordFrom w b (n * w)
+
+-- the bytes of a word, low byte first
+unfoldable pub bytesOf : ℕ → ℕ → List ℕ
+bytesOf zero v = []
+bytesOf (suc w) v = v % 256 ∷ bytesOf w (v / 256)
+
+-- the pad word: "hex AA in each byte", over the pad byte
+unfoldable pub padWord : ℕ → ℕ → ℕ
+padWord zero pad = 0
+padWord (suc w) pad = pad + 256 * padWord w pad
+
+-- the words f 0, f 1, .. f (n - 1) as bytes, one after the other
+abbrev pub wordsBytes : ℕ → (ℕ → ℕ) → ℕ → List ℕ
+wordsBytes w f n = joined n (λ i. bytesOf w (f i))

@@ -1,0 +1,64 @@
+// Words of w bytes, read from bytes and written there, low byte first.
+ghost use mathlib.Core.Path.{_≡_};
+ghost use mathlib.Core.List.{_++_};
+ghost use Prim.Native.Nat.{_+_, _*_, _%_, _^_, _≤_, _<_};
+ghost use lib.ListN.{length, take, drop};
+ghost use Rattle.words.specs.Words.{wordFrom, bytesOf, padWord};
+
+// A byte as a number that can be shifted past a byte's width.
+fn wide(x: u8) -> u32
+    ensures { λ r. ⌜ (r ≡ x) × (r < 256) ⌝ }
+{
+    x as u32
+}
+
+// The word of w bytes at a place. The highest byte is the last, so the bytes are taken from the end.
+pub fn word_at(b: &[u8], at: usize, w: usize) -> u32
+    requires { ⌜ (w ≤ 2) × (at + w ≤ length (now b)) ⌝ }
+    ensures { λ r. ⌜ r ≡ wordFrom w (now (b .entry)) at ⌝ }
+    ensures { λ r. ⌜ r < 2 ^ (8 * w) ⌝ }
+{
+    let mut whole: u32 = 0;
+    let mut k = w;
+    while 0 < k {
+        k -= 1;
+        whole = wide(b[at + k]) + 256 * whole;
+    }
+    whole
+}
+
+fn low(x: u32) -> u8
+    ensures { λ r. ⌜ r ≡ x % 256 ⌝ }
+{
+    (x % 256) as u8
+}
+
+// The w bytes of x at a place.
+pub fn put_word(out: &mut [u8], at: usize, w: usize, x: u32)
+    requires { ⌜ at + w ≤ length (now out) ⌝ }
+    ensures { λ _. ⌜ now (out .exit) ≡ take at (now (out .entry)) ++ bytesOf w x ++ drop (at + w) (now (out .entry)) ⌝ }
+{
+    let mut rest = x;
+    let mut k: usize = 0;
+    while k < w {
+        out[at + k] = low(rest);
+        rest = rest / 256;
+        k += 1;
+    }
+}
+
+// The word whose bytes are all the pad byte.
+pub fn pad_word(w: usize, pad: u8) -> u32
+    requires { ⌜ w ≤ 2 ⌝ }
+    ensures { λ r. ⌜ r ≡ padWord w pad ⌝ }
+    ensures { λ r. ⌜ r < 2 ^ (8 * w) ⌝ }
+{
+    let byte = wide(pad);
+    let mut whole: u32 = 0;
+    let mut k: usize = 0;
+    while k < w {
+        whole = byte + 256 * whole;
+        k += 1;
+    }
+    whole
+}
