@@ -43,7 +43,7 @@ abbrev μ-loop : tie.MeasureT-loop
 loop-holds : tie.Need-loop-holds Inv-loop μ-loop
 loop-holds c = begin _ _ _
 
--- what is taken is short of two bytes, and a byte more fits
+-- what is taken is of two bytes at most, so that one more fits a `u32`
 room : (c : tie.After-wide Inv-loop μ-loop) → c .before .before .before .loop .whole < 2 ^ 16
 room c =
     let v = c .before .before .before .loop in
