@@ -1,5 +1,5 @@
 -- What a description in the domain keeps, number by number. Assumes nothing.
-use mathlib.Core.Path.{_≡_, sym, _∙_}
+use mathlib.Core.Path.{_≡_, refl, sym, _∙_}
 use mathlib.Core.Bool.{Bool, true, false, _&&_, _||_, not}
 use Prim.Native.Nat.{ℕ, _≤_, _<_}
 use native.Mathlib.Omega.{arith}
@@ -31,6 +31,11 @@ use Rattle.domain.specs.Domain.{
 pub between-is : (low high x : ℕ) → between low high x ≡ true → (low ≤ x) × (x ≤ high)
 between-is low high x e =
     (leb-true low x (and-left (leb low x) (leb x high) e), leb-true x high (and-right (leb low x) (leb x high) e))
+
+one-or-two : (w : ℕ) (one two : Bool) → eqb w 1 ≡ one → eqb w 2 ≡ two → one || two ≡ true → (1 ≤ w) × (w ≤ 2)
+one-or-two w true two p q e = let h = eqb-true w 1 p in (omega arith, omega arith)
+one-or-two w false true p q e = let h = eqb-true w 2 q in (omega arith, omega arith)
+one-or-two w false false p q e = let z : _≡_ {A = ℕ} 0 1 = cc in (omega arith, omega arith)
 
 module _ (d : Description) (e : descriptionIn d ≡ true) where
   numbers : Bool
@@ -93,6 +98,10 @@ module _ (d : Description) (e : descriptionIn d ≡ true) where
       let some : 0 < n = omega (arith, chip-count) in
       let first = each-at (λ k. leb n k || chipIn (getD (d .chips) k noChip) (d .«word_bytes»)) 4 (chips-part .1) 0 (omega arith) in
       rw (lt-leb n 0 some) at first
+
+  pub word-bytes : (1 ≤ d .«word_bytes») × (d .«word_bytes» ≤ 2)
+  unfolding numbers
+  word-bytes = one-or-two (d .«word_bytes») (eqb (d .«word_bytes») 1) (eqb (d .«word_bytes») 2) refl refl (and-left (wordBytesIn (d .«word_bytes»)) (maxImageSizeIn (d .«max_image_size»)) numbers-in)
 
   pub image-size : (256 ≤ d .«max_image_size») × (d .«max_image_size» ≤ 1048576)
   unfolding numbers

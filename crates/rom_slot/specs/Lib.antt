@@ -1,0 +1,5 @@
+pub mod Images
+pub mod Positions
+pub mod Picks
+pub mod Domain
+pub mod Faults

@@ -1,0 +1,68 @@
+// Where a line stands in an index or in an entry: its GPIO less the base.
+use addr_layout::layout::AddrLayout;
+use addr_layout::layout::XGpio;
+use cs_data_layout::layout::CsDataLayout;
+ghost use mathlib.Core.Path.{_≡_};
+ghost use mathlib.Core.Bool.{true};
+ghost use Prim.Native.Nat.{ℕ, _≤_};
+ghost use lib.ListN.{getD};
+ghost use Rattle.gpio.specs.Each.{each};
+ghost use Rattle.rom_slot.specs.Positions.{position, positionIn, xPositionIn, xPosition, dataBase, dataPositionIn};
+
+// The position of a GPIO from a base; 0 below it.
+pub fn position(base: u8, gpio: u8) -> u8
+    ensures { λ r. ⌜ r ≡ position base gpio ⌝ }
+{
+    if gpio < base {
+        return 0;
+    }
+    gpio - base
+}
+
+pub fn position_in(base: u8, gpio: u8) -> bool
+    ensures { λ r. ⌜ r ≡ positionIn base gpio ⌝ }
+{
+    (base <= gpio) & (position(base, gpio) <= 31)
+}
+
+// A GPIO that is needed and absent has no position.
+pub fn x_position_in(base: u8, x: XGpio) -> bool
+    ensures { λ r. ⌜ r ≡ xPositionIn base x ⌝ }
+{
+    match x {
+        XGpio::Unused => false,
+        XGpio::At(gpio) => position_in(base, gpio),
+    }
+}
+
+pub fn x_position(base: u8, x: XGpio) -> u8
+    ensures { λ r. ⌜ r ≡ xPosition base x ⌝ }
+{
+    match x {
+        XGpio::Unused => 0,
+        XGpio::At(gpio) => position(base, gpio),
+    }
+}
+
+// Whether the first n GPIOs all have positions from the base.
+pub fn positions_in(gpios: &[u8], n: u8, base: u8) -> bool
+    ensures { λ r. ⌜ r ≡ each n (λ k. positionIn base (getD (now (gpios .entry)) k 0)) ⌝ }
+{
+    let count = n as usize;
+    let mut ok = true;
+    let mut k: usize = 0;
+    while k < count {
+        let gpio = domain::lists::entry(gpios, k);
+        ok = ok & position_in(base, gpio);
+        k += 1;
+    }
+    ok
+}
+
+// The lowest GPIO that the data PIO drives.
+pub fn data_base(c: CsDataLayout) -> u8
+    requires { ⌜ dataBase c ≤ 255 ⌝ }
+    ensures { λ r. ⌜ r ≡ dataBase c ⌝ }
+{
+    c.gpio_base + c.base_data_pin
+}
