@@ -7,7 +7,7 @@ use native.Mathlib.Numerals.{add-one}
 use native.Mathlib.Omega.{arith}
 use lib.ListN.{length, take, drop, getD, length-append}
 use lib.Pow.{pow-add, pow-mono}
-use lib.Seq.{take-at, drop-append-add, drop-drop}
+use lib.Seq.{take-at, getD-take, getD-drop, drop-append-add, drop-drop}
 use Rattle.gpio.specs.Tab.{joined}
 use Rattle.words.specs.Words.{wordFrom, bytesOf, padWord, wordsBytes}
 
@@ -23,6 +23,15 @@ pub word-lt : (w : ℕ) (b : List ℕ) (at : ℕ) → ((k : ℕ) → getD b k 0 
 unfolding wordFrom
 word-lt zero b at h = omega arith
 word-lt (suc w) b at h = byte-more w (wordFrom w b (at + 1)) (getD b at 0) (word-lt w b (at + 1) h) (h at)
+
+-- a word of a part of the bytes
+pub word-part : (w : ℕ) (b : List ℕ) (start size at : ℕ) → at + w ≤ size → wordFrom w (take size (drop start b)) at ≡ wordFrom w b (start + at)
+unfolding wordFrom
+word-part zero b start size at h = refl
+word-part (suc w) b start size at h =
+    let l : at < size = omega arith in
+    let next : start + (at + 1) ≡ start + at + 1 = omega arith in
+    rw (getD-take, getD-drop, word-part w b start size (at + 1) (omega arith), next)
 
 pub pad-lt : (w pad : ℕ) → pad < 256 → padWord w pad < 2 ^ (8 * w)
 unfolding padWord

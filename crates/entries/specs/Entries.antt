@@ -1,0 +1,58 @@
+-- How a table is filled: positions of the lines, where the words of the chips stand, and an entry by them. Assumes nothing.
+use mathlib.Core.Path.{_≡_}
+use Prim.Native.Nat.{ℕ, _+_, _*_, _%_, _^_, _≤_, _<_}
+use mathlib.Core.Bool.{true, false, cond}
+use mathlib.Core.List.{List, _++_}
+use lib.Dec.{ltb}
+use lib.ListN.{length, drop, getD}
+use Rattle.bits.specs.Bits.{gather, scatter}
+use Rattle.words.specs.Words.{wordFrom, wordsBytes}
+use Rattle.entries.specs.declared.wiring.Wiring.{Wiring}
+use Rattle.entries.specs.declared.wiring.Part.{Part}
+use Rattle.entries.specs.declared.sources.Source.{Source}
+
+-- no more lines than there is room for
+pub record WiringIn (w : Wiring) : Type 0 where
+  pub lines : w .«num_lines» ≤ 24
+  pub picks : w .«num_picks» ≤ 3
+  pub data-lines : w .«num_data» ≤ 16
+  pub bytes : w .«word_bytes» ≤ 2
+
+-- what an index, or a part of one, says: the chip address, and the bits of the lines that pick
+abbrev pub partOf : Wiring → ℕ → Part
+partOf w i = record {
+  address = gather (w .«num_lines») (λ k. getD (w .address) k 0) i;
+  picks = gather (w .«num_picks») (λ k. getD (w .picks) k 0) i;
+}
+
+abbrev pub scrambledBy : Wiring → ℕ → ℕ
+scrambledBy w v = scatter (w .«num_data») (λ k. getD (w .«data_lines») k 0) (8 * w .«word_bytes») v
+
+-- where a chip's words stand in the lent bytes
+abbrev pub noSource : Source
+noSource = record { start = 0; count = 0; mirrored = false }
+
+-- its words are in the lent bytes, and there are some to read again where it is mirrored
+pub record SourceIn (images : List ℕ) (w : ℕ) (s : Source) : Type 0 where
+  pub within : (n : ℕ) → n < s .count → s .start + n * w + w ≤ length images
+  pub some : s .mirrored ≡ true → 0 < s .count
+
+-- the sources that the bits of the picking lines can name
+abbrev pub SourcesIn : List ℕ → Wiring → List Source → Type 0
+SourcesIn images w sources = (bits : ℕ) → bits < 2 ^ w .«num_picks» → SourceIn images (w .«word_bytes») (getD sources bits noSource)
+
+-- the word at an address of a source
+abbrev pub rawFrom : List ℕ → ℕ → Source → ℕ → ℕ → ℕ
+rawFrom images w s pad n =
+    cond (ltb n (s .count)) (wordFrom w images (s .start + n * w))
+    (cond (s .mirrored) (wordFrom w images (s .start + n % s .count * w)) pad)
+
+-- an entry by positions and sources
+unfoldable pub entryBy : Wiring → List Source → ℕ → List ℕ → ℕ → ℕ
+entryBy w sources pad images i =
+    scrambledBy w (rawFrom images (w .«word_bytes») (getD sources (partOf w i .picks) noSource) pad (partOf w i .address))
+
+-- the first entries at the front of a buffer, low byte first; "Bytes past them never change."
+abbrev pub tableBy : Wiring → List Source → ℕ → List ℕ → ℕ → List ℕ → List ℕ
+tableBy w sources pad images entries old =
+    wordsBytes (w .«word_bytes») (entryBy w sources pad images) entries ++ drop (entries * w .«word_bytes») old
