@@ -1,0 +1,67 @@
+-- The words of a chip that is picked are where its source says. Assumes nothing.
+use mathlib.Core.Path.{_≡_, refl, sym}
+use mathlib.Core.Bool.{Bool, true, false, cond}
+use mathlib.Core.List.{List}
+use Prim.Native.Nat.{ℕ, zero, suc, _+_, _*_, _/_, _%_, _≤_, _<_}
+use native.Mathlib.Nat.{div-mul-le-self, mod-lt}
+use native.Mathlib.Omega.{arith}
+use lib.Count.{ones, onesIn}
+use lib.Dec.{ltb}
+use lib.ListN.{length, getD, length-take, length-drop}
+use borrow.Author.Tests.{ltb-true, le-ltb}
+use Rattle.words.specs.Words.{wordFrom, word}
+use Rattle.words.proofs.Words.{word-part, words-room}
+use Rattle.entries.specs.Entries.{SourceIn, rawFrom}
+use Rattle.slot.specs.Description.{noChip}
+use Rattle.slot.specs.declared.description.Description.{Description}
+use Rattle.rom_slot.specs.Images.{spanAt, chipBytes}
+use Rattle.rom_slot.specs.declared.images.ImageSpan.{ImageSpan}
+use Rattle.rom_slot.specs.declared.picks.Picked.{Picked}
+use Rattle.rom_slot.specs.declared.picks.Picked.the-variants.{NoChip, Chip}
+use Rattle.rom_image.specs.Entry.{wordCount, powerOfTwo, padOf, wordOf}
+use Rattle.rom_image.specs.Wiring.{sourceOf}
+
+pub power-some : (n : ℕ) → powerOfTwo n ≡ true → 0 < n
+unfolding ones onesIn
+power-some zero e = let z : _≡_ {A = ℕ} 0 1 = cc in omega arith
+power-some (suc n) e = omega arith
+
+-- a chip's bytes, as many as its size
+module _ (images : List ℕ) (span : ImageSpan) (w size : ℕ) (fits : size ≤ length (chipBytes images span)) where
+  -- word n is in the chip's bytes, and so in the lent ones
+  chip-room : (n : ℕ) → n < size / w → n * w + w ≤ length (chipBytes images span)
+  chip-room n h = words-room n (size / w) w _ h (omega (arith, div-mul-le-self size w))
+
+  chip-within : (n : ℕ) → 1 ≤ w → n < size / w → span .start + n * w + w ≤ length images
+  unfolding chipBytes
+  chip-within n p h = omega (arith, rw (length-take, length-drop) at (chip-room n h))
+
+  chip-word : (n : ℕ) → n < size / w → wordFrom w images (span .start + n * w) ≡ word w (chipBytes images span) n
+  unfolding chipBytes
+  chip-word n h = sym (word-part w images (span .start) (span .length) (n * w) (omega (arith, rw length-take at (chip-room n h))))
+
+  -- the word at an address, by the tests on it
+  chip-raw : (pad n : ℕ) (t m : Bool) → ltb n (size / w) ≡ t → powerOfTwo (size / w) ≡ m
+      → cond t (wordFrom w images (span .start + n * w)) (cond m (wordFrom w images (span .start + n % (size / w) * w)) pad)
+      ≡ cond t (word w (chipBytes images span) n) (cond m (word w (chipBytes images span) (n % (size / w))) pad)
+  chip-raw pad n true m e f = chip-word n (ltb-true n (size / w) e)
+  chip-raw pad n false true e f = chip-word (n % (size / w)) (mod-lt n (power-some (size / w) f))
+  chip-raw pad n false false e f = refl
+
+module _ (d : Description) (images : List ℕ) (spans : List ImageSpan) where
+  -- the chip that is picked has its bytes
+  abbrev pub Lent : Picked → Type 0
+  Lent p = (k : ℕ) → p ≡ Chip k → getD (d .chips) k noChip .size ≤ length (chipBytes images (spanAt spans k))
+
+  pub raw-word : (p : Picked) (n : ℕ) → Lent p → rawFrom images (d .«word_bytes») (sourceOf d spans p) (padOf d) n ≡ wordOf d images spans p n
+  raw-word NoChip n h = rw (le-ltb n 0 (omega arith))
+  raw-word (Chip k) n h =
+      chip-raw images (spanAt spans k) (d .«word_bytes») (getD (d .chips) k noChip .size) (h k refl) (padOf d) n
+      (ltb n (wordCount d k)) (powerOfTwo (wordCount d k)) refl refl
+
+  pub source-in : (p : Picked) → 1 ≤ d .«word_bytes» → Lent p → SourceIn images (d .«word_bytes») (sourceOf d spans p)
+  source-in NoChip b h = record { within = λ n l. absurd (omega arith); some = λ e. let z : _≡_ {A = ℕ} 0 1 = cc in omega arith }
+  source-in (Chip k) b h = record {
+    within = λ n l. chip-within images (spanAt spans k) (d .«word_bytes») (getD (d .chips) k noChip .size) (h k refl) n b l;
+    some = power-some (wordCount d k);
+  }

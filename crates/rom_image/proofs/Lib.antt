@@ -1,0 +1,4 @@
+pub mod Picks
+pub mod Chips
+pub mod Entries
+pub mod Past

@@ -1,0 +1,86 @@
+-- `fill` meets its contract: the entries by positions and sources are the table. Assumes nothing.
+use mathlib.Core.Path.{_≡_}
+use mathlib.Core.List.{List, _++_}
+use Prim.Native.Nat.{ℕ, _*_, _%_, _^_, _<_, _≤_}
+use native.Mathlib.Omega.{arith}
+use borrow.Author.Needs.{needs}
+use lib.ListN.{drop}
+use Rattle.gpio.proofs.Shifts.{shifted-one}
+use Rattle.words.proofs.Words.{pad-lt}
+use Rattle.entries.specs.Entries.{WiringIn, SourcesIn, tableBy}
+use Rattle.entries.specs.declared.wiring.Wiring.{Wiring}
+use Rattle.entries.specs.declared.sources.Source.{Source}
+use Rattle.slot.specs.declared.description.Description.{Description}
+use Rattle.addr_layout.specs.declared.layout.AddrLayout.{AddrLayout}
+use Rattle.cs_data_layout.specs.declared.layout.CsDataLayout.{CsDataLayout}
+use Rattle.rom_slot.proofs.Facts.{selected, data-base}
+use Rattle.rom_slot.specs.Faults.{entriesOf, tableSize}
+use Rattle.rom_slot.specs.declared.images.ImageSpan.{ImageSpan}
+use Rattle.rom_image.specs.Entry.{padByte, padOf, tableOf}
+use Rattle.rom_image.specs.Wiring.{wiringOf, sourcesOf, Buildable}
+use Rattle.rom_image.proofs.Entries.{wiring-in, sources-in, table-is}
+use Rattle.rom_image.proofs.Past.{entries-few, pins-few, table-fits, buildable}
+use Rattle.rom_image.proofs.table.fill.Statement.{statement}
+use Rattle.rom_image.proofs.table.fill.Tie as tie
+
+can : (s : tie.Start) → Buildable (s .args .d) (s .args .a) (s .args .c) (s .args .images .now) (s .args .spans)
+can s = buildable (s .args .d) (s .args .a) (s .args .c) (s .args .images .now) (s .args .spans) _ (s .pre .0) (s .pre .1)
+
+pad-word-requires : tie.Need-pad-word-requires
+pad-word-requires c κs = can (c .before .before .before) .bytes
+
+wiring-requires : tie.Need-wiring-requires
+wiring-requires c κs =
+    let s = c .before .before .before .before in
+    omega (arith, data-base (s .args .c) (selected (s .args .d) (s .args .a) (s .args .c) (s .pre .0)))
+
+sources-requires : tie.Need-sources-requires
+sources-requires c κs = can (c .before .before .before .before .before) .some-bytes
+
+few-pins : (s : tie.Start) → s .args .a .«num_addr_pins» < 32
+few-pins s = pins-few (s .args .d) (s .args .a) (s .args .c) (s .args .images .now) (s .args .spans) _ (s .pre .0) (s .pre .1)
+
+shl-fill-by : tie.Need-shl-fill-by
+shl-fill-by c = few-pins (c .before .before .before .before .before .before .before)
+
+entries : (pins : ℕ) → pins < 32 → (1 * 2 ^ pins) % 2 ^ 32 ≡ 2 ^ pins
+entries pins h = shifted-one pins 32 (omega arith)
+
+-- what is handed on, by what it is
+module _ (d : Description) (a : AddrLayout) (l : CsDataLayout) (images : List ℕ) (spans : List ImageSpan) (b : Buildable d a l images spans)
+    (w : Wiring) (ss : List Source) (pad n : ℕ) (ew : w ≡ wiringOf d a l) (es : ss ≡ sourcesOf d spans) (ep : pad ≡ padOf d) (en : n ≡ entriesOf a) where
+  ready : (room : ℕ) → entriesOf a ≤ 2 ^ 20 → tableSize d a ≤ room
+      → (WiringIn w × SourcesIn images w ss × (pad < 2 ^ (8 * w .«word_bytes»))) × ((n ≤ 2 ^ 20) × (n * w .«word_bytes» ≤ room))
+  unfolding wiringOf
+  ready room f r = rw (ew, es, ep, en) ((wiring-in d a l images spans b, sources-in d a l images spans b, pad-lt (d .«word_bytes») padByte (omega arith)), (f, r))
+
+  done : (old new : List ℕ) → new ≡ tableBy w ss pad images n old → new ≡ tableOf d a l images spans ++ drop (tableSize d a) old
+  done old new e = rw (ew, es, ep, en, table-is d a l images spans b old) at e
+
+fill-by-requires : tie.Need-fill-by-requires
+fill-by-requires c κs =
+    let s = c .before .before .before .before .before .before .before .before in
+    ready (s .args .d) (s .args .a) (s .args .c) (s .args .images .now) (s .args .spans) (can s) _ _ _ _ (c .before .before .before .wiring .ensures) (c .before .before .sources .ensures) (c .before .before .before .before .pad-word .ensures .0)
+    (entries (s .args .a .«num_addr_pins») (few-pins s)) _
+    (entries-few (s .args .d) (s .args .a) (s .args .c) (s .args .images .now) (s .args .spans) _ (s .pre .0) (s .pre .1))
+    (table-fits (s .args .d) (s .args .a) (s .args .c) (s .args .images .now) (s .args .spans) _ (s .pre .0) (s .pre .1))
+
+returns : tie.Need-returns
+returns c =
+    let s = c .before .before .before .before .before .before .before .before .before .before .before in
+    done (s .args .d) (s .args .a) (s .args .c) (s .args .images .now) (s .args .spans) (can s) _ _ _ _ (c .before .before .before .before .before .before .wiring .ensures) (c .before .before .before .before .before .sources .ensures) (c .before .before .before .before .before .before .before .pad-word .ensures .0)
+    (entries (s .args .a .«num_addr_pins») (few-pins s)) _ _ (c .before .before .fill-by .ensures)
+
+pub fill-spec : {M : Type 1} → statement M
+fill-spec =
+    tie.close
+    (tie.spec
+    (λ c. search needs)
+    pad-word-requires
+    wiring-requires
+    sources-requires
+    (λ c. search needs)
+    shl-fill-by
+    fill-by-requires
+    (λ c. search needs)
+    returns)

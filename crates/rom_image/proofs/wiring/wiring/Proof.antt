@@ -1,0 +1,19 @@
+-- `wiring` meets its contract. Assumes nothing.
+use borrow.Author.Needs.{needs}
+use Rattle.rom_image.specs.Wiring.{wiringOf}
+use Rattle.rom_image.proofs.wiring.wiring.Statement.{statement}
+use Rattle.rom_image.proofs.wiring.wiring.Tie as tie
+
+returns : tie.Need-returns
+unfolding wiringOf
+returns c = cc
+
+pub wiring-spec : {M : Type 1} → statement M
+wiring-spec =
+    tie.close
+    (tie.spec
+    (λ c κs. search needs)
+    (λ c κs. search needs)
+    (λ c κs. search needs)
+    (λ c κs. search needs)
+    returns)

@@ -1,0 +1,43 @@
+// The table: for each index the word of the chip that it picks, its bits at the data lines' positions.
+mod wiring; // positions of all lines
+mod sources; // where the words of the chips stand
+mod table; // the entries by them
+
+use addr_layout::layout::AddrLayout;
+use cs_data_layout::layout::CsDataLayout;
+use listing::FirstFault;
+use rom_slot::faults::build_fault;
+use rom_slot::images::ImageSpan;
+use rom_slot::in_domain::in_domain;
+use slot::description::Description;
+use slot::refusal::Refusal;
+ghost use mathlib.Core.Path.{_≡_};
+ghost use Rattle.rom_image.specs.Build.{built, buildOf};
+
+pub enum BuildAnswer {
+    Built,
+    Refused(Refusal),
+}
+
+// Builds the table of a slot from its layouts and its chips' bytes.
+pub fn build_rom_image(
+    d: Description,
+    a: AddrLayout,
+    c: CsDataLayout,
+    images: &[u8],
+    spans: [ImageSpan; 4],
+    table: &mut [u8],
+) -> BuildAnswer
+    ensures { λ r. ⌜ built r (now (table .exit)) ≡ buildOf d a c (now (images .entry)) spans (now (table .entry)) ⌝ }
+{
+    if !in_domain(d, a, c) {
+        return BuildAnswer::Refused(Refusal::OutOfDomain);
+    }
+    match build_fault(d, a, c, images, spans, table.len()) {
+        FirstFault::Of(why) => BuildAnswer::Refused(why),
+        FirstFault::None => {
+            table::fill(d, a, c, images, spans, table);
+            BuildAnswer::Built
+        }
+    }
+}

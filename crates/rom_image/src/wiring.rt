@@ -1,0 +1,73 @@
+// The positions of all lines.
+use addr_layout::layout::AddrLayout;
+use cs_data_layout::layout::CsDataLayout;
+use entries::wiring::Wiring;
+use rom_slot::picks::num_picks;
+use rom_slot::picks::pick_of;
+use rom_slot::positions::data_base;
+use rom_slot::positions::position;
+use rom_slot::positions::x_position;
+use slot::description::Description;
+ghost use mathlib.Core.Path.{_≡_};
+ghost use Prim.Native.Nat.{_≤_};
+ghost use Rattle.gpio.specs.Tab.{tab};
+ghost use Rattle.rom_slot.specs.Positions.{dataBase, linePosition, dataPosition};
+ghost use Rattle.rom_slot.specs.Picks.{pickPosition};
+ghost use Rattle.rom_image.specs.Wiring.{wiringOf};
+
+fn address_positions(a: AddrLayout) -> [u8; 24]
+    ensures { λ r. ⌜ r ≡ tab 24 (linePosition a) ⌝ }
+{
+    let gpios = a.gpios;
+    let mut out = [0u8; 24];
+    let mut k: usize = 0;
+    while k < 24 {
+        out[k] = position(a.gpio_base, gpios[k]);
+        k += 1;
+    }
+    out
+}
+
+fn data_positions(c: CsDataLayout) -> [u8; 16]
+    requires { ⌜ dataBase c ≤ 255 ⌝ }
+    ensures { λ r. ⌜ r ≡ tab 16 (dataPosition c) ⌝ }
+{
+    let gpios = c.data_pin_gpios;
+    let base = data_base(c);
+    let mut out = [0u8; 16];
+    let mut k: usize = 0;
+    while k < 16 {
+        out[k] = position(base, gpios[k]);
+        k += 1;
+    }
+    out
+}
+
+fn pick_positions(d: Description, a: AddrLayout, c: CsDataLayout) -> [u8; 3]
+    ensures { λ r. ⌜ r ≡ tab 3 (pickPosition d a c) ⌝ }
+{
+    let set_type = d.set_type;
+    let mut out = [0u8; 3];
+    let mut k: usize = 0;
+    while k < 3 {
+        out[k] = x_position(a.gpio_base, pick_of(set_type, a, c, k as u8));
+        k += 1;
+    }
+    out
+}
+
+pub fn wiring(d: Description, a: AddrLayout, c: CsDataLayout) -> Wiring
+    requires { ⌜ dataBase c ≤ 255 ⌝ }
+    ensures { λ r. ⌜ r ≡ wiringOf d a c ⌝ }
+{
+    let set_type = d.set_type;
+    Wiring {
+        address: address_positions(a),
+        num_lines: a.num_lines,
+        picks: pick_positions(d, a, c),
+        num_picks: num_picks(set_type, d.num_chips),
+        data_lines: data_positions(c),
+        num_data: c.num_data_pins,
+        word_bytes: d.word_bytes,
+    }
+}
