@@ -5,8 +5,8 @@ use Prim.Native.Nat.{ℕ, _+_, _-_, _≤_}
 use native.Mathlib.Omega.{arith}
 use borrow.Rule.Slice.PartMut.{putMid}
 use lib.ListN.{length, take, drop, getD, length-append, length-take, length-drop, drop-of-length-le}
+use Rattle.gpio.specs.Tab.{tab}
 use Rattle.gpio.proofs.Tab.{tab-is}
-use Rattle.encoding.specs.Encoded.{field}
 use lib.Seq.{take-at, drop-at, take-all, take-length, drop-drop}
 
 -- what stands from a on holds the part
@@ -54,6 +54,6 @@ module _ (h g t old head one two three : List ℕ) (a b k : ℕ) (ea : length h 
       → putMid (a + b) (length both - (a + b)) both three ≡ (h ++ g ++ t) ++ drop (a + b + k) old
   three-parts e3 = next-part (h ++ g) t old both three (a + b) k (rw (length-append, ea, eb)) ek room boths e3
 
--- an array's bytes as they are, and as a record's field
-pub field-is : (l : List ℕ) (n : ℕ) → length l ≡ n → field n l ≡ l
-field-is l n e = tab-is (λ k. getD l k 0) l 0 n e (λ j h. refl)
+-- an array as it is, and read entry by entry
+pub array-is : {A : Type 0} (z : A) (l : List A) (n : ℕ) → length l ≡ n → tab n (λ k. getD l k z) ≡ l
+array-is z l n e = tab-is (λ k. getD l k z) l z n e (λ j h. refl)

@@ -1,6 +1,7 @@
 -- The address layout record of docs/INTERFACE.md, place by place: the bytes of a layout, and the layout that bytes give.
 -- Assumes nothing.
-use Prim.Native.Nat.{ℕ}
+use mathlib.Core.Path.{_≡_}
+use Prim.Native.Nat.{ℕ, _<_}
 use mathlib.Core.Bool.{Bool, cond, not, _&&_, _||_}
 use mathlib.Core.List.{List, [], _∷_, _++_}
 use lib.Dec.{eqb}
@@ -48,6 +49,16 @@ layoutAt b = record {
   «num_lines» = byteAt b 4;
   «num_excess» = byteAt b 5;
 }
+
+-- what the type and the search say of a layout: the array's length, and X GPIOs that are not the byte for none
+abbrev pub XNamed : XGpio → Type 0
+XNamed Unused = Unit
+XNamed (At g) = g < 255
+
+pub record ValuedAddr (l : AddrLayout) : Type 0 where
+  pub gpios : length (l .gpios) ≡ 24
+  pub «x1_gpio» : XNamed (l .«x1_gpio»)
+  pub «x2_gpio» : XNamed (l .«x2_gpio»)
 
 -- the length, and the places that must be 0
 unfoldable pub layoutFormed : List ℕ → Bool

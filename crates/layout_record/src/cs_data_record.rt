@@ -2,13 +2,17 @@
 use bytes::copy;
 use cs_data_layout::layout::CsDataLayout;
 use cs_data_layout::layout::IgnoreIndex;
+use cs_data_layout::layout::Qualifiers;
 use cs_data_layout::layout::SelectLine;
+use record::bytes::byte_at;
+use record::bytes::sixteen_at;
 ghost use mathlib.Core.Path.{_≡_};
 ghost use mathlib.Core.Bool.{Bool, cond};
 ghost use mathlib.Core.List.{_++_};
-ghost use Prim.Native.Nat.{_<_, _/_, _%_, _≤_};
+ghost use Prim.Native.Nat.{_+_, _<_, _/_, _%_, _≤_};
 ghost use lib.ListN.{length, drop};
 ghost use Rattle.layout_record.specs.CsDataRecord.{csDataSize, ignoreByte, csDataHead, lineAt, lineByte, linesBytes, csDataBytes};
+ghost use Rattle.layout_record.specs.CsDataRecord.{ignoreOf, lineFrom, linesFrom, qualifiersAt, csDataAt, csDataFormed};
 
 fn ignore_byte(index: IgnoreIndex) -> u8
     ensures { λ r. ⌜ r ≡ ignoreByte index ⌝ }
@@ -96,4 +100,86 @@ pub fn store(l: CsDataLayout, out: &mut [u8])
     copy(&head, out);
     copy(&gpios, &mut out[12..]);
     copy(&lines, &mut out[28..]);
+}
+
+fn ignore_of(x: u8) -> IgnoreIndex
+    ensures { λ r. ⌜ r ≡ ignoreOf x ⌝ }
+{
+    if x == 255 {
+        return IgnoreIndex::None;
+    }
+    IgnoreIndex::At(x)
+}
+
+fn line_from(b: &[u8], p: usize) -> SelectLine
+    requires { ⌜ p + 2 ≤ csDataSize ⌝ }
+    ensures { λ r. ⌜ r ≡ lineFrom (now (b .entry)) p ⌝ }
+{
+    SelectLine {
+        role: byte_at(b, p),
+        gpio: byte_at(b, p + 1),
+    }
+}
+
+fn select_lines(b: &[u8]) -> [SelectLine; 30]
+    ensures { λ r. ⌜ r ≡ linesFrom (now (b .entry)) 28 30 ⌝ }
+{
+    let mut out = [SelectLine { role: 0, gpio: 0 }; 30];
+    let mut k: usize = 0;
+    while k < 30 {
+        out[k] = line_from(b, 28 + 2 * k);
+        k += 1;
+    }
+    out
+}
+
+fn commoned_lines(b: &[u8]) -> [SelectLine; 6]
+    ensures { λ r. ⌜ r ≡ linesFrom (now (b .entry)) 88 6 ⌝ }
+{
+    [
+        line_from(b, 88),
+        line_from(b, 90),
+        line_from(b, 92),
+        line_from(b, 94),
+        line_from(b, 96),
+        line_from(b, 98),
+    ]
+}
+
+fn qualifiers(b: &[u8]) -> Qualifiers
+    ensures { λ r. ⌜ r ≡ qualifiersAt (now (b .entry)) ⌝ }
+{
+    Qualifiers {
+        present: byte_at(b, 8) == 1,
+        base_qualifier_pin: byte_at(b, 9),
+        num_qualifier_pins: byte_at(b, 10),
+        qualifier_inactive_pattern: byte_at(b, 11),
+    }
+}
+
+// What the record lays out.
+pub fn layout_at(b: &[u8]) -> CsDataLayout
+    ensures { λ r. ⌜ r ≡ csDataAt (now (b .entry)) ⌝ }
+{
+    CsDataLayout {
+        gpio_base: byte_at(b, 0),
+        base_data_pin: byte_at(b, 1),
+        num_data_pins: byte_at(b, 2),
+        data_pin_gpios: sixteen_at(b, 12),
+        base_cs_pin: byte_at(b, 3),
+        num_cs_pins: byte_at(b, 4),
+        cs_ignore_index: ignore_of(byte_at(b, 5)),
+        select_lines: select_lines(b),
+        num_select_lines: byte_at(b, 6),
+        commoned_lines: commoned_lines(b),
+        num_commoned_lines: byte_at(b, 7),
+        qualifiers: qualifiers(b),
+    }
+}
+
+// Whether the bytes are a record.
+pub fn formed(b: &[u8]) -> bool
+    ensures { λ r. ⌜ r ≡ csDataFormed (now (b .entry)) ⌝ }
+{
+    (b.len() == 100) & (byte_at(b, 8) <= 1)
 }

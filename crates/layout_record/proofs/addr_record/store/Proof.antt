@@ -7,14 +7,14 @@ use lib.ListN.{length, drop}
 use borrow.Author.Needs.{needs}
 use Rattle.addr_layout.specs.declared.layout.AddrLayout.{AddrLayout}
 use Rattle.layout_record.specs.AddrRecord.{addrSize, headBytes, invertedBytes, layoutBytes}
-use Rattle.layout_record.proofs.Parts.{room, three-parts, field-is}
+use Rattle.layout_record.proofs.Parts.{room, three-parts, array-is}
 use Rattle.layout_record.proofs.addr_record.store.Statement.{statement}
 use Rattle.layout_record.proofs.addr_record.store.Tie as tie
 
 stored : (l : AddrLayout) (old new : List ℕ) → length (l .gpios) ≡ 24
     → new ≡ (headBytes l ++ l .gpios ++ invertedBytes) ++ drop addrSize old → new ≡ layoutBytes l ++ drop addrSize old
 unfolding layoutBytes
-stored l old new n e = rw (field-is (l .gpios) 24 n) e
+stored l old new n e = rw (array-is 0 (l .gpios) 24 n) e
 
 gpios-long : (c : tie.Start) → length (c .args .l .gpios) ≡ 24
 gpios-long c = search needs

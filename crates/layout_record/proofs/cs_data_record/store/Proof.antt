@@ -8,14 +8,14 @@ use borrow.Author.Needs.{needs}
 use Rattle.gpio.proofs.Tab.{tab-length}
 use Rattle.cs_data_layout.specs.declared.layout.CsDataLayout.{CsDataLayout}
 use Rattle.layout_record.specs.CsDataRecord.{csDataSize, csDataHead, linesBytes, csDataBytes}
-use Rattle.layout_record.proofs.Parts.{room, three-parts, field-is}
+use Rattle.layout_record.proofs.Parts.{room, three-parts, array-is}
 use Rattle.layout_record.proofs.cs_data_record.store.Statement.{statement}
 use Rattle.layout_record.proofs.cs_data_record.store.Tie as tie
 
 stored : (l : CsDataLayout) (old new : List ℕ) → length (l .«data_pin_gpios») ≡ 16
     → new ≡ (csDataHead l ++ l .«data_pin_gpios» ++ linesBytes l) ++ drop csDataSize old → new ≡ csDataBytes l ++ drop csDataSize old
 unfolding csDataBytes
-stored l old new n e = rw (field-is (l .«data_pin_gpios») 16 n) e
+stored l old new n e = rw (array-is 0 (l .«data_pin_gpios») 16 n) e
 
 lines-long : (l : CsDataLayout) → length (linesBytes l) ≡ 72
 unfolding linesBytes

@@ -1,0 +1,16 @@
+-- `line_from` meets its contract. Assumes nothing.
+use borrow.Author.Needs.{needs}
+use Rattle.layout_record.proofs.cs_data_record.line_from.Statement.{statement}
+use Rattle.layout_record.proofs.cs_data_record.line_from.Tie as tie
+
+returns : tie.Need-returns
+returns c = cc
+
+pub line-from-spec : {M : Type 1} → statement M
+line-from-spec =
+    tie.close
+    (tie.spec
+    (λ c κs. search needs)
+    (λ c. search needs)
+    (λ c κs. search needs)
+    returns)
