@@ -1,2 +1,3 @@
 pub mod AddrRecord
 pub mod CsDataRecord
+pub mod ImageRecord

@@ -1,0 +1,20 @@
+-- `formed` meets its contract: each chip is looked at. Assumes nothing.
+use borrow.Author.Needs.{needs}
+use Rattle.gpio.specs.Each.{each}
+use Rattle.layout_record.specs.ImageRecord.{spansFormed}
+use Rattle.layout_record.proofs.image_record.formed.Statement.{statement}
+use Rattle.layout_record.proofs.image_record.formed.Tie as tie
+
+returns : tie.Need-returns
+unfolding spansFormed each
+returns c = cc
+
+pub formed-spec : {M : Type 1} → statement M
+formed-spec =
+    tie.close
+    (tie.spec
+    (λ c κs. search needs)
+    (λ c κs. search needs)
+    (λ c κs. search needs)
+    (λ c κs. search needs)
+    returns)

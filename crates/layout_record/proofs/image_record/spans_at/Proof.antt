@@ -1,0 +1,19 @@
+-- `spans_at` meets its contract: each chip's span is what its 12 bytes have. Assumes nothing.
+use borrow.Author.Needs.{needs}
+use Rattle.gpio.specs.Tab.{tab}
+use Rattle.layout_record.proofs.image_record.spans_at.Statement.{statement}
+use Rattle.layout_record.proofs.image_record.spans_at.Tie as tie
+
+returns : tie.Need-returns
+unfolding tab
+returns c = cc
+
+pub spans-at-spec : {M : Type 1} → statement M
+spans-at-spec =
+    tie.close
+    (tie.spec
+    (λ c κs. search needs)
+    (λ c κs. search needs)
+    (λ c κs. search needs)
+    (λ c κs. search needs)
+    returns)
