@@ -11,6 +11,9 @@ mod preference; // kind 3
 mod multi; // kind 4
 mod address; // kind 5
 mod select; // kind 6
+mod build; // kind 7
+mod images; // its images, and the checksum of its table
+mod layouts; // the numbers of both layouts
 
 use crate::line::Line;
 use libc::STDIN_FILENO;

@@ -5,7 +5,7 @@ use crate::verdict::Verdict;
 use libc::STDOUT_FILENO;
 use std::num::wrapping_add_u64;
 
-const LAST_KIND: usize = 6;
+const LAST_KIND: usize = 7;
 
 // Differences whose line is named.
 const SHOWN: u64 = 5;

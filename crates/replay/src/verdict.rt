@@ -1,6 +1,7 @@
 // A line of the list, judged: its case is run by its kind, and our answer compared with the one beside it.
 use crate::address;
 use crate::answer;
+use crate::build;
 use crate::case::number_at;
 use crate::line::Line;
 use crate::multi;
@@ -25,6 +26,7 @@ fn answered(case: &[u64], ours: &mut [u64]) -> usize {
         4 => multi::answer(case, ours),
         5 => address::answer(case, ours),
         6 => select::answer(case, ours),
+        7 => build::answer(case, ours),
         _ => 0,
     }
 }
