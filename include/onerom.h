@@ -19,7 +19,8 @@ extern "C" {
 enum {
     ONEROM_DESCRIPTION_SIZE = 424,
     ONEROM_ADDR_LAYOUT_SIZE = 36,
-    ONEROM_CS_DATA_LAYOUT_SIZE = 100
+    ONEROM_CS_DATA_LAYOUT_SIZE = 100,
+    ONEROM_IMAGE_SPANS_SIZE = 48
 };
 
 /* A GPIO byte of a record that names none. */
@@ -42,7 +43,7 @@ enum onerom_refusal {
     ONEROM_BAD_POSITION = 13,
     ONEROM_MISSING_IMAGE_DATA = 14,        /* the chip, from 0 */
     ONEROM_SHORT_IMAGE_DATA = 15,          /* the chip, from 0 */
-    ONEROM_SHORT_BUFFER = 16,              /* lend a longer buffer: the sizes above */
+    ONEROM_SHORT_BUFFER = 16,              /* lend a longer buffer: the sizes above, or the table's */
     ONEROM_WRONG_SIZE = 17,
     ONEROM_UNKNOWN_SLOT_TYPE = 18,
     ONEROM_MISSING_LAYOUT = 19,
@@ -98,6 +99,28 @@ uint64_t onerom_derive_addr_layout(const uint8_t *description, size_t descriptio
  */
 uint64_t onerom_derive_cs_data_layout(const uint8_t *description, size_t description_len, const uint8_t *addr_layout,
                                       size_t addr_layout_len, uint8_t *layout, size_t layout_len);
+
+/*
+ * Builds the table of the slot that a description record describes, from the records of its two layouts and from its chips'
+ * bytes. images has the bytes of all chips, and spans, ONEROM_IMAGE_SPANS_SIZE bytes, says where in images each chip's stand.
+ *
+ * The table has 2^pins entries, pins being byte 1 of addr_layout, and an entry has as many bytes as a word, byte 3 of
+ * description.
+ *
+ * Returns 0 if it is built: the first bytes of table, as many as the table has, are then the table, and later bytes are as
+ * before. Otherwise nothing is written, and onerom_number of the result is one of:
+ *   ONEROM_OUT_OF_DOMAIN         correct the records;
+ *   ONEROM_ROM_TABLE_TOO_LARGE   the table is larger than the description allows;
+ *   ONEROM_INVALID_CONFIG        the set type does not go with the number of chips;
+ *   ONEROM_BAD_POSITION          a line's GPIO is below its base or more than 31 above it, or a line that picks a chip has none;
+ *   ONEROM_MISSING_IMAGE_DATA    the chip that the place names has no bytes;
+ *   ONEROM_SHORT_IMAGE_DATA      the chip that the place names has fewer bytes in images than its size;
+ *   ONEROM_SHORT_BUFFER          everything else is well: lend as many bytes as the table has.
+ */
+uint64_t onerom_build_rom_image(const uint8_t *description, size_t description_len, const uint8_t *addr_layout,
+                                size_t addr_layout_len, const uint8_t *cs_data_layout, size_t cs_data_layout_len,
+                                const uint8_t *spans, size_t spans_len, const uint8_t *images, size_t images_len,
+                                uint8_t *table, size_t table_len);
 
 #ifdef __cplusplus
 }

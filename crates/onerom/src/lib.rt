@@ -3,6 +3,7 @@
 mod refused; // a refusal as one number
 mod addr; // the address search's answer, handed over
 mod cs_data; // the select search's answer, handed over
+mod build; // the build's answer, handed over
 
 use addr_layout::derive_addr_layout;
 use cs_data_layout::derive_cs_data_layout;
@@ -12,7 +13,7 @@ use record::Answer;
 use refused::packed;
 use slot::refusal::Refusal;
 ghost use mathlib.Core.Path.{_≡_};
-ghost use Rattle.onerom.specs.Calls.{answer, addrCall, csDataCall};
+ghost use Rattle.onerom.specs.Calls.{answer, addrCall, csDataCall, buildCall};
 
 // Finds the address layout of the slot that the record describes, and writes it as a record.
 #[no_mangle]
@@ -47,6 +48,39 @@ pub extern "C" fn onerom_derive_cs_data_layout(
             cs_data::hand_over(
                 derive_cs_data_layout(decoded.description, given_at(addr_layout)),
                 layout,
+            )
+        }
+        Answer::Refused(why) => packed(why),
+    }
+}
+
+// Builds the table of the slot that the record describes, from its layouts and the chips' bytes: `images` has them all, and
+// `spans` says where in it each chip's stand.
+#[no_mangle]
+pub extern "C" fn onerom_build_rom_image(
+    description: &[u8],
+    addr_layout: &[u8],
+    cs_data_layout: &[u8],
+    spans: &[u8],
+    images: &[u8],
+    table: &mut [u8],
+) -> u64
+    ensures { λ r. ⌜ answer r (now (table .exit)) ≡ buildCall (now (description .entry)) (now («addr_layout» .entry)) (now («cs_data_layout» .entry)) (now (spans .entry)) (now (images .entry)) (now (table .entry)) ⌝ }
+{
+    if !build::formed(addr_layout, cs_data_layout, spans) {
+        return packed(Refusal::OutOfDomain);
+    }
+    let decoded = record::decode(description);
+    let outcome = decoded.answer;
+    match outcome {
+        Answer::Described => {
+            build::hand_over(
+                decoded.description,
+                addr_layout,
+                cs_data_layout,
+                spans,
+                images,
+                table,
             )
         }
         Answer::Refused(why) => packed(why),

@@ -1,0 +1,16 @@
+-- `formed` meets its contract. Assumes nothing.
+use borrow.Author.Needs.{needs}
+use Rattle.onerom.proofs.build.formed.Statement.{statement}
+use Rattle.onerom.proofs.build.formed.Tie as tie
+
+returns : tie.Need-returns
+returns c = cc
+
+pub formed-spec : {M : Type 1} → statement M
+formed-spec =
+    tie.close
+    (tie.spec
+    (λ c κs. search needs)
+    (λ c κs. search needs)
+    (λ c κs. search needs)
+    returns)
