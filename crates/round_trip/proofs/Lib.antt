@@ -1,0 +1,5 @@
+pub mod Served
+pub mod Codes
+pub mod Values
+pub mod First
+pub mod Read

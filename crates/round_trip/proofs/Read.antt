@@ -1,0 +1,122 @@
+-- A built table reads back: no entry disagrees, every word has one, and what is recovered are the chips' words. Assumes nothing.
+use mathlib.Core.Path.{_≡_, refl, sym, _∙_, ap}
+use mathlib.Core.Bool.{Bool, true, false, cond, not, _&&_}
+use mathlib.Core.List.{List, [], _++_}
+use Prim.Native.Nat.{ℕ, zero, suc, _+_, _*_, _/_, _^_, _≤_, _<_, min}
+use native.Mathlib.Omega.{arith}
+use lib.Dec.{ltb, eqb}
+use lib.ListN.{getD}
+use borrow.Author.Tests.{eq-eqb, ne-eqb}
+use Rattle.gpio.specs.Tab.{joined}
+use Rattle.bits.specs.Bits.{gather}
+use Rattle.bits.proofs.Gathered.{gather-lt}
+use Rattle.words.specs.Words.{word, wordsBytes}
+use Rattle.words.proofs.Words.{words-cong}
+use Rattle.slot.specs.declared.description.Description.{Description}
+use Rattle.slot.specs.declared.refusal.Refusal.{Refusal}
+use Rattle.slot.specs.declared.refusal.Refusal.the-variants.{Inconsistent, Unserved}
+use Rattle.addr_layout.specs.declared.layout.AddrLayout.{AddrLayout}
+use Rattle.cs_data_layout.specs.declared.layout.CsDataLayout.{CsDataLayout}
+use Rattle.listing.specs.declared.FirstFault.{FirstFault}
+use Rattle.listing.specs.declared.FirstFault.the-variants.{None, Of}
+use Rattle.rom_slot.specs.Images.{spanAt, chipBytes}
+use Rattle.rom_slot.specs.Picks.{picksOf, numPicks, pickPosition, pickedBy}
+use Rattle.rom_slot.specs.Faults.{faultIf, firstOf, chipsFit, entriesOf}
+use Rattle.rom_slot.specs.declared.images.ImageSpan.{ImageSpan}
+use Rattle.rom_slot.specs.declared.picks.Picked.{Picked}
+use Rattle.rom_slot.specs.declared.picks.Picked.the-variants.{NoChip, Chip}
+use Rattle.rom_image.specs.Entry.{tableOf}
+use Rattle.rom_image.proofs.Picks.{picked-below}
+use Rattle.unscramble.specs.Stored as stored
+use Rattle.unscramble.specs.Words as read
+use Rattle.unscramble.specs.Recovered.{firstFor, keptValue, disagreesIn, disagreesFor, inconsistent, unservedIn, unserved, romBytes, recovered}
+use Rattle.unscramble.specs.declared.stored.StoredSlot.{StoredSlot}
+use Rattle.round_trip.specs.Fitted.{Fitted, ToldApart}
+use Rattle.round_trip.proofs.Values.{value-is, index, index-lt, index-picks, index-address}
+use Rattle.round_trip.proofs.First.{none-of, serves-picks, serves-address, serves-counted, serves-is, first-serves, first-found}
+
+-- a test of two that fails by its second
+never : (b c : Bool) (why : Refusal) → (b ≡ true → c ≡ true) → faultIf (b && not c) why ≡ None
+never true c why h = rw (h refl)
+never false c why h = refl
+
+joined-cong : (n : ℕ) (f g : ℕ → List ℕ) → ((k : ℕ) → k < n → f k ≡ g k) → joined n f ≡ joined n g
+unfolding joined
+joined-cong zero f g h = refl
+joined-cong (suc n) f g h = rw (joined-cong n f g (λ k l. h k (omega arith)), h n (omega arith))
+
+module _ (d : Description) (a : AddrLayout) (c : CsDataLayout) (images : List ℕ) (spans : List ImageSpan) (s : StoredSlot)
+    (f : Fitted d a c s) (t : ToldApart d a c) (fit : chipsFit (d .«set_type») (d .«num_chips») ≡ true)
+    (bytes : (rom k : ℕ) → getD (chipBytes images (spanAt spans rom)) k 0 < 256) where
+  abbrev table : List ℕ
+  table = tableOf d a c images spans
+
+  abbrev wordIn : ℕ → ℕ → ℕ
+  wordIn rom n = word (d .«word_bytes») (chipBytes images (spanAt spans rom)) n
+
+  entries-same : 2 ^ stored.pinsOf s ≡ entriesOf a
+  entries-same = ap (λ (x : ℕ). 2 ^ x) (f .pins)
+
+  -- a ROM that is picked is one of the slot's
+  picked-there : (rom i : ℕ) → read.pickedAt s (d .«set_type») i ≡ Chip rom → rom < d .«num_chips»
+  unfolding read.pickedAt
+  picked-there rom i p =
+      picked-below (d .«set_type») (d .«num_chips») _ rom fit (gather-lt (numPicks d) (read.pickPosition s (d .«set_type»)) i)
+      (sym (ap (λ (n : ℕ). pickedBy (d .«set_type») n (gather (picksOf (d .«set_type») n) (read.pickPosition s (d .«set_type»)) i)) (f .chips)) ∙ p)
+
+  -- an entry for a word has that word
+  served-value : (rom n i : ℕ) → i < 2 ^ stored.pinsOf s → read.serves s (d .«set_type») rom n i ≡ true → read.valueAt s table rom i ≡ wordIn rom n
+  served-value rom n i l e =
+      let p = serves-picks s (d .«set_type») rom n i e in
+      value-is d a c images spans s f t fit bytes rom n i (picked-there rom i p) (rw (← entries-same) l) p (serves-address s (d .«set_type») rom n i e)
+      (serves-counted s (d .«set_type») rom n i e)
+
+  kept-value : (rom n i : ℕ) → i < 2 ^ stored.pinsOf s → read.serves s (d .«set_type») rom n i ≡ true → keptValue s (d .«set_type») table rom n ≡ wordIn rom n
+  kept-value rom n i l e =
+      let g = first-found s (d .«set_type») rom n (2 ^ stored.pinsOf s) i l e in
+      served-value rom n _ g (first-serves s (d .«set_type») rom n (2 ^ stored.pinsOf s) g)
+
+  agrees : (i : ℕ) → i < 2 ^ stored.pinsOf s → (p : Picked) → disagreesFor s (d .«set_type») table i p ≡ None
+  agrees i l NoChip = refl
+  agrees i l (Chip rom) =
+      never (read.serves s (d .«set_type») rom (read.addressAt s rom i) i) _ _ (λ e.
+      eq-eqb _ _ (served-value rom _ i l e ∙ sym (kept-value rom _ i l e)))
+
+  pub consistent : inconsistent s (d .«set_type») table ≡ None
+  consistent = none-of (2 ^ stored.pinsOf s) _ (λ i l. agrees i l (read.pickedAt s (d .«set_type») i))
+
+  -- a counted word has an entry
+  module _ (rom n : ℕ) (l : rom < d .«num_chips») (q : n < read.romWords s rom) where
+    addressed : n < 2 ^ a .«num_lines»
+    addressed = let e : 2 ^ stored.addrLines (stored.romAt s rom) ≡ 2 ^ a .«num_lines» = ap (λ (x : ℕ). 2 ^ x) (f .lines rom l) in omega (arith, e, q)
+
+    abbrev at : ℕ
+    at = index d a c images spans s f t fit bytes rom n l addressed
+
+    at-lt : at < 2 ^ stored.pinsOf s
+    at-lt = rw entries-same (index-lt d a c images spans s f t fit bytes rom n l addressed)
+
+    at-serves : read.serves s (d .«set_type») rom n at ≡ true
+    at-serves =
+        serves-is s (d .«set_type») rom n at (f .unforced at) (index-picks d a c images spans s f t fit bytes rom n l addressed)
+        (index-address d a c images spans s f t fit bytes rom n l addressed) q
+
+    served-one : unservedIn s (d .«set_type») rom n ≡ None
+    served-one =
+        let g = first-found s (d .«set_type») rom n (2 ^ stored.pinsOf s) at at-lt at-serves in
+        rw (ne-eqb (firstFor s (d .«set_type») rom n (2 ^ stored.pinsOf s)) (2 ^ stored.pinsOf s) (λ e. omega arith))
+
+    kept-one : keptValue s (d .«set_type») table rom n ≡ wordIn rom n
+    kept-one = kept-value rom n at at-lt at-serves
+
+  pub all-served : unserved s (d .«set_type») ≡ None
+  all-served = none-of (s .«num_roms») _ (λ rom l. none-of (read.romWords s rom) _ (λ n q. served-one rom n (rw (← f .chips) l) q))
+
+  -- "each chip's first min(size / word bytes rounded down, 2^lines) words .. chip after chip"
+  pub recovered-words : recovered s (d .«set_type») table ≡ joined (d .«num_chips») (λ rom. wordsBytes (d .«word_bytes») (wordIn rom) (read.romWords s rom))
+  unfolding recovered
+  recovered-words =
+      joined-cong (s .«num_roms») _ _ (λ rom l.
+      ap (λ (w : ℕ). wordsBytes w (keptValue s (d .«set_type») table rom) (read.romWords s rom)) (f .bytes)
+      ∙ words-cong (d .«word_bytes») _ _ (read.romWords s rom) (λ n q. kept-one rom n (rw (← f .chips) l) q))
+      ∙ ap (λ (n : ℕ). joined n (λ rom. wordsBytes (d .«word_bytes») (wordIn rom) (read.romWords s rom))) (f .chips)

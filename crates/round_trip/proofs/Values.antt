@@ -1,0 +1,124 @@
+-- What each entry of a built table reads as, and that every word has one. Assumes nothing.
+use mathlib.Core.Path.{_≡_, refl, sym, _∙_, ap}
+use mathlib.Core.Bool.{Bool, true, false, cond}
+use mathlib.Core.List.{List, [], append-nil, _++_}
+use Prim.Native.Nat.{ℕ, zero, suc, _+_, _-_, _*_, _/_, _%_, _^_, _≤_, _<_, min}
+use native.Mathlib.Nat.{mod-eq-of-lt}
+use native.Mathlib.Omega.{arith}
+use lib.Dec.{ltb}
+use lib.ListN.{getD}
+use borrow.Author.Tests.{lt-ltb}
+use Rattle.bits.specs.Bits.{gather, scatter}
+use Rattle.bits.proofs.Gathered.{gather-cong}
+use Rattle.bits.proofs.Scattered.{scatter-lt}
+use Rattle.bits.proofs.Back.{gather-scatter}
+use Rattle.words.specs.Words.{word}
+use Rattle.words.proofs.Words.{word-lt}
+use Rattle.words.proofs.Back.{word-of-words}
+use Rattle.slot.specs.Description.{noChip}
+use Rattle.slot.specs.declared.description.Description.{Description}
+use Rattle.addr_layout.specs.declared.layout.AddrLayout.{AddrLayout}
+use Rattle.cs_data_layout.specs.declared.layout.CsDataLayout.{CsDataLayout}
+use Rattle.rom_slot.specs.Images.{spanAt, chipBytes}
+use Rattle.rom_slot.specs.Positions.{linePosition, dataPosition}
+use Rattle.rom_slot.specs.Picks.{picksOf, numPicks, pickPosition, picked, pickedBy}
+use Rattle.rom_slot.specs.Faults.{chipsFit, entriesOf}
+use Rattle.rom_slot.specs.declared.images.ImageSpan.{ImageSpan}
+use Rattle.rom_slot.specs.declared.picks.Picked.{Picked}
+use Rattle.rom_slot.specs.declared.picks.Picked.the-variants.{NoChip, Chip}
+use Rattle.rom_image.specs.Entry.{chipAddress, pickedAt, wordCount, wordOf, padOf, scrambled, entryAt, tableOf}
+use Rattle.unscramble.specs.Stored as stored
+use Rattle.unscramble.specs.Words as read
+use Rattle.unscramble.specs.declared.stored.StoredSlot.{StoredSlot}
+use Rattle.round_trip.specs.Fitted.{Fitted, ToldApart}
+use Rattle.round_trip.proofs.Served as served
+use Rattle.round_trip.proofs.Codes.{codeOf, code-lt, code-picks}
+
+-- a word of as many bits as there are lines
+back : (n m : ℕ) (p : ℕ → ℕ) (v : ℕ) → n ≡ m → ((k : ℕ) → k < n → p k < m) → ((j k : ℕ) → j < n → k < n → p j ≡ p k → j ≡ k) → v < 2 ^ m
+    → gather m p (scatter n p m v) ≡ v
+back n m p v e i o h =
+    ap (λ (x : ℕ). gather x p (scatter n p m v)) (sym e) ∙ gather-scatter n p m v i o ∙ ap (λ (x : ℕ). v % 2 ^ x) e ∙ mod-eq-of-lt h
+
+module _ (d : Description) (a : AddrLayout) (c : CsDataLayout) (images : List ℕ) (spans : List ImageSpan) (s : StoredSlot)
+    (f : Fitted d a c s) (t : ToldApart d a c) (fit : chipsFit (d .«set_type») (d .«num_chips») ≡ true)
+    (bytes : (rom k : ℕ) → getD (chipBytes images (spanAt spans rom)) k 0 < 256) where
+  -- read-back picks and addresses as the build does
+  picked-same : (i : ℕ) → read.pickedAt s (d .«set_type») i ≡ pickedAt d a c i
+  unfolding read.pickedAt pickedAt
+  picked-same i =
+      ap (λ (n : ℕ). pickedBy (d .«set_type») n (gather (picksOf (d .«set_type») n) (read.pickPosition s (d .«set_type»)) i)) (f .chips)
+      ∙ ap (pickedBy (d .«set_type») (d .«num_chips»)) (gather-cong (numPicks d) _ _ i (f .pick))
+
+  address-same : (rom i : ℕ) → rom < d .«num_chips» → read.addressAt s rom i ≡ chipAddress a i
+  unfolding read.addressAt chipAddress
+  address-same rom i l =
+      ap (λ (n : ℕ). gather n (stored.addrPosition s rom) i) (f .lines rom l) ∙ gather-cong (a .«num_lines») _ _ i (λ k q. f .line rom k l q)
+
+  -- the words that are counted are in the chip
+  counted : (rom n : ℕ) → rom < d .«num_chips» → n < read.romWords s rom → n < wordCount d rom
+  counted rom n l q =
+      let e : stored.romAt s rom .«chip_size» / stored.wordBytes s ≡ wordCount d rom = rw (f .size rom l, f .bytes) in
+      omega (arith, e, q)
+
+  abbrev wordIn : ℕ → ℕ → ℕ
+  wordIn rom n = word (d .«word_bytes») (chipBytes images (spanAt spans rom)) n
+
+  -- the entry that picks a chip at an address that is counted holds that word, scrambled
+  entry-holds : (rom n i : ℕ) → rom < d .«num_chips» → pickedAt d a c i ≡ Chip rom → chipAddress a i ≡ n → n < wordCount d rom
+      → entryAt d a c images spans i ≡ scrambled d c (wordIn rom n)
+  unfolding entryAt
+  entry-holds rom n i l p q r = rw (p, q, lt-ltb n (wordCount d rom) r)
+
+  -- and reads back as it
+  unscrambled-word : (v : ℕ) → v < 2 ^ (8 * d .«word_bytes») → gather (8 * d .«word_bytes») (dataPosition c) (scrambled d c v) ≡ v
+  unfolding scrambled
+  unscrambled-word v h = back (c .«num_data_pins») (8 * d .«word_bytes») (dataPosition c) v (t .data-lines) (t .data-in) (t .data-own) h
+
+  entry-lt : (i : ℕ) → entryAt d a c images spans i < 2 ^ (8 * d .«word_bytes»)
+  unfolding entryAt scrambled
+  entry-lt i = scatter-lt (c .«num_data_pins») (dataPosition c) (8 * d .«word_bytes») _
+
+  stored-word : (i : ℕ) → i < entriesOf a → word (d .«word_bytes») (tableOf d a c images spans) i ≡ entryAt d a c images spans i
+  unfolding tableOf
+  stored-word i h =
+      ap (λ (b : List ℕ). word (d .«word_bytes») b i) (sym (append-nil _))
+      ∙ word-of-words (d .«word_bytes») (entryAt d a c images spans) (entriesOf a) [] i h (entry-lt i)
+
+  pub value-is : (rom n i : ℕ) → rom < d .«num_chips» → i < entriesOf a → read.pickedAt s (d .«set_type») i ≡ Chip rom
+      → read.addressAt s rom i ≡ n → n < read.romWords s rom → read.valueAt s (tableOf d a c images spans) rom i ≡ wordIn rom n
+  unfolding read.valueAt
+  value-is rom n i l h p q r =
+      let held = entry-holds rom n i l (sym (picked-same i) ∙ p) (sym (address-same rom i l) ∙ q) (counted rom n l r) in
+      ap (λ (w : ℕ). gather (8 * w) (stored.dataPosition s rom) (word w (tableOf d a c images spans) i)) (f .bytes)
+      ∙ gather-cong (8 * d .«word_bytes») _ _ _ (λ k m. f .data-line rom k l (rw (t .data-lines) m))
+      ∙ ap (gather (8 * d .«word_bytes») (dataPosition c)) (stored-word i h ∙ held)
+      ∙ unscrambled-word (wordIn rom n) (word-lt (d .«word_bytes») (chipBytes images (spanAt spans rom)) (n * d .«word_bytes») (bytes rom))
+
+  -- every word has an entry
+  module _ (rom n : ℕ) (l : rom < d .«num_chips») (q : n < 2 ^ a .«num_lines») where
+    abbrev code : ℕ
+    code = codeOf (d .«set_type») rom
+
+    code-small : code < 2 ^ numPicks d
+    code-small = code-lt (d .«set_type») (d .«num_chips») rom fit l
+
+    pub index : ℕ
+    index = served.at (a .«num_lines») (numPicks d) (a .«num_addr_pins») (linePosition a) (pickPosition d a c) (t .index-in) (t .index-own) n code q code-small
+
+    pub index-lt : index < entriesOf a
+    unfolding index
+    index-lt = served.at-lt (a .«num_lines») (numPicks d) (a .«num_addr_pins») (linePosition a) (pickPosition d a c) (t .index-in) (t .index-own) n code q code-small
+
+    pub index-picks : read.pickedAt s (d .«set_type») index ≡ Chip rom
+    unfolding pickedAt index
+    index-picks =
+        picked-same index
+        ∙ ap (pickedBy (d .«set_type») (d .«num_chips»)) (served.high-at (a .«num_lines») (numPicks d) (a .«num_addr_pins») (linePosition a) (pickPosition d a c) (t .index-in) (t .index-own) n code q code-small)
+        ∙ code-picks (d .«set_type») (d .«num_chips») rom fit l
+
+    pub index-address : read.addressAt s rom index ≡ n
+    unfolding chipAddress index
+    index-address =
+        address-same rom index l
+        ∙ served.low-at (a .«num_lines») (numPicks d) (a .«num_addr_pins») (linePosition a) (pickPosition d a c) (t .index-in) (t .index-own) n code q code-small
