@@ -3,3 +3,6 @@ pub mod Codes
 pub mod Values
 pub mod First
 pub mod Read
+pub mod Pins
+pub mod Found
+pub mod Apart

@@ -1,1 +1,2 @@
+pub mod WellWired
 pub mod Fitted

@@ -1,0 +1,232 @@
+-- Well wired, the lines of an index are told apart: each has a pin of its own, and so a GPIO and a position of its own. Assumes nothing.
+use mathlib.Core.Path.{_≡_, refl, sym, _∙_, ap, subst}
+use mathlib.Core.Bool.{Bool, true, false, cond, not, _&&_}
+use mathlib.Core.List.{List}
+use Prim.Native.Nat.{ℕ, zero, suc, _+_, _-_, _≤_, _<_}
+use native.Mathlib.Omega.{arith}
+use lib.Dec.{leb, eqb, ltb}
+use lib.ListN.{getD}
+use borrow.Author.Tests.{leb-true, eqb-true, eqb-false, lt-ltb, le-ltb, ltb-true, ltb-false}
+use Rattle.gpio.specs.declared.candidates.Candidates.{Candidates}
+use Rattle.slot.specs.Description.{isSingle, isMulti}
+use Rattle.slot.specs.declared.description.Board.{Board}
+use Rattle.slot.specs.declared.description.ChipSetType.{ChipSetType}
+use Rattle.slot.specs.declared.description.ChipSetType.the-variants.{Single, Banked, Multi}
+use Rattle.slot.specs.declared.description.Description.{Description}
+use Rattle.slot.specs.declared.slot_context.Socket.{Socket}
+use Rattle.slot.specs.declared.slot_context.Socket.the-variants.{On, Off}
+use Rattle.listing.specs.Choice.{CandidateOf, gpioAt}
+use Rattle.listing.specs.Lines.{pinSocket, socketCandidates, pinCandidates}
+use Rattle.addr_layout.specs.Lines.{lines, lineSocket, isOff, offBefore, addrListed}
+use Rattle.addr_layout.specs.Choices.{reach, inRange, layoutOf}
+use Rattle.addr_layout.specs.Law.{Sound}
+use Rattle.addr_layout.specs.declared.layout.XGpio.{XGpio}
+use Rattle.addr_layout.specs.declared.layout.XGpio.the-variants.{Unused, At}
+use Rattle.addr_layout.specs.declared.layout.AddrLayout.{AddrLayout}
+use Rattle.cs_data_layout.specs.declared.layout.CsDataLayout.{CsDataLayout}
+use Rattle.rom_slot.specs.Positions.{linePosition, xPosition}
+use Rattle.rom_slot.specs.Picks.{xLines, picksOf, numPicks, firstSelect, xGpio, pickOf, pickAt, pickPosition}
+use Rattle.round_trip.specs.WellWired.{BoardPin, candidatesOf, Unshared, addressPin, selectPin, InWindow, WellWired}
+use Rattle.round_trip.specs.WellWired.BoardPin.{socket, x1, x2}
+use Rattle.round_trip.specs.Fitted.{indexPosition}
+use Rattle.round_trip.proofs.Pins.{Behind, linePin, pinBehind, lines-own, same-place, same-x, apart-x}
+use Rattle.round_trip.proofs.Found.{line-gpio, line-pin, line-inside, x1-gpio, x1-candidate, x1-window, x2-gpio, x2-candidate, x2-window}
+
+-- a line at a position: its GPIO is a candidate of its pin, and in the window
+pub record Line (b : Board) (a : AddrLayout) (position : ℕ) (pin : BoardPin) : Type 0 where
+  pub gpio : ℕ
+  pub at : position ≡ gpio - a .«gpio_base»
+  pub candidate : CandidateOf (candidatesOf b pin) gpio
+  pub inside : InWindow a gpio
+
+pub line-in : (b : Board) (a : AddrLayout) (p : ℕ) (pin : BoardPin) → Line b a p pin → p < a .«num_addr_pins»
+line-in b a p pin l = omega (arith, l .at, l .inside .0, l .inside .1)
+
+-- two lines at one position have one pin
+pub line-own : (b : Board) (a : AddrLayout) (p q : ℕ) (u v : BoardPin) → Unshared b → Line b a p u → Line b a q v → p ≡ q → u ≡ v
+line-own b a p q u v n l m e =
+    let same : m .gpio ≡ l .gpio = omega (arith, l .at, m .at, l .inside .0, m .inside .0, e) in
+    n u v (l .gpio) (l .candidate) (subst (λ (g : ℕ). CandidateOf (candidatesOf b v) g) same (m .candidate))
+
+-- the pins of the lines that pick: X1, X2; in Multi the select's place of the socket before them
+abbrev pub xPin : ℕ → BoardPin
+xPin k = cond (eqb k 0) x1 x2
+
+abbrev pub pickPin : ChipSetType → ℕ → ℕ → BoardPin
+pickPin Single s k = x1
+pickPin Banked s k = xPin k
+pickPin Multi s k = cond (eqb k 0) (socket s) (xPin (k - 1))
+
+x-few : (n k : ℕ) (t : Bool) → leb 3 n ≡ t → k < cond t 2 1 → k < 2
+x-few n k true e l = l
+x-few n k false e l = omega arith
+
+x-third : (n k : ℕ) (t : Bool) → leb 3 n ≡ t → k < cond t 2 1 → 1 ≤ k → 3 ≤ n
+x-third n k true e l h = leb-true 3 n e
+x-third n k false e l h = absurd (omega arith)
+
+-- the select of a Multi set: at a place of the socket, with the first select line's GPIO
+pub record SelectAt (d : Description) (a : AddrLayout) (c : CsDataLayout) (s : ℕ) : Type 0 where
+  pub on : pinSocket d (selectPin d) ≡ On s
+  pub gpio : ℕ
+  pub first : firstSelect c ≡ At gpio
+  pub candidate : CandidateOf (candidatesOf (d .board) (socket s)) gpio
+  pub inside : InWindow a gpio
+
+module _ (d : Description) (ca : ℕ) (sound : Sound d ca) (few : lines d ≤ 24) (c : CsDataLayout) (s : ℕ) where
+  abbrev a : AddrLayout
+  a = layoutOf d (addrListed d) ca
+
+  x-line : isSingle (d .«set_type») ≡ false → (k : ℕ) → k < xLines (d .«num_chips») → Line (d .board) a (xPosition (a .«gpio_base») (xGpio a k)) (xPin k)
+  x-line m zero l = record {
+    gpio = gpioAt (addrListed d) ca (lines d);
+    at = ap (xPosition (a .«gpio_base»)) (x1-gpio d ca sound few m);
+    candidate = x1-candidate d ca sound few m;
+    inside = x1-window d ca sound few m;
+  }
+  x-line m (suc zero) l =
+      let three = x-third (d .«num_chips») 1 (leb 3 (d .«num_chips»)) refl l (omega arith) in
+      record {
+        gpio = gpioAt (addrListed d) ca (lines d + 1);
+        at = ap (xPosition (a .«gpio_base»)) (x2-gpio d ca sound few m three);
+        candidate = x2-candidate d ca sound few m three;
+        inside = x2-window d ca sound few m three;
+      }
+  x-line m (suc (suc k)) l = absurd (omega (arith, x-few (d .«num_chips») (suc (suc k)) (leb 3 (d .«num_chips»)) refl l))
+
+  multi-line : isSingle (d .«set_type») ≡ false → SelectAt d a c s → (k : ℕ) (z : Bool) → eqb k 0 ≡ z → k < 1 + xLines (d .«num_chips»)
+      → Line (d .board) a (xPosition (a .«gpio_base») (cond z (firstSelect c) (xGpio a (k - 1)))) (cond z (socket s) (xPin (k - 1)))
+  multi-line m sel k true e l = record {
+    gpio = sel .gpio;
+    at = ap (xPosition (a .«gpio_base»)) (sel .first);
+    candidate = sel .candidate;
+    inside = sel .inside;
+  }
+  multi-line m sel k false e l = x-line m (k - 1) (let n = eqb-false k 0 e in omega arith)
+
+  pick-line : (t : ChipSetType) → d .«set_type» ≡ t → (isMulti (d .«set_type») ≡ true → SelectAt d a c s) → (k : ℕ) → k < picksOf t (d .«num_chips»)
+      → Line (d .board) a (xPosition (a .«gpio_base») (pickOf t a c k)) (pickPin t s k)
+  pick-line Single e sel k l = absurd (omega arith)
+  pick-line Banked e sel k l = x-line (ap isSingle e) k l
+  pick-line Multi e sel k l = multi-line (ap isSingle e) (sel (ap isMulti e)) k (eqb k 0) refl l
+
+-- no two of the picking lines have one pin
+x-own : (j k : ℕ) → j < 2 → k < 2 → xPin j ≡ xPin k → j ≡ k
+x-own j k l m e = same-x j k (eqb j 0) (eqb k 0) l m refl refl e
+
+multi-own : (s j k : ℕ) (y z : Bool) → eqb j 0 ≡ y → eqb k 0 ≡ z → j < 3 → k < 3 → cond y (socket s) (xPin (j - 1)) ≡ cond z (socket s) (xPin (k - 1)) → j ≡ k
+multi-own s j k true true e f l m q = omega (arith, eqb-true j 0 e, eqb-true k 0 f)
+multi-own s j k true false e f l m q = absurd (apart-x s (eqb (k - 1) 0) q)
+multi-own s j k false true e f l m q = absurd (apart-x s (eqb (j - 1) 0) (sym q))
+multi-own s j k false false e f l m q =
+    let g = eqb-false j 0 e in
+    let h = eqb-false k 0 f in
+    omega (arith, x-own (j - 1) (k - 1) (omega arith) (omega arith) q, g, h)
+
+pick-own : (t : ChipSetType) (n s j k : ℕ) → j < picksOf t n → k < picksOf t n → pickPin t s j ≡ pickPin t s k → j ≡ k
+pick-own Single n s j k l m q = absurd (omega arith)
+pick-own Banked n s j k l m q = x-own j k (x-few n j (leb 3 n) refl l) (x-few n k (leb 3 n) refl m) q
+pick-own Multi n s j k l m q =
+    multi-own s j k (eqb j 0) (eqb k 0) refl refl (omega (arith, most-x n)) (omega (arith, most-x n)) q where
+      most-x : (n : ℕ) → xLines n ≤ 2
+      most-x n = most (leb 3 n) where
+        most : (t : Bool) → cond t 2 1 ≤ 2
+        most true = omega arith
+        most false = omega arith
+
+-- a line of a set that is not Single is on the socket, and its pin is no X pin, nor the select's
+on-place : (d : Description) (o : Socket) (before g : ℕ) → isSingle (d .«set_type») ≡ false → Behind d o before g → (p : ℕ) × (o ≡ On p)
+on-place d (On p) before g m b = (p, refl)
+on-place d Off before g m b = let z : _≡_ {A = Bool} true false = sym (b .alone refl) ∙ m in let y : _≡_ {A = ℕ} 0 1 = cc in absurd (omega arith)
+
+module _ (d : Description) (n g : ℕ) (m : isSingle (d .«set_type») ≡ false) (b : Behind d (lineSocket d n) (offBefore d n) g) where
+  abbrev place : ℕ
+  place = on-place d (lineSocket d n) (offBefore d n) g m b .0
+
+  placed : lineSocket d n ≡ On place
+  placed = on-place d (lineSocket d n) (offBefore d n) g m b .1
+
+  pin-placed : linePin d n ≡ socket place
+  pin-placed = ap (λ (o : Socket). pinBehind o (offBefore d n)) placed
+
+  not-x : (k : ℕ) → linePin d n ≡ xPin k → ⊥
+  not-x k q = apart-x place (eqb k 0) (sym pin-placed ∙ q)
+
+  not-select : (s : ℕ) → pinSocket d (selectPin d) ≡ On s → (addressPin d n ≡ selectPin d → ⊥) → linePin d n ≡ socket s → ⊥
+  unfolding lineSocket
+  not-select s o apart q =
+      let same : place ≡ s = ap place-of (sym pin-placed ∙ q) in
+      apart (same-place d (addressPin d n) (selectPin d) s (placed ∙ ap On same) o)
+    where
+      place-of : BoardPin → ℕ
+      place-of (socket p) = p
+      place-of x1 = 0
+      place-of x2 = 0
+
+  not-multi : (s k : ℕ) (z : Bool) → pinSocket d (selectPin d) ≡ On s → (addressPin d n ≡ selectPin d → ⊥) → linePin d n ≡ cond z (socket s) (xPin (k - 1)) → ⊥
+  not-multi s k true o apart q = not-select s o apart q
+  not-multi s k false o apart q = not-x (k - 1) q
+
+-- the lines of the index
+module _ (d : Description) (ca : ℕ) (sound : Sound d ca) (few : lines d ≤ 24) (c : CsDataLayout) (s : ℕ)
+    (wired : WellWired d (layoutOf d (addrListed d) ca))
+    (sel : isMulti (d .«set_type») ≡ true → SelectAt d (layoutOf d (addrListed d) ca) c s) where
+  abbrev found : AddrLayout
+  found = layoutOf d (addrListed d) ca
+
+  in-lines : (n : ℕ) → n < inRange d → n < lines d
+  in-lines n l = below (ltb (lines d) (reach d)) refl l where
+    below : (t : Bool) → ltb (lines d) (reach d) ≡ t → n < cond t (lines d) (reach d) → n < lines d
+    below true e h = h
+    below false e h = let g = ltb-false (lines d) (reach d) e in omega arith
+
+  line-at : (n : ℕ) → n < inRange d → Line (d .board) found (linePosition found n) (linePin d n)
+  line-at n l =
+      let m = in-lines n l in
+      record {
+        gpio = gpioAt (addrListed d) ca n;
+        at = ap (λ (g : ℕ). g - found .«gpio_base») (line-gpio d ca sound few n l m);
+        candidate = line-pin d ca sound few n l m .candidate;
+        inside = line-inside d ca sound few n l m;
+      }
+
+  pick-at : (k : ℕ) → k < numPicks d → Line (d .board) found (pickPosition d found c k) (pickPin (d .«set_type») s k)
+  pick-at k l = pick-line d ca sound few c s (d .«set_type») refl sel k l
+
+  abbrev indexPin : ℕ → BoardPin
+  indexPin k = cond (ltb k (inRange d)) (linePin d k) (pickPin (d .«set_type») s (k - inRange d))
+
+  index-line : (k : ℕ) → k < inRange d + numPicks d → Line (d .board) found (indexPosition d found c k) (indexPin k)
+  index-line k l = which (ltb k (inRange d)) refl where
+    which : (t : Bool) → ltb k (inRange d) ≡ t
+        → Line (d .board) found (cond t (linePosition found k) (pickPosition d found c (k - inRange d))) (cond t (linePin d k) (pickPin (d .«set_type») s (k - inRange d)))
+    which true e = line-at k (ltb-true k (inRange d) e)
+    which false e = let g = ltb-false k (inRange d) e in pick-at (k - inRange d) (omega arith)
+
+  -- a line and a picking line
+  mixed : (t : ChipSetType) → d .«set_type» ≡ t → (n k : ℕ) → n < inRange d → k < picksOf t (d .«num_chips») → linePin d n ≡ pickPin t s k → ⊥
+  mixed Single e n k l m q = omega arith
+  mixed Banked e n k l m q = not-x d n _ (ap isSingle e) (line-pin d ca sound few n l (in-lines n l)) k q
+  mixed Multi e n k l m q =
+      not-multi d n _ (ap isSingle e) (line-pin d ca sound few n l (in-lines n l)) s k (eqb k 0) (sel (ap isMulti e) .on) (wired .select-apart (ap isMulti e) n l) q
+
+  pins-own : (j k : ℕ) → j < inRange d + numPicks d → k < inRange d + numPicks d → indexPin j ≡ indexPin k → j ≡ k
+  pins-own j k l m q = which (ltb j (inRange d)) (ltb k (inRange d)) refl refl q where
+    which : (t u : Bool) → ltb j (inRange d) ≡ t → ltb k (inRange d) ≡ u
+        → cond t (linePin d j) (pickPin (d .«set_type») s (j - inRange d)) ≡ cond u (linePin d k) (pickPin (d .«set_type») s (k - inRange d)) → j ≡ k
+    which true true e f p =
+        let x = ltb-true j (inRange d) e in
+        let y = ltb-true k (inRange d) f in
+        lines-own d j k _ _ (line-pin d ca sound few j x (in-lines j x)) (line-pin d ca sound few k y (in-lines k y)) (wired .lines-apart j k x y) p
+    which true false e f p = let g = ltb-false k (inRange d) f in absurd (mixed (d .«set_type») refl j (k - inRange d) (ltb-true j (inRange d) e) (omega arith) p)
+    which false true e f p = let g = ltb-false j (inRange d) e in absurd (mixed (d .«set_type») refl k (j - inRange d) (ltb-true k (inRange d) f) (omega arith) (sym p))
+    which false false e f p =
+        let g = ltb-false j (inRange d) e in
+        let h = ltb-false k (inRange d) f in
+        omega (arith, pick-own (d .«set_type») (d .«num_chips») s (j - inRange d) (k - inRange d) (omega arith) (omega arith) p, g, h)
+
+  pub index-in : (k : ℕ) → k < inRange d + numPicks d → indexPosition d found c k < found .«num_addr_pins»
+  index-in k l = line-in (d .board) found _ _ (index-line k l)
+
+  pub index-own : (j k : ℕ) → j < inRange d + numPicks d → k < inRange d + numPicks d → indexPosition d found c j ≡ indexPosition d found c k → j ≡ k
+  index-own j k l m e = pins-own j k l m (line-own (d .board) found _ _ _ _ (wired .unshared) (index-line j l) (index-line k m) e)
