@@ -5,10 +5,11 @@ use Prim.Native.Nat.{ℕ, _≤_, _<_}
 use native.Mathlib.Omega.{arith}
 use lib.Dec.{leb, eqb}
 use lib.ListN.{getD}
-use borrow.Author.Tests.{leb-true, eqb-true, lt-leb}
+use borrow.Author.Tests.{leb-true, eqb-true, eqb-false, ne-eqb, lt-leb, not-true}
+use Rattle.gpio.specs.Each.{each}
 use Rattle.gpio.proofs.Bools.{and-left, and-right, asked}
 use Rattle.gpio.proofs.Each.{each-at}
-use Rattle.slot.specs.Description.{chip0, noChip, isMulti}
+use Rattle.slot.specs.Description.{chip0, noChip, isMulti, lineAt, kindAt}
 use Rattle.slot.specs.SlotContext.{raisedOf}
 use Rattle.slot.specs.declared.description.Chip.{Chip}
 use Rattle.slot.specs.declared.description.Description.{Description}
@@ -19,6 +20,7 @@ use Rattle.domain.specs.Domain.{
   boardIn,
   wordBytesIn,
   maxImageSizeIn,
+  lineIn,
   linesIn,
   controlIn,
   chipIn,
@@ -165,3 +167,17 @@ module _ (c : Chip) (w : ℕ) (e : chipIn c w ≡ true) where
 
   pub control-lines : c .control .count ≤ 8
   control-lines = leb-true (c .control .count) 8 (and-left (leb (c .control .count) 8) (linesIn (c .control)) control)
+
+  lines-in : linesIn (c .control) ≡ true
+  lines-in = and-right (leb (c .control .count) 8) (linesIn (c .control)) control
+
+  -- no line of kind 0 to 5 has the kind of an earlier one
+  pub kinds-differ : (j k : ℕ) → j < k → k < c .control .count → kindAt (c .control) k ≤ 5 → kindAt (c .control) j ≡ kindAt (c .control) k → ⊥
+  unfolding linesIn lineIn
+  kinds-differ j k l m five same =
+      let kind = kindAt (c .control) k in
+      let differs = each k (λ i. not (eqb (kindAt (c .control) i) kind)) in
+      let once : eqb kind 6 || differs ≡ true = and-right (between 1 40 (lineAt (c .control) k .pin) && leb kind 6) _ (each-at (λ i. lineIn (c .control) i) (c .control .count) lines-in k m) in
+      let all : differs ≡ true = rw (ne-eqb kind 6 (λ q. omega arith)) at once in
+      let not-same = each-at (λ i. not (eqb (kindAt (c .control) i) kind)) k all j l in
+      eqb-false (kindAt (c .control) j) kind (not-true (eqb (kindAt (c .control) j) kind) not-same) same

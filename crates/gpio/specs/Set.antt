@@ -1,5 +1,6 @@
 -- A set of GPIOs: "48 bits of a `u64`", bit g saying whether GPIO g is in it. Assumes nothing.
-use Prim.Native.Nat.{ℕ, zero, suc, _+_, _-_, _*_, _^_}
+use Prim.Native.Nat.{ℕ, zero, suc, _+_, _-_, _*_, _^_, _<_}
+use mathlib.Core.Path.{_≡_}
 use mathlib.Core.Bool.{Bool}
 use lib.Bits.{bitOr, bitXor}
 use lib.Count.{ones, leadingZeros, trailingZeros}
@@ -12,6 +13,10 @@ with s g = bitOr s (2 ^ g)
 unfoldable pub setOf : ℕ → (ℕ → ℕ) → ℕ
 setOf zero f = 0
 setOf (suc n) f = with (setOf n f) (f n)
+
+-- they differ from each other
+abbrev pub Distinct : ℕ → (ℕ → ℕ) → Type 0
+Distinct n f = (j k : ℕ) → j < n → k < n → f j ≡ f k → j ≡ k
 
 -- the lowest GPIO of a set, and one past its highest
 abbrev pub lowest : ℕ → ℕ
