@@ -1,29 +1,42 @@
 -- What the layout of a choice that fits keeps. Assumes nothing.
-use mathlib.Core.Path.{_≡_, refl}
-use mathlib.Core.Bool.{Bool, true, false, cond}
+use mathlib.Core.Path.{_≡_, refl, sym, _∙_, ap}
+use mathlib.Core.Bool.{Bool, true, false, cond, not}
+use mathlib.Core.List.{List, _++_}
 use mathlib.Core.Logic.{_⊎_, inl, inr}
 use Prim.Native.Nat.{ℕ, zero, suc, _+_, _*_, _≤_, _<_}
-use native.Mathlib.Nat.{le-of-suc-le-suc, eq-or-lt-of-le}
+use native.Mathlib.Nat.{add-zero, le-of-suc-le-suc, eq-or-lt-of-le}
 use native.Mathlib.Omega.{arith}
-use lib.Dec.{ltb}
-use lib.ListN.{length, getD}
-use borrow.Author.Tests.{ltb-true, ltb-false}
+use lib.Dec.{leb, ltb}
+use lib.ListN.{length, getD, length-append, List·getD-append}
+use lib.Seq.{getD-append-add}
+use borrow.Author.Tests.{ltb-true, ltb-false, lt-ltb, le-ltb, le-leb}
 use Rattle.gpio.specs.Window.{fits}
+use Rattle.gpio.specs.Tab.{tab}
 use Rattle.gpio.specs.Span.{empty, widened}
 use Rattle.gpio.specs.declared.span.Span.{Span}
 use Rattle.gpio.specs.declared.candidates.Candidates.{Candidates}
 use Rattle.gpio.specs.declared.candidates.Candidates.the-variants.{Absent, One, Two}
-use Rattle.gpio.proofs.Fits.{fits-within}
+use Rattle.gpio.proofs.Bools.{and-left}
+use Rattle.gpio.proofs.Fits.{fits-within, fits-width}
+use Rattle.gpio.proofs.Tab.{tab-length, getD-tab}
 use Rattle.gpio.proofs.Spans.{least-both, most-both}
-use Rattle.slot.specs.Description.{isMulti}
+use Rattle.slot.specs.Description.{isSingle, isMulti, chip0}
 use Rattle.slot.specs.declared.description.Description.{Description}
-use Rattle.listing.specs.Choice.{gpioAt}
+use Rattle.slot.specs.declared.refusal.Refusal.the-variants.{OutOfDomain}
+use Rattle.domain.specs.Domain.{descriptionIn}
+use Rattle.domain.proofs.Bounds.{chip0-in, address-pins}
+use Rattle.listing.specs.Choice.{CandidateOf, pinAt, gpioAt}
+use Rattle.listing.specs.Listing.{listed, xPins, twos}
+use Rattle.listing.specs.declared.Listed.{Listed}
 use Rattle.listing.proofs.Candidate.{candidate-at}
 use Rattle.listing.proofs.Faults.{no-fault-at}
 use Rattle.search.specs.declared.Trial.the-variants.{Misfit, Score}
-use Rattle.addr_layout.specs.Lines.{lines, addrListed}
-use Rattle.addr_layout.specs.Choices.{inRange, widenedFirst, kindCandidates, selectSpan, fixedSpan, spanned, spanAt, choiceSpan, width, pinsOf, trialOf, addrTrial}
-use Rattle.addr_layout.specs.Law.{FirstOf, PastTests, Spanned, of-pin, of-select, of-commoned, Sound}
+use Rattle.addr_layout.specs.Lines.{lines, lineListed, addrListed}
+use Rattle.addr_layout.specs.Choices.{reach, inRange, widenedFirst, kindCandidates, selectSpan, fixedSpan, spanned, spanAt, choiceSpan, width, pinsOf, trialOf, addrTrial, layoutOf}
+use Rattle.addr_layout.specs.Law.{FirstOf, PastTests, Spanned, of-pin, of-select, of-commoned, InWindow, XLaid, SoundLayout, Sound}
+use Rattle.addr_layout.specs.declared.layout.XGpio.{XGpio}
+use Rattle.addr_layout.specs.declared.layout.XGpio.the-variants.{At}
+use Rattle.addr_layout.specs.declared.layout.AddrLayout.{AddrLayout}
 
 -- a GPIO within a span
 abbrev Within : Span → ℕ → Type 0
@@ -154,16 +167,92 @@ not-empty : (P : ℕ → Type 0) (base n : ℕ) → fits base n ≡ true → Att
 not-empty P base n w (inl e) = absurd (omega (arith, fits-within base n w))
 not-empty P base n w (inr p) = p
 
+-- the fewer of two numbers is at most either
+fewer-both : (m n : ℕ) (t : Bool) → ltb m n ≡ t → cond t m n ≤ m
+fewer-both m n true e = omega arith
+fewer-both m n false e = omega (arith, ltb-false m n e)
+
+-- the fields of the layout of choice c, its GPIOs being candidates and in the window
+module _ (d : Description) (c : ℕ) (e : descriptionIn d ≡ true)
+    (candidate : (k : ℕ) → k < length (addrListed d) → CandidateOf (pinAt (addrListed d) k) (gpioAt (addrListed d) c k))
+    (inside : (g : ℕ) → Spanned d c g → InWindow (layoutOf d (addrListed d) c) g)
+    (window : fits (layoutOf d (addrListed d) c .«gpio_base») (layoutOf d (addrListed d) c .«num_addr_pins») ≡ true) where
+  abbrev laid : AddrLayout
+  laid = layoutOf d (addrListed d) c
+
+  abbrev xs : List Listed
+  xs = xPins (d .board) (not (isSingle (d .«set_type»))) (leb 3 (d .«num_chips»))
+
+  few : (inRange d ≤ lines d) × (lines d ≤ 24)
+  few =
+      let pins = address-pins (chip0 d) (d .«word_bytes») (chip0-in d e) in
+      (fewer-both (lines d) (reach d) (ltb (lines d) (reach d)) refl, omega (arith, pins))
+
+  listed-length : length (addrListed d) ≡ lines d + length xs
+  unfolding addrListed
+  listed-length = simp (length-append, tab-length)
+
+  line-pin : (n : ℕ) → n < lines d → pinAt (addrListed d) n ≡ lineListed d n .gpios
+  unfolding addrListed
+  line-pin n l =
+      let z = listed Absent OutOfDomain in
+      ap (λ (x : Listed). x .gpios)
+      (List·getD-append (tab (lines d) (λ k. lineListed d k)) xs z n (rw (tab-length (λ k. lineListed d k) (lines d)) l)
+      ∙ getD-tab (λ k. lineListed d k) (lines d) n z l)
+
+  x-pin : (k : ℕ) → pinAt (addrListed d) (lines d + k) ≡ pinAt xs k
+  unfolding addrListed
+  x-pin k =
+      let z = listed Absent OutOfDomain in
+      let ls = tab (lines d) (λ k. lineListed d k) in
+      ap (λ (x : Listed). x .gpios)
+      (ap (λ (n : ℕ). getD (ls ++ xs) (n + k) z) (sym (tab-length (λ k. lineListed d k) (lines d))) ∙ getD-append-add ls xs k z)
+
+  line-is : (n : ℕ) → n < inRange d → getD (laid .gpios) n 0 ≡ gpioAt (addrListed d) c n
+  line-is n l =
+      getD-tab (λ k. cond (ltb k (lines d)) (gpioAt (addrListed d) c k) 0) 24 n 0 (omega (arith, few)) ∙ rw (lt-ltb n (lines d) (omega (arith, few)))
+
+  line-spanned : (n : ℕ) → n < inRange d → Spanned d c (gpioAt (addrListed d) c n)
+  line-spanned n l = of-pin n (omega (arith, listed-length, few)) (rw (lt-ltb n (inRange d) l)) refl
+
+  -- an X pin behind the lines
+  x-laid : (k : ℕ) (x : Candidates) (used : XGpio) → k < length xs → pinAt xs k ≡ x → used ≡ At (gpioAt (addrListed d) c (lines d + k)) → XLaid laid x used
+  x-laid k x used l p u =
+      let past : inRange d ≤ lines d + k = omega (arith, few) in
+      let from : lines d ≤ lines d + k = omega arith in
+      let here : lines d + k < length (addrListed d) = omega (arith, listed-length) in
+      let g = gpioAt (addrListed d) c (lines d + k) in (
+        g,
+        u,
+        rw (x-pin k ∙ p) at (candidate (lines d + k) here),
+        inside g (of-pin (lines d + k) here (rw (le-ltb (lines d + k) (inRange d) past, le-leb (lines d) (lines d + k) from)) refl),
+      )
+
+  sound-layout : SoundLayout d c laid
+  sound-layout = record {
+    pins-most = fits-width (laid .«gpio_base») (laid .«num_addr_pins») window;
+    in-use = refl;
+    line-gpio = line-is;
+    line-candidate = λ n l. rw (line-is n l, ← line-pin n (omega (arith, few))) (candidate n (omega (arith, listed-length, few)));
+    line-window = λ n l. rw (line-is n l) (inside (gpioAt (addrListed d) c n) (line-spanned n l));
+    x1 = λ s. x-laid 0 (d .board .x1) (laid .«x1_gpio») (rw s (omega arith)) (rw s) (rw (s, add-zero));
+    x2 = λ s l. x-laid 1 (d .board .x2) (laid .«x2_gpio») (rw (s, le-leb 3 (d .«num_chips») l) (omega arith)) (rw (s, le-leb 3 (d .«num_chips») l)) (rw (s, le-leb 3 (d .«num_chips») l));
+  }
+
 -- the layout of a choice that fits
 pub sound : (d : Description) → PastTests d → (c s : ℕ) → addrTrial d c ≡ Score s → Sound d c
 sound d past c s e =
     let ls = addrListed d in
     let span = choiceSpan ls (inRange d) (lines d) (fixedSpan d) c in
     let wide = pins-wide span (ltb 8 (width span)) refl in
+    let window = window-of span s e in
+    let inside : (g : ℕ) → Spanned d c g → InWindow (layoutOf d ls c) g = λ g t. let w = within d c g t in (w .0, omega (arith, wide .1, w .0, w .1)) in
+    let candidate : (k : ℕ) → k < length ls → CandidateOf (pinAt ls k) (gpioAt ls c k) = λ k l. candidate-at ls c k (no-fault-at ls (past .no-fault) k l) in
     record {
-      window = window-of span s e;
+      window = window;
       wide = wide .0;
-      attained = not-empty (Spanned d c) (span .low) (pinsOf span) (window-of span s e) (lowest d c);
-      inside = λ g t. let w = within d c g t in (w .0, omega (arith, wide .1, w .0, w .1));
-      candidate = λ k l. candidate-at ls c k (no-fault-at ls (past .no-fault) k l);
+      attained = not-empty (Spanned d c) (span .low) (pinsOf span) window (lowest d c);
+      inside = inside;
+      candidate = candidate;
+      layout = sound-layout d c (and-left (descriptionIn d) (leb (twos ls) 16) (past .domain)) candidate inside window;
     }

@@ -3,4 +3,5 @@ pub mod Searched
 pub mod Scores
 pub mod Why
 pub mod Law
+pub mod Fields
 pub mod Sound

@@ -2,13 +2,14 @@
 use mathlib.Core.Path.{_≡_, refl}
 use mathlib.Core.Bool.{Bool, true, false}
 use mathlib.Core.List.{List, [], _∷_, _++_}
-use Prim.Native.Nat.{ℕ}
+use Prim.Native.Nat.{ℕ, _<_}
 use lib.Dec.{leb}
-use lib.ListN.{getD}
+use lib.ListN.{length, getD}
 use Rattle.gpio.specs.Tab.{tab}
 use Rattle.slot.specs.Description.{isMulti, chip0}
 use Rattle.slot.specs.declared.description.Description.{Description}
 use Rattle.listing.specs.Listing.{xPins, faultFrom, firstFault}
+use Rattle.listing.specs.Choice.{CandidateOf, pinAt, gpioAt}
 use Rattle.listing.specs.declared.Listed.{Listed}
 use Rattle.listing.specs.declared.FirstFault.the-variants.{None}
 use Rattle.listing.proofs.Candidate.{candidate-at}
@@ -23,6 +24,7 @@ use Rattle.cs_data_layout.specs.Search.{missingLayout, tooLarge, earlier
 use Rattle.cs_data_layout.specs.Law.{PastTests, verdictAt, selectsAt, Sound}
 use Rattle.cs_data_layout.specs.declared.layout.GivenLayout.{GivenLayout}
 use Rattle.cs_data_layout.proofs.Scores.{fits-only}
+use Rattle.cs_data_layout.proofs.Fields.{sound-layout}
 
 -- the pins of a list that must not be empty
 active-none : (ls : List Listed) → firstFault (orNoActive ls) ≡ None → firstFault ls ≡ None
@@ -65,9 +67,11 @@ pub sound : (d : Description) (a : GivenLayout) → PastTests d a → (c s : ℕ
 sound d a past c s e =
     let ls = numbered d in
     let (gapless, gap, window, score) = fits-only (isMulti (d .«set_type»)) (qualifierSet d (handed a)) (dataSet ls (numData d) c) (selectsAt d a c) s e in
+    let candidate : (k : ℕ) → k < length ls → CandidateOf (pinAt ls k) (gpioAt ls c k) = λ k l. candidate-at ls c k (no-fault-at ls (numbered-none d a (past .no-fault)) k l) in
     record {
       data-gapless = gapless;
       select-gap = gap;
       window = window;
-      candidate = λ k l. candidate-at ls c k (no-fault-at ls (numbered-none d a (past .no-fault)) k l);
+      candidate = candidate;
+      layout = sound-layout d a past c window gapless candidate;
     }

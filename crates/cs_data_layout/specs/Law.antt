@@ -2,17 +2,18 @@
 use mathlib.Core.Path.{_≡_}
 use mathlib.Core.Bool.{true, not, _&&_}
 use mathlib.Core.Logic.{_⊎_}
-use Prim.Native.Nat.{ℕ, _^_, _≤_, _<_}
+use Prim.Native.Nat.{ℕ, _+_, _-_, _^_, _≤_, _<_}
 use lib.Bits.{bitAnd}
 use lib.Dec.{eqb}
-use lib.ListN.{length}
-use Rattle.gpio.specs.Set.{lowest, width, gapless, gap}
-use Rattle.slot.specs.Description.{isMulti}
+use lib.ListN.{length, getD}
+use Rattle.gpio.specs.Set.{Distinct, lowest, width, gapless, gap}
+use Rattle.slot.specs.Description.{isMulti, chip0}
 use Rattle.slot.specs.declared.description.Description.{Description}
 use Rattle.slot.specs.declared.refusal.Refusal.{Refusal}
 use Rattle.slot.specs.declared.refusal.Refusal.the-variants.{NonContiguousSelect, InteriorIgnoredLine, NoValidLayout}
 use Rattle.control.specs.AlgPreference.{preferenceOf}
 use Rattle.listing.specs.Listing.{twos}
+use Rattle.listing.specs.Lines.{kindPin, pinCandidates}
 use Rattle.listing.specs.Choice.{CandidateOf, pinAt, gpioAt}
 use Rattle.listing.specs.declared.FirstFault.the-variants.{None}
 use Rattle.search.specs.Law.{Best}
@@ -21,10 +22,11 @@ use Rattle.cs_choices.specs.Sets.{dataSet, selectSet}
 use Rattle.cs_choices.specs.Verdict.{selectable, allOf, inWindow, trialOf}
 use Rattle.cs_choices.specs.declared.verdict.Verdict.{Verdict}
 use Rattle.cs_choices.specs.declared.verdict.Verdict.the-variants.{SelectGap, Fits}
-use Rattle.cs_data_layout.specs.Layout.{handed}
+use Rattle.cs_data_layout.specs.Layout.{line, handed}
 use Rattle.cs_data_layout.specs.Choices.{numData, excessSet, qualifierSet, csVerdict, layoutOf, ignoredSet}
 use Rattle.cs_data_layout.specs.Search.{givenIn, earlier, csDataAnswer}
 use Rattle.cs_data_layout.specs.declared.layout.GivenLayout.{GivenLayout}
+use Rattle.cs_data_layout.specs.declared.layout.CsDataLayout.{CsDataLayout}
 use Rattle.cs_data_layout.specs.declared.layout.CsDataOutcome.the-variants.{LaidOut}
 
 -- "once 01's earlier tests are past"
@@ -107,6 +109,45 @@ pub data WhyNone (d : Description) (a : GivenLayout) (why : Refusal) : Type 0 wh
   seven : (c s : ℕ) → NoneSeen d a → LastRefused d a c s → why ≡ NonContiguousSelect (record { bits = s }) → WhyNone d a why
   nine : NoneRefused d a → why ≡ NoValidLayout → WhyNone d a why
 
+-- the GPIOs of a layout's lines
+abbrev pub dataGpio : CsDataLayout → ℕ → ℕ
+dataGpio l k = getD (l .«data_pin_gpios») k 0
+
+abbrev pub selectGpio : CsDataLayout → ℕ → ℕ
+selectGpio l k = getD (l .«select_lines») k (line 0 0) .gpio
+
+abbrev pub commonedGpio : CsDataLayout → ℕ → ℕ
+commonedGpio l k = getD (l .«commoned_lines») k (line 0 0) .gpio
+
+-- a GPIO in a layout's window of 32
+abbrev pub InWindow : CsDataLayout → ℕ → Type 0
+InWindow l g = (l .«gpio_base» ≤ g) × (g < l .«gpio_base» + 32)
+
+-- what a found layout's own fields keep, l being the layout of choice c
+pub record SoundLayout (d : Description) (c : ℕ) (l : CsDataLayout) : Type 0 where
+  pub base : (l .«gpio_base» ≡ 0) ⊎ (l .«gpio_base» ≡ 16)
+  -- the data lines are the chip's, and the GPIO of each is a candidate of its pin, in the window
+  pub data-count : l .«num_data_pins» ≡ numData d
+  pub data-gpio : (k : ℕ) → k < l .«num_data_pins» → dataGpio l k ≡ gpioAt (numbered d) c k
+  pub data-candidate : (k : ℕ) → k < l .«num_data_pins» → CandidateOf (pinCandidates d (getD (chip0 d .«data_pins») k 0)) (dataGpio l k)
+  pub data-in : (k : ℕ) → k < l .«num_data_pins» → dataGpio l k ≤ 47
+  pub data-window : (k : ℕ) → k < l .«num_data_pins» → InWindow l (dataGpio l k)
+  -- the data base is the lowest data GPIO
+  pub data-above : (k : ℕ) → k < l .«num_data_pins» → l .«gpio_base» + l .«base_data_pin» ≤ dataGpio l k
+  pub data-attained : (k : ℕ) × (k < l .«num_data_pins») × (dataGpio l k ≡ l .«gpio_base» + l .«base_data_pin»)
+  -- and since they have no gap, data GPIOs that differ stand at positions below their number
+  pub data-below : Distinct (l .«num_data_pins») (dataGpio l)
+      → (k : ℕ) → k < l .«num_data_pins» → dataGpio l k - (l .«gpio_base» + l .«base_data_pin») < l .«num_data_pins»
+  -- the select and commoned lines have a place each, and are in the window
+  pub select-count : l .«num_select_lines» ≤ 30
+  pub select-window : (k : ℕ) → k < l .«num_select_lines» → InWindow l (selectGpio l k)
+  pub commoned-count : l .«num_commoned_lines» ≤ 6
+  pub commoned-window : (k : ℕ) → k < l .«num_commoned_lines» → InWindow l (commonedGpio l k)
+  -- in Multi the first select line is that of the select, which is on chip 0
+  pub first-select : isMulti (d .«set_type») ≡ true → 0 < l .«num_select_lines»
+  pub select-on : isMulti (d .«set_type») ≡ true → kindPin d (d .multi .select) ≡ 0 → ⊥
+  pub select-candidate : isMulti (d .«set_type») ≡ true → CandidateOf (pinCandidates d (kindPin d (d .multi .select))) (selectGpio l 0)
+
 -- what the layout of a choice that fits keeps
 pub record Sound (d : Description) (a : GivenLayout) (c : ℕ) : Type 0 where
   -- the data GPIOs have no gap, the select GPIOs none or the one that 01 allows, and all are in one window
@@ -115,3 +156,5 @@ pub record Sound (d : Description) (a : GivenLayout) (c : ℕ) : Type 0 where
   pub window : inWindow (allAt d a c) ≡ true
   -- each numbered pin's GPIO is a candidate of its pin
   pub candidate : (k : ℕ) → k < length (numbered d) → CandidateOf (pinAt (numbered d) k) (gpioAt (numbered d) c k)
+  -- and the fields of the layout say so
+  pub layout : SoundLayout d c (layoutOf d (handed a) (numbered d) c)

@@ -1,1 +1,2 @@
 pub mod InDomain
+pub mod Counts
