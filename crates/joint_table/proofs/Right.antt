@@ -1,0 +1,46 @@
+-- Each case of the joint table is answered as document 01 says: one statement, which antt computes. Assumes nothing.
+use mathlib.Core.Path.{_≡_}
+use mathlib.Core.List.{map}
+use lib.Count.{leadingZeros, trailingZeros}
+use Rattle.gpio.specs.Each.{each, tally}
+use Rattle.gpio.specs.Tab.{tab, joined}
+use Rattle.gpio.specs.Set.{setOf}
+use Rattle.slot.specs.SlotContext.{knownPairs, offsetFrom}
+use Rattle.domain.specs.Domain.{socketIn, lineIn, linesIn, chipsIn, descriptionIn}
+use Rattle.search.specs.Search.{best}
+use Rattle.listing.specs.Listing.{twos, faultFrom}
+use Rattle.listing.specs.Choice.{restAt, gpioAt}
+use Rattle.listing.specs.Lines.{pinCandidates}
+use Rattle.addr_layout.specs.Lines.{lineSocket, lineListed, addrListed}
+use Rattle.addr_layout.specs.Layout.{layoutIn}
+use Rattle.addr_layout.specs.Choices.{reach, fixedSpan, spanAt, trialOf}
+use Rattle.addr_layout.specs.Search.{addrBest}
+use Rattle.cs_pins.specs.Pins.{pinListed, dataListed, activeListed, selectListed, commonedListed, numbered, inDomain}
+use Rattle.cs_pins.specs.Checked.{orNoActive, checked}
+use Rattle.cs_choices.specs.Verdict.{verdictOf}
+use Rattle.cs_choices.specs.Nothing.{interior, lastRefused}
+use Rattle.cs_data_layout.specs.Search.{earlier, csBest, noneFits}
+use Rattle.bits.specs.Bits.{gather, scatter}
+use Rattle.words.specs.Words.{wordFrom, bytesOf, padWord}
+use Rattle.rom_slot.specs.Images.{chipBytes}
+use Rattle.rom_slot.specs.Domain as SlotDomain
+use Rattle.rom_slot.specs.Faults as Faults
+use Rattle.rom_image.specs.Entry.{chipAddress, pickedAt, scrambled, entryAt, tableOf}
+use Rattle.rom_image.specs.Build.{buildOf}
+use Rattle.joint_table.specs.Cases.{cases}
+use Rattle.joint_table.proofs.Count.{counted}
+
+pub right : map (λ c. c .answered) cases ≡ map (λ c. c .told) cases
+unfolding cases
+    each tally tab joined setOf leadingZeros trailingZeros
+    knownPairs offsetFrom
+    socketIn lineIn linesIn chipsIn descriptionIn
+    best twos faultFrom restAt gpioAt pinCandidates
+    lineSocket lineListed addrListed layoutIn reach fixedSpan spanAt trialOf addrBest
+    pinListed dataListed activeListed selectListed commonedListed numbered inDomain orNoActive checked
+    verdictOf interior lastRefused earlier csBest noneFits
+    gather scatter wordFrom bytesOf padWord chipBytes
+    SlotDomain.selectLinesIn SlotDomain.csDataIn SlotDomain.inDomain
+    Faults.firstOf Faults.addressIn Faults.picksIn Faults.linesIn Faults.buildFault
+    chipAddress pickedAt scrambled entryAt tableOf buildOf
+right = simp counted

@@ -1,0 +1,85 @@
+-- What the definitions that the contracts cite answer, in the words of document 01's bench cases. Assumes nothing.
+use Prim.Native.Nat.{ℕ}
+use mathlib.Core.Bool.{cond}
+use mathlib.Core.List.{List}
+use lib.IntN.{ℤ}
+use lib.ListN.{getD, replicate}
+use Rattle.gpio.specs.Window.{fits}
+use Rattle.slot.specs.Refusal.{numberOf, placeOf}
+use Rattle.slot.specs.SlotContext.{offsetAnswer}
+use Rattle.slot.specs.declared.description.Description.{Description}
+use Rattle.slot.specs.declared.refusal.Refusal.{Refusal}
+use Rattle.slot.specs.declared.slot_context.OffsetAnswer.{OffsetAnswer}
+use Rattle.search.specs.declared.Found.{Found}
+use Rattle.addr_layout.specs.Search.{addrBest, addrAnswer}
+use Rattle.addr_layout.specs.declared.layout.AddrLayout.{AddrLayout}
+use Rattle.addr_layout.specs.declared.layout.AddrOutcome.{AddrOutcome}
+use Rattle.cs_data_layout.specs.Search.{csDataAnswer}
+use Rattle.cs_data_layout.specs.declared.layout.IgnoreIndex.{IgnoreIndex}
+use Rattle.cs_data_layout.specs.declared.layout.CsDataLayout.{CsDataLayout}
+use Rattle.cs_data_layout.specs.declared.layout.CsDataOutcome.{CsDataOutcome}
+use Rattle.rom_slot.specs.Faults.{tableSize}
+use Rattle.rom_image.specs.Build.{buildOf}
+use Rattle.rom_image.specs.declared.BuildAnswer.{BuildAnswer}
+use Rattle.joint_table.specs.Slots.{notGiven, sized, addressLines, spans}
+
+pub data Answer : Type 0 where
+  Fits : Answer
+  DoesNotFit : Answer
+  Offset : ℤ → Answer
+  -- a refusal: its number, and its place
+  Number : ℕ → ℕ → Answer
+  -- the third address line's GPIO, and the score
+  Taken : ℕ → ℕ → Answer
+  IgnoreAt : ℕ → Answer
+  IgnoreNone : Answer
+  Entry : ℕ → Answer
+
+abbrev pub refused : Refusal → Answer
+refused why = Number (numberOf why) (placeOf why)
+
+-- "window 0/32": base and span
+abbrev pub window : ℕ → ℕ → Answer
+window base span = cond (fits base span) Fits DoesNotFit
+
+-- "pins 24 in 32": the chip's and the board's
+abbrev pub offsetTold : OffsetAnswer → Answer
+offsetTold (OffsetAnswer.Offset by) = Offset by
+offsetTold (OffsetAnswer.Refused why) = refused why
+
+abbrev pub pinsIn : ℕ → ℕ → Answer
+pinsIn chip board = offsetTold (offsetAnswer chip board)
+
+-- the address search
+abbrev pub scoreOf : Found → ℕ
+scoreOf Found.Nothing = 0
+scoreOf (Found.At choice score) = score
+
+abbrev pub addressTold : AddrOutcome → AddrLayout → ℕ → Answer
+addressTold AddrOutcome.LaidOut layout score = Taken (getD (layout .gpios) 2 0) score
+addressTold (AddrOutcome.Refused why) layout score = refused why
+
+abbrev pub addressSearch : Description → Answer
+addressSearch d = addressTold (addrAnswer d .outcome) (addrAnswer d .layout) (scoreOf (addrBest d))
+
+-- the select search
+abbrev pub ignoreTold : IgnoreIndex → Answer
+ignoreTold IgnoreIndex.None = IgnoreNone
+ignoreTold (IgnoreIndex.At k) = IgnoreAt k
+
+abbrev pub selectTold : CsDataOutcome → CsDataLayout → Answer
+selectTold CsDataOutcome.LaidOut layout = ignoreTold (layout .«cs_ignore_index»)
+selectTold (CsDataOutcome.Refused why) layout = refused why
+
+abbrev pub selectSearch : Description → Answer
+selectSearch d = selectTold (csDataAnswer d notGiven .outcome) (csDataAnswer d notGiven .layout)
+
+-- the entry at an index, one byte each, of the table that a build writes for a chip's size, data lines and bytes
+abbrev pub builtTold : BuildAnswer → List ℕ → ℕ → Answer
+builtTold BuildAnswer.Built table i = Entry (getD table i 0)
+builtTold (BuildAnswer.Refused why) table i = refused why
+
+abbrev pub entryOf : Description → CsDataLayout → List ℕ → ℕ → Answer
+entryOf d c bytes i =
+    let b = buildOf d addressLines c bytes (spans bytes) (replicate (tableSize d addressLines) 0) in
+    builtTold (b .answer) (b .table) i
