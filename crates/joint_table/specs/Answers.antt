@@ -21,7 +21,7 @@ use Rattle.cs_data_layout.specs.declared.layout.CsDataOutcome.{CsDataOutcome}
 use Rattle.rom_slot.specs.Faults.{tableSize}
 use Rattle.rom_image.specs.Build.{buildOf}
 use Rattle.rom_image.specs.declared.BuildAnswer.{BuildAnswer}
-use Rattle.joint_table.specs.Slots.{notGiven, sized, addressLines, spans}
+use Rattle.joint_table.specs.Slots.{notGiven, addressLines, spans}
 
 pub data Answer : Type 0 where
   Fits : Answer
@@ -74,7 +74,7 @@ selectTold (CsDataOutcome.Refused why) layout = refused why
 abbrev pub selectSearch : Description → Answer
 selectSearch d = selectTold (csDataAnswer d notGiven .outcome) (csDataAnswer d notGiven .layout)
 
--- the entry at an index, one byte each, of the table that a build writes for a chip's size, data lines and bytes
+-- the build: the entry at an index, of one byte
 abbrev pub builtTold : BuildAnswer → List ℕ → ℕ → Answer
 builtTold BuildAnswer.Built table i = Entry (getD table i 0)
 builtTold (BuildAnswer.Refused why) table i = refused why

@@ -1,6 +1,6 @@
 // Cases through the record. The edges of the domain: for each number the smallest and the largest that is in, and one past
 // each; a line of output is what was written where, and whether the description was taken. Then document 01's bench cases
-// of both searches.
+// of both searches and of the build.
 use addr_layout::derive_addr_layout;
 use addr_layout::layout::AddrLayout;
 use addr_layout::layout::AddrOutcome;
@@ -10,8 +10,12 @@ use cs_data_layout::layout::CsDataLayout;
 use cs_data_layout::layout::CsDataOutcome;
 use cs_data_layout::layout::GivenLayout;
 use cs_data_layout::layout::IgnoreIndex;
+use cs_data_layout::layout::refused;
 use libc::STDOUT_FILENO;
 use record::Answer;
+use rom_image::BuildAnswer;
+use rom_image::build_rom_image;
+use rom_slot::images::ImageSpan;
 use slot::description::Description;
 use slot::refusal::Refusal;
 use std::num::wrapping_add_u8;
@@ -353,6 +357,60 @@ fn multi_sample() -> [u8; 424] {
     with(controlled, 128, 19)
 }
 
+// A table of four entries, address lines at bits 0 and 1.
+fn two_lines() -> AddrLayout {
+    let mut a = no_layout();
+    a.num_addr_pins = 2;
+    a.num_lines = 2;
+    a.gpios[1] = 1;
+    a
+}
+
+// Eight data lines on these GPIOs.
+fn data_lines(gpios: [u8; 16]) -> CsDataLayout {
+    let blank = refused(Refusal::OutOfDomain);
+    let mut c = blank.layout;
+    c.num_data_pins = 8;
+    c.data_pin_gpios = gpios;
+    c
+}
+
+fn say_byte(byte: u8) {
+    say_number(byte as u64);
+}
+
+fn say_entry(table: &[u8], index: usize) {
+    if index < table.len() {
+        say(b"entry ");
+        say_number(index as u64);
+        say(b": ");
+        say_byte(table[index]);
+        say(b"\n");
+    }
+}
+
+// The sample with a chip of `size` bytes.
+fn one_entry(size: u8, gpios: [u8; 16], bytes: &[u8], index: usize) {
+    let decoded = record::decode(&with(with(sample(), 136, size), 138, 0));
+    let chip = ImageSpan {
+        present: true,
+        start: 0,
+        length: size as u32,
+    };
+    let mut table = [0u8; 4];
+    match build_rom_image(
+        decoded.description,
+        two_lines(),
+        data_lines(gpios),
+        bytes,
+        [chip; 4],
+        &mut table,
+    ) {
+        BuildAnswer::Built => say_entry(&table, index),
+        BuildAnswer::Refused(r) => say_refusal(r),
+    }
+}
+
 fn main() {
     board();
     numbers();
@@ -376,4 +434,10 @@ fn main() {
     two_selects(sample(), 18, 20);
     two_selects(sample(), 18, 21);
     two_selects(multi_sample(), 18, 20);
+    say(b"build\n");
+    let reversed = [7u8, 6, 5, 4, 3, 2, 1, 0, 0, 0, 0, 0, 0, 0, 0, 0];
+    let in_order = [0u8, 1, 2, 3, 4, 5, 6, 7, 0, 0, 0, 0, 0, 0, 0, 0];
+    one_entry(1, reversed, b"\xAA", 0);
+    one_entry(3, in_order, b"\x10\x11\x12", 3);
+    one_entry(2, in_order, b"\x10\x11\x12", 3);
 }

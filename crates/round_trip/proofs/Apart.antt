@@ -15,22 +15,21 @@ use Rattle.slot.specs.declared.description.ChipSetType.the-variants.{Single, Ba
 use Rattle.slot.specs.declared.description.Description.{Description}
 use Rattle.slot.specs.declared.slot_context.Socket.{Socket}
 use Rattle.slot.specs.declared.slot_context.Socket.the-variants.{On, Off}
-use Rattle.listing.specs.Choice.{CandidateOf, gpioAt}
+use Rattle.listing.specs.Choice.{CandidateOf}
 use Rattle.listing.specs.Lines.{pinSocket, socketCandidates, pinCandidates}
-use Rattle.addr_layout.specs.Lines.{lines, lineSocket, isOff, offBefore, addrListed}
-use Rattle.addr_layout.specs.Choices.{reach, inRange, layoutOf}
-use Rattle.addr_layout.specs.Law.{Sound}
+use Rattle.addr_layout.specs.Lines.{lineSocket, offBefore}
+use Rattle.addr_layout.specs.Choices.{inRange}
+use Rattle.addr_layout.specs.Law.{InWindow, XLaid, SoundLayout}
 use Rattle.addr_layout.specs.declared.layout.XGpio.{XGpio}
 use Rattle.addr_layout.specs.declared.layout.XGpio.the-variants.{Unused, At}
 use Rattle.addr_layout.specs.declared.layout.AddrLayout.{AddrLayout}
 use Rattle.cs_data_layout.specs.declared.layout.CsDataLayout.{CsDataLayout}
 use Rattle.rom_slot.specs.Positions.{linePosition, xPosition}
 use Rattle.rom_slot.specs.Picks.{xLines, picksOf, numPicks, firstSelect, xGpio, pickOf, pickAt, pickPosition}
-use Rattle.round_trip.specs.WellWired.{BoardPin, candidatesOf, Unshared, addressPin, selectPin, InWindow, WellWired}
+use Rattle.round_trip.specs.WellWired.{BoardPin, candidatesOf, Unshared, addressPin, selectPin, WellWired}
 use Rattle.round_trip.specs.WellWired.BoardPin.{socket, x1, x2}
 use Rattle.round_trip.specs.Fitted.{indexPosition}
-use Rattle.round_trip.proofs.Pins.{Behind, linePin, pinBehind, lines-own, same-place, same-x, apart-x}
-use Rattle.round_trip.proofs.Found.{line-gpio, line-pin, line-inside, x1-gpio, x1-candidate, x1-window, x2-gpio, x2-candidate, x2-window}
+use Rattle.round_trip.proofs.Pins.{Behind, line-behind, linePin, pinBehind, lines-own, same-place, same-x, apart-x}
 
 -- a line at a position: its GPIO is a candidate of its pin, and in the window
 pub record Line (b : Board) (a : AddrLayout) (position : ℕ) (pin : BoardPin) : Type 0 where
@@ -73,25 +72,13 @@ pub record SelectAt (d : Description) (a : AddrLayout) (c : CsDataLayout) (s : �
   pub candidate : CandidateOf (candidatesOf (d .board) (socket s)) gpio
   pub inside : InWindow a gpio
 
-module _ (d : Description) (ca : ℕ) (sound : Sound d ca) (few : lines d ≤ 24) (c : CsDataLayout) (s : ℕ) where
-  abbrev a : AddrLayout
-  a = layoutOf d (addrListed d) ca
+module _ (d : Description) (ca : ℕ) (a : AddrLayout) (sound : SoundLayout d ca a) (c : CsDataLayout) (s : ℕ) where
+  x-laid : (pin : BoardPin) (x : XGpio) → XLaid a (candidatesOf (d .board) pin) x → Line (d .board) a (xPosition (a .«gpio_base») x) pin
+  x-laid pin x l = record { gpio = l .0; at = ap (xPosition (a .«gpio_base»)) (l .1); candidate = l .2; inside = l .3 }
 
   x-line : isSingle (d .«set_type») ≡ false → (k : ℕ) → k < xLines (d .«num_chips») → Line (d .board) a (xPosition (a .«gpio_base») (xGpio a k)) (xPin k)
-  x-line m zero l = record {
-    gpio = gpioAt (addrListed d) ca (lines d);
-    at = ap (xPosition (a .«gpio_base»)) (x1-gpio d ca sound few m);
-    candidate = x1-candidate d ca sound few m;
-    inside = x1-window d ca sound few m;
-  }
-  x-line m (suc zero) l =
-      let three = x-third (d .«num_chips») 1 (leb 3 (d .«num_chips»)) refl l (omega arith) in
-      record {
-        gpio = gpioAt (addrListed d) ca (lines d + 1);
-        at = ap (xPosition (a .«gpio_base»)) (x2-gpio d ca sound few m three);
-        candidate = x2-candidate d ca sound few m three;
-        inside = x2-window d ca sound few m three;
-      }
+  x-line m zero l = x-laid x1 (a .«x1_gpio») (sound .x1 m)
+  x-line m (suc zero) l = x-laid x2 (a .«x2_gpio») (sound .x2 m (x-third (d .«num_chips») 1 (leb 3 (d .«num_chips»)) refl l (omega arith)))
   x-line m (suc (suc k)) l = absurd (omega (arith, x-few (d .«num_chips») (suc (suc k)) (leb 3 (d .«num_chips»)) refl l))
 
   multi-line : isSingle (d .«set_type») ≡ false → SelectAt d a c s → (k : ℕ) (z : Bool) → eqb k 0 ≡ z → k < 1 + xLines (d .«num_chips»)
@@ -168,65 +155,58 @@ module _ (d : Description) (n g : ℕ) (m : isSingle (d .«set_type») ≡ false
   not-multi s k false o apart q = not-x (k - 1) q
 
 -- the lines of the index
-module _ (d : Description) (ca : ℕ) (sound : Sound d ca) (few : lines d ≤ 24) (c : CsDataLayout) (s : ℕ)
-    (wired : WellWired d (layoutOf d (addrListed d) ca))
-    (sel : isMulti (d .«set_type») ≡ true → SelectAt d (layoutOf d (addrListed d) ca) c s) where
-  abbrev found : AddrLayout
-  found = layoutOf d (addrListed d) ca
+module _ (d : Description) (ca : ℕ) (a : AddrLayout) (sound : SoundLayout d ca a) (c : CsDataLayout) (s : ℕ) (wired : WellWired d a)
+    (sel : isMulti (d .«set_type») ≡ true → SelectAt d a c s) where
+  in-range : (n : ℕ) → n < a .«num_lines» → n < inRange d
+  in-range n l = omega (arith, sound .in-use, l)
 
-  in-lines : (n : ℕ) → n < inRange d → n < lines d
-  in-lines n l = below (ltb (lines d) (reach d)) refl l where
-    below : (t : Bool) → ltb (lines d) (reach d) ≡ t → n < cond t (lines d) (reach d) → n < lines d
-    below true e h = h
-    below false e h = let g = ltb-false (lines d) (reach d) e in omega arith
+  behind-line : (n : ℕ) → n < a .«num_lines» → Behind d (lineSocket d n) (offBefore d n) (getD (a .gpios) n 0)
+  behind-line n l = line-behind d n _ (sound .line-candidate n l)
 
-  line-at : (n : ℕ) → n < inRange d → Line (d .board) found (linePosition found n) (linePin d n)
-  line-at n l =
-      let m = in-lines n l in
-      record {
-        gpio = gpioAt (addrListed d) ca n;
-        at = ap (λ (g : ℕ). g - found .«gpio_base») (line-gpio d ca sound few n l m);
-        candidate = line-pin d ca sound few n l m .candidate;
-        inside = line-inside d ca sound few n l m;
-      }
+  line-at : (n : ℕ) → n < a .«num_lines» → Line (d .board) a (linePosition a n) (linePin d n)
+  line-at n l = record { gpio = getD (a .gpios) n 0; at = refl; candidate = behind-line n l .candidate; inside = sound .line-window n l }
 
-  pick-at : (k : ℕ) → k < numPicks d → Line (d .board) found (pickPosition d found c k) (pickPin (d .«set_type») s k)
-  pick-at k l = pick-line d ca sound few c s (d .«set_type») refl sel k l
+  pick-at : (k : ℕ) → k < numPicks d → Line (d .board) a (pickPosition d a c k) (pickPin (d .«set_type») s k)
+  pick-at k l = pick-line d ca a sound c s (d .«set_type») refl sel k l
 
   abbrev indexPin : ℕ → BoardPin
-  indexPin k = cond (ltb k (inRange d)) (linePin d k) (pickPin (d .«set_type») s (k - inRange d))
+  indexPin k = cond (ltb k (a .«num_lines»)) (linePin d k) (pickPin (d .«set_type») s (k - a .«num_lines»))
 
-  index-line : (k : ℕ) → k < inRange d + numPicks d → Line (d .board) found (indexPosition d found c k) (indexPin k)
-  index-line k l = which (ltb k (inRange d)) refl where
-    which : (t : Bool) → ltb k (inRange d) ≡ t
-        → Line (d .board) found (cond t (linePosition found k) (pickPosition d found c (k - inRange d))) (cond t (linePin d k) (pickPin (d .«set_type») s (k - inRange d)))
-    which true e = line-at k (ltb-true k (inRange d) e)
-    which false e = let g = ltb-false k (inRange d) e in pick-at (k - inRange d) (omega arith)
+  index-line : (k : ℕ) → k < a .«num_lines» + numPicks d → Line (d .board) a (indexPosition d a c k) (indexPin k)
+  index-line k l = which (ltb k (a .«num_lines»)) refl where
+    which : (t : Bool) → ltb k (a .«num_lines») ≡ t
+        → Line (d .board) a (cond t (linePosition a k) (pickPosition d a c (k - a .«num_lines»))) (cond t (linePin d k) (pickPin (d .«set_type») s (k - a .«num_lines»)))
+    which true e = line-at k (ltb-true k (a .«num_lines») e)
+    which false e = let g = ltb-false k (a .«num_lines») e in pick-at (k - a .«num_lines») (omega arith)
 
   -- a line and a picking line
-  mixed : (t : ChipSetType) → d .«set_type» ≡ t → (n k : ℕ) → n < inRange d → k < picksOf t (d .«num_chips») → linePin d n ≡ pickPin t s k → ⊥
+  mixed : (t : ChipSetType) → d .«set_type» ≡ t → (n k : ℕ) → n < a .«num_lines» → k < picksOf t (d .«num_chips») → linePin d n ≡ pickPin t s k → ⊥
   mixed Single e n k l m q = omega arith
-  mixed Banked e n k l m q = not-x d n _ (ap isSingle e) (line-pin d ca sound few n l (in-lines n l)) k q
+  mixed Banked e n k l m q = not-x d n _ (ap isSingle e) (behind-line n l) k q
   mixed Multi e n k l m q =
-      not-multi d n _ (ap isSingle e) (line-pin d ca sound few n l (in-lines n l)) s k (eqb k 0) (sel (ap isMulti e) .on) (wired .select-apart (ap isMulti e) n l) q
+      not-multi d n _ (ap isSingle e) (behind-line n l) s k (eqb k 0) (sel (ap isMulti e) .on) (wired .select-apart (ap isMulti e) n (in-range n l)) q
 
-  pins-own : (j k : ℕ) → j < inRange d + numPicks d → k < inRange d + numPicks d → indexPin j ≡ indexPin k → j ≡ k
-  pins-own j k l m q = which (ltb j (inRange d)) (ltb k (inRange d)) refl refl q where
-    which : (t u : Bool) → ltb j (inRange d) ≡ t → ltb k (inRange d) ≡ u
-        → cond t (linePin d j) (pickPin (d .«set_type») s (j - inRange d)) ≡ cond u (linePin d k) (pickPin (d .«set_type») s (k - inRange d)) → j ≡ k
+  pins-own : (j k : ℕ) → j < a .«num_lines» + numPicks d → k < a .«num_lines» + numPicks d → indexPin j ≡ indexPin k → j ≡ k
+  pins-own j k l m q = which (ltb j (a .«num_lines»)) (ltb k (a .«num_lines»)) refl refl q where
+    which : (t u : Bool) → ltb j (a .«num_lines») ≡ t → ltb k (a .«num_lines») ≡ u
+        → cond t (linePin d j) (pickPin (d .«set_type») s (j - a .«num_lines»)) ≡ cond u (linePin d k) (pickPin (d .«set_type») s (k - a .«num_lines»)) → j ≡ k
     which true true e f p =
-        let x = ltb-true j (inRange d) e in
-        let y = ltb-true k (inRange d) f in
-        lines-own d j k _ _ (line-pin d ca sound few j x (in-lines j x)) (line-pin d ca sound few k y (in-lines k y)) (wired .lines-apart j k x y) p
-    which true false e f p = let g = ltb-false k (inRange d) f in absurd (mixed (d .«set_type») refl j (k - inRange d) (ltb-true j (inRange d) e) (omega arith) p)
-    which false true e f p = let g = ltb-false j (inRange d) e in absurd (mixed (d .«set_type») refl k (j - inRange d) (ltb-true k (inRange d) f) (omega arith) (sym p))
+        let x = ltb-true j (a .«num_lines») e in
+        let y = ltb-true k (a .«num_lines») f in
+        lines-own d j k _ _ (behind-line j x) (behind-line k y) (wired .lines-apart j k (in-range j x) (in-range k y)) p
+    which true false e f p =
+        let g = ltb-false k (a .«num_lines») f in
+        absurd (mixed (d .«set_type») refl j (k - a .«num_lines») (ltb-true j (a .«num_lines») e) (omega arith) p)
+    which false true e f p =
+        let g = ltb-false j (a .«num_lines») e in
+        absurd (mixed (d .«set_type») refl k (j - a .«num_lines») (ltb-true k (a .«num_lines») f) (omega arith) (sym p))
     which false false e f p =
-        let g = ltb-false j (inRange d) e in
-        let h = ltb-false k (inRange d) f in
-        omega (arith, pick-own (d .«set_type») (d .«num_chips») s (j - inRange d) (k - inRange d) (omega arith) (omega arith) p, g, h)
+        let g = ltb-false j (a .«num_lines») e in
+        let h = ltb-false k (a .«num_lines») f in
+        omega (arith, pick-own (d .«set_type») (d .«num_chips») s (j - a .«num_lines») (k - a .«num_lines») (omega arith) (omega arith) p, g, h)
 
-  pub index-in : (k : ℕ) → k < inRange d + numPicks d → indexPosition d found c k < found .«num_addr_pins»
-  index-in k l = line-in (d .board) found _ _ (index-line k l)
+  pub index-in : (k : ℕ) → k < a .«num_lines» + numPicks d → indexPosition d a c k < a .«num_addr_pins»
+  index-in k l = line-in (d .board) a _ _ (index-line k l)
 
-  pub index-own : (j k : ℕ) → j < inRange d + numPicks d → k < inRange d + numPicks d → indexPosition d found c j ≡ indexPosition d found c k → j ≡ k
-  index-own j k l m e = pins-own j k l m (line-own (d .board) found _ _ _ _ (wired .unshared) (index-line j l) (index-line k m) e)
+  pub index-own : (j k : ℕ) → j < a .«num_lines» + numPicks d → k < a .«num_lines» + numPicks d → indexPosition d a c j ≡ indexPosition d a c k → j ≡ k
+  index-own j k l m e = pins-own j k l m (line-own (d .board) a _ _ _ _ (wired .unshared) (index-line j l) (index-line k m) e)

@@ -4,5 +4,4 @@ pub mod Values
 pub mod First
 pub mod Read
 pub mod Pins
-pub mod Found
 pub mod Apart

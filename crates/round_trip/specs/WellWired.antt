@@ -13,6 +13,7 @@ use Rattle.listing.specs.Choice.{CandidateOf}
 use Rattle.listing.specs.Lines.{kindPin, pinCandidates}
 use Rattle.addr_layout.specs.Lines.{firstPin}
 use Rattle.addr_layout.specs.Choices.{inRange}
+use Rattle.addr_layout.specs.Law.{InWindow}
 use Rattle.addr_layout.specs.declared.layout.XGpio.the-variants.{At}
 use Rattle.addr_layout.specs.declared.layout.AddrLayout.{AddrLayout}
 use Rattle.cs_data_layout.specs.Choices.{numData}
@@ -48,10 +49,6 @@ dataPin d n = getD (chip0 d .«data_pins») n 0
 
 abbrev pub selectPin : Description → ℕ
 selectPin d = kindPin d (d .multi .select)
-
--- a GPIO of the found address window
-abbrev pub InWindow : AddrLayout → ℕ → Type 0
-InWindow a g = (a .«gpio_base» ≤ g) × (g < a .«gpio_base» + a .«num_addr_pins»)
 
 -- "has one candidate in the found address window"
 pub record OneInside (a : AddrLayout) (c : Candidates) : Type 0 where
