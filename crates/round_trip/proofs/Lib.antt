@@ -5,3 +5,4 @@ pub mod First
 pub mod Read
 pub mod Pins
 pub mod Apart
+pub mod Told
