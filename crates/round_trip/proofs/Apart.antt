@@ -56,11 +56,11 @@ pickPin Single s k = x1
 pickPin Banked s k = xPin k
 pickPin Multi s k = cond (eqb k 0) (socket s) (xPin (k - 1))
 
-x-few : (n k : ℕ) (t : Bool) → leb 3 n ≡ t → k < cond t 2 1 → k < 2
+pub x-few : (n k : ℕ) (t : Bool) → leb 3 n ≡ t → k < cond t 2 1 → k < 2
 x-few n k true e l = l
 x-few n k false e l = omega arith
 
-x-third : (n k : ℕ) (t : Bool) → leb 3 n ≡ t → k < cond t 2 1 → 1 ≤ k → 3 ≤ n
+pub x-third : (n k : ℕ) (t : Bool) → leb 3 n ≡ t → k < cond t 2 1 → 1 ≤ k → 3 ≤ n
 x-third n k true e l h = leb-true 3 n e
 x-third n k false e l h = absurd (omega arith)
 

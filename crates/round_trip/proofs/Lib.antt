@@ -6,3 +6,6 @@ pub mod Read
 pub mod Pins
 pub mod Apart
 pub mod Told
+pub mod Given
+pub mod Accepted
+pub mod Bytes
