@@ -57,10 +57,17 @@ module _ (d : Description) (a : AddrLayout) (c : CsDataLayout) (s : StoredSlot) 
   unfolding layoutFault
   layout-none table e =
       let same : length table ≡ 2 ^ stored.pinsOf s * stored.wordBytes s = e ∙ sym (rw (g .pins, g .word-bytes)) in
-      rw (g .layout, eq-eqb (s .«alg_addr» .alg) 0 (g .alg-addr), le-ltb 255 (stored.addrBase s) (omega (arith, g .addr-base, small .base)),
-      le-ltb 1 (s .«alg_data» .alg) (g .alg-data), le-ltb 255 (stored.dataBase s) (omega (arith, g .data-base, small .data-base)),
-      eq-eqb (s .«alg_dma» .alg) 0 (g .alg-dma), le-ltb 1 (s .«alg_dma» .«bit_mode») (omega (arith, g .word-bytes, small .bytes)),
-      lt-leb 32 (stored.pinsOf s) (omega (arith, g .pins, small .pins)), eq-eqb (length table) _ same)
+      rw (
+        g .layout,
+        eq-eqb (s .«alg_addr» .alg) 0 (g .alg-addr),
+        le-ltb 255 (stored.addrBase s) (omega (arith, g .addr-base, small .base)),
+        le-ltb 1 (s .«alg_data» .alg) (g .alg-data),
+        le-ltb 255 (stored.dataBase s) (omega (arith, g .data-base, small .data-base)),
+        eq-eqb (s .«alg_dma» .alg) 0 (g .alg-dma),
+        le-ltb 1 (s .«alg_dma» .«bit_mode») (omega (arith, g .word-bytes, small .bytes)),
+        lt-leb 32 (stored.pinsOf s) (omega (arith, g .pins, small .pins)),
+        eq-eqb (length table) _ same,
+      )
 
   -- each ROM's map lies in the windows
   module _ (ca : ℕ) (sound : SoundLayout d ca a) (told : ToldApart d a c)
@@ -70,13 +77,13 @@ module _ (d : Description) (a : AddrLayout) (c : CsDataLayout) (s : StoredSlot) 
 
     lines-inside : each (stored.addrLines (stored.romAt s k)) (λ n. stored.inWindow s (getD (stored.romAt s k .addr) n 0)) ≡ true
     lines-inside = each-all _ _ (λ n m.
-      let used : n < a .«num_lines» = omega (arith, rom .lines, m) in
-      is-window d a c s g _ (subst (InWindow a) (sym (rom .line n used)) (sound .line-window n used)))
+        let used : n < a .«num_lines» = omega (arith, rom .lines, m) in
+        is-window d a c s g _ (subst (InWindow a) (sym (rom .line n used)) (sound .line-window n used)))
 
     data-inside : each (stored.dataLines (stored.romAt s k)) (λ n. stored.within (stored.dataBase s) (8 * stored.wordBytes s) (getD (stored.romAt s k .«data_lines») n 0)) ≡ true
     data-inside = each-all _ _ (λ n m.
-      let used : n < c .«num_data_pins» = omega (arith, rom .data-lines, m) in
-      rw (rom .data-line n used, g .data-base, g .word-bytes, le-leb _ _ (above n used), lt-ltb _ _ (told .data-in n used)))
+        let used : n < c .«num_data_pins» = omega (arith, rom .data-lines, m) in
+        rw (rom .data-line n used, g .data-base, g .word-bytes, le-leb _ _ (above n used), lt-ltb _ _ (told .data-in n used)))
 
     rom-none : romFault s k ≡ None
     unfolding romFault
@@ -131,8 +138,11 @@ module _ (d : Description) (a : AddrLayout) (c : CsDataLayout) (s : StoredSlot) 
     -- in Multi the select is in the window
     select-none : isMulti (d .«set_type») ≡ true → InWindow a (stored.selectGpio s) → selectFault s ≡ None
     select-none m w =
-        rw (eq-eqb (s .«alg_cs» .alg) 0 (g .alg-cs m), le-ltb 255 (stored.selectGpio s) (omega (arith, w .1, small .base, small .pins)),
-        is-window d a c s g (stored.selectGpio s) w)
+        rw (
+          eq-eqb (s .«alg_cs» .alg) 0 (g .alg-cs m),
+          le-ltb 255 (stored.selectGpio s) (omega (arith, w .1, small .base, small .pins)),
+          is-window d a c s g (stored.selectGpio s) w,
+        )
 
     pick-none : (t : ChipSetType) → d .«set_type» ≡ t → (isMulti (d .«set_type») ≡ true → InWindow a (stored.selectGpio s)) → pickFault s t ≡ None
     pick-none Single e w = refl

@@ -105,8 +105,8 @@ module _ (d : Description) (a : AddrLayout) (c : CsDataLayout) (s : StoredSlot) 
     free-index : (i : ℕ) → stored.free s i ≡ true
     unfolding stored.free
     free-index i = each-all _ (stored.pinsOf s) (λ p l.
-      let u = g .unforced (stored.addrBase s + p) (omega (arith, g .addr-base), omega (arith, g .addr-base, g .pins, l)) in
-      free-bit p (bit i p) _ _ (u .1) (u .0))
+        let u = g .unforced (stored.addrBase s + p) (omega (arith, g .addr-base), omega (arith, g .addr-base, g .pins, l)) in
+        free-bit p (bit i p) _ _ (u .1) (u .0))
 
     pub fitted : Fitted d a c s
     fitted = record {
