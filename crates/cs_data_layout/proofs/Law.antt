@@ -38,7 +38,7 @@ use Rattle.cs_data_layout.proofs.Why.{first-is, FirstIs, last-is, LastI
 fits-scores : (v : Verdict) (t : ℕ) → v ≡ Fits t → trialOf v ≡ Score t
 fits-scores v t e = rw e
 
-scores-fit : (v : Verdict) (t : ℕ) → trialOf v ≡ Score t → v ≡ Fits t
+pub scores-fit : (v : Verdict) (t : ℕ) → trialOf v ≡ Score t → v ≡ Fits t
 scores-fit DataGap t e = let z : _≡_ {A = ℕ} 0 1 = cc in absurd (omega arith)
 scores-fit (SelectGap s) t e = let z : _≡_ {A = ℕ} 0 1 = cc in absurd (omega arith)
 scores-fit OutsideWindow t e = let z : _≡_ {A = ℕ} 0 1 = cc in absurd (omega arith)

@@ -9,3 +9,4 @@ pub mod Told
 pub mod Given
 pub mod Accepted
 pub mod Bytes
+pub mod Laid
