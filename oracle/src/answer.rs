@@ -9,11 +9,14 @@ use crate::model::domain;
 use crate::slot::{BANKED_ROM, ChipBytes, MULTI_ROM, Rom, SINGLE_ROM, Slot};
 
 pub fn answer(engine: &dyn Engine, case: &Case) -> String {
-    let kind = case.kind();
-    let told = match case {
-        Case::Chain(record, images) => return chain_line(engine, record, images),
-        _ => fields(engine, case),
-    };
+    match case {
+        Case::Chain(record, images) => chain_line(engine, record, images),
+        _ => line(case.kind(), fields(engine, case)),
+    }
+}
+
+/// The line of any kind but the chain's.
+pub fn line(kind: u64, told: Told<Vec<u64>>) -> String {
     match told {
         Ok(fields) => {
             let mut numbers = vec![kind, 0, 0];
@@ -37,7 +40,7 @@ fn fields(engine: &dyn Engine, case: &Case) -> Told<Vec<u64>> {
         Case::SelectSearch(record, address) => {
             Ok(select_search(engine, &described(record)?, address.as_ref())?.fields())
         }
-        Case::Build(case) => build(engine, case),
+        Case::Build(case) => Ok(table_fields(&build(engine, case)?)),
         Case::ReadBack(case) => read_back(engine, case),
         Case::Chain(..) => unreachable!("a chain's answer has a line of its own"),
     }
@@ -99,7 +102,8 @@ fn select_search(
     engine.select_search(slot, address)
 }
 
-fn build(engine: &dyn Engine, case: &Build) -> Told<Vec<u64>> {
+/// The table itself, of which an answer has the length and the checksum.
+pub fn build(engine: &dyn Engine, case: &Build) -> Told<Vec<u8>> {
     let slot = described(&case.record)?;
     if !domain::address_layout(&slot, &case.address) || !domain::select_layout(&case.select) {
         return refused(1, 0);
@@ -110,8 +114,11 @@ fn build(engine: &dyn Engine, case: &Build) -> Told<Vec<u64>> {
         images: &case.images,
         table_length: case.table_length as usize,
     };
-    let table = engine.build(&slot, &job)?;
-    Ok(vec![table.len() as u64, checksum(&table)])
+    engine.build(&slot, &job)
+}
+
+pub fn table_fields(table: &[u8]) -> Vec<u64> {
+    vec![table.len() as u64, checksum(table)]
 }
 
 fn read_back(engine: &dyn Engine, case: &ReadBack) -> Told<Vec<u64>> {
@@ -181,12 +188,8 @@ fn chain(
         marks: usize::MAX,
     };
     let found = engine.read_back(&fitted(&slot, &address, &select, table.len()), &table, lent)?;
-    let mut fields = vec![
-        u64::from(address.base),
-        u64::from(address.pins),
-        table.len() as u64,
-        checksum(&table),
-    ];
+    let mut fields = vec![u64::from(address.base), u64::from(address.pins)];
+    fields.extend(table_fields(&table));
     fields.extend(recovered_fields(&found));
     Ok(fields)
 }

@@ -7,6 +7,7 @@ pub mod answer;
 mod bench_cases;
 pub mod case;
 pub mod description;
+pub mod differences;
 pub mod engine;
 pub mod fields;
 pub mod generate;
@@ -19,8 +20,6 @@ pub mod tally;
 
 #[cfg(original)]
 pub mod compare;
-#[cfg(original)]
-pub mod differences;
 #[cfg(original)]
 pub mod list;
 #[cfg(original)]
@@ -40,15 +39,16 @@ use stand_in::{Error, MAX_IMAGE_SIZE, Result};
 include!(concat!(env!("OUT_DIR"), "/original.rs"));
 
 use description::Description;
-use engine::{Engine, Told};
+use engine::{Engine, Job, Told};
 use layout::{AddressLayout, SelectLayout};
 
 /// What is said where the original cannot answer.
 pub const SKIPPED: &str = "original sources not found: skipped";
 
-/// A search of the original on one description, to be run any number of times.
+/// A search or build of the original on one description, to be run any number of times.
 pub type AddressSearch = Box<dyn Fn() -> Told<AddressLayout>>;
 pub type SelectSearch = Box<dyn Fn() -> Told<SelectLayout>>;
+pub type Build = Box<dyn Fn() -> Told<Vec<u8>>>;
 
 /// The original, if its files were there at the build.
 #[cfg(original)]
@@ -87,6 +87,17 @@ pub fn prepared_select_search(
     _slot: &Description,
     _address: Option<&AddressLayout>,
 ) -> Option<SelectSearch> {
+    None
+}
+
+/// The original's build in the same way, the chips' bytes made too.
+#[cfg(original)]
+pub fn prepared_build(slot: &Description, job: &Job) -> Option<Build> {
+    Some(original::prepared_build(slot, job))
+}
+
+#[cfg(not(original))]
+pub fn prepared_build(_slot: &Description, _job: &Job) -> Option<Build> {
     None
 }
 

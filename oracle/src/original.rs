@@ -196,6 +196,22 @@ pub fn prepared_select_search(
     })
 }
 
+/// The build in the same way, with the chips' bytes made once.
+pub fn prepared_build(slot: &Description, job: &Job) -> crate::Build {
+    let largest_table = slot.largest_table as usize;
+    let address = to_original_address(job.address);
+    let select = to_original_select(job.select);
+    let set_type = set_type(slot);
+    let chips = chips(slot, job);
+    let dma = OneromAlgDmaConfig::AlgDma0 {
+        bit_mode: MaybeKnown::Known(bit_mode(slot.word_bytes)),
+    };
+    Box::new(move || {
+        set_largest_table(largest_table);
+        told(|| build_rom_image(&address, &select, set_type, &chips, &dma).map_err(build_refusal))
+    })
+}
+
 fn layout_refusal(error: LayoutError) -> Failure {
     match error {
         LayoutError::NoSelectLine { .. } => refusal(2, 0),
@@ -489,16 +505,7 @@ impl Engine for Original {
     }
 
     fn build(&self, slot: &Description, job: &Job) -> Told<Vec<u8>> {
-        set_largest_table(slot.largest_table as usize);
-        let address = to_original_address(job.address);
-        let select = to_original_select(job.select);
-        let dma = OneromAlgDmaConfig::AlgDma0 {
-            bit_mode: MaybeKnown::Known(bit_mode(slot.word_bytes)),
-        };
-        let chips = chips(slot, job);
-        told(|| {
-            build_rom_image(&address, &select, set_type(slot), &chips, &dma).map_err(build_refusal)
-        })
+        prepared_build(slot, job)()
     }
 
     fn read_back(&self, slot: &Slot, data: &[u8], _lent: Lent) -> Told<Recovered> {

@@ -25,3 +25,8 @@ pub fn case(seed: u64, number: u64, kinds: &[u64]) -> Case {
         _ => slots::chain(&mut random),
     }
 }
+
+/// A build of a table of 512 KiB: kind 7 has hardly any.
+pub fn large_build(seed: u64, number: u64) -> Case {
+    slots::large_build(&mut Random::of_case(seed, number))
+}

@@ -3,7 +3,7 @@
 use super::{tables, wiring};
 use crate::case::{Build, Case};
 use crate::description::Description;
-use crate::layout::AddressLayout;
+use crate::layout::{AddressLayout, SelectLayout};
 use crate::model::{address, domain, select};
 use crate::random::Random;
 use crate::slot::ChipBytes;
@@ -89,6 +89,27 @@ pub fn build(random: &mut Random) -> Case {
         tables::damage_layouts(random, &mut address, &mut select);
     }
     within_qualifiers(&mut slot, &address);
+    build_case(random, slot, address, select)
+}
+
+/// A table of 512 KiB over a window whose GPIOs nearly all count.
+pub fn large_build(random: &mut Random) -> Case {
+    let mut slot = wiring::description(random);
+    slot.largest_table = 1 << 19;
+    let pins = 20 - usize::from(slot.word_bytes);
+    let (address, select) = tables::full_layouts(random, &slot, pins);
+    tables::words_fit(random, &mut slot, address.lines.len());
+    within_qualifiers(&mut slot, &address);
+    build_case(random, slot, address, select)
+}
+
+/// The case with bytes for the chips and a table lent, mostly as long as needed.
+fn build_case(
+    random: &mut Random,
+    slot: Description,
+    address: AddressLayout,
+    select: SelectLayout,
+) -> Case {
     let length = (1u64 << address.pins) * u64::from(slot.word_bytes);
     let length = length.min(1 << 21) as u32;
     let table_length = match random.below(40) {

@@ -3,7 +3,7 @@
 use super::{faults, slots, wiring};
 use crate::answer::fitted;
 use crate::case::{Case, ReadBack};
-use crate::description::{Description, NONE, Pin, SINGLE};
+use crate::description::{Description, MULTI, NONE, Pin, SINGLE};
 use crate::engine::Job;
 use crate::layout::{AddressLayout, SelectLayout};
 use crate::model::build;
@@ -31,6 +31,35 @@ pub fn layouts(random: &mut Random, slot: &Description) -> (AddressLayout, Selec
         excess: Vec::new(),
     };
     (address, select_layout(random, slot, first))
+}
+
+/// Layouts over a window of this many pins: what picks the chip, and address lines on the rest, now
+/// and then but for one or two.
+pub fn full_layouts(
+    random: &mut Random,
+    slot: &Description,
+    pins: usize,
+) -> (AddressLayout, SelectLayout) {
+    let base = random.between(0, 48 - pins);
+    let mut window: Vec<u8> = (base..base + pins).map(|gpio| gpio as u8).collect();
+    random.shuffle(&mut window);
+    let x_pins = match slot.set_type {
+        SINGLE => 0,
+        _ => slot.chips.len() - 1,
+    };
+    let x1 = window.pop_if(|_| x_pins > 0);
+    let x2 = window.pop_if(|_| x_pins > 1);
+    let first = window.pop_if(|_| slot.set_type == MULTI);
+    window.truncate(window.len() - random.pick(&[0, 0, 0, 1, 2]));
+    let address = AddressLayout {
+        base: base as u8,
+        pins: pins as u8,
+        x1,
+        x2,
+        lines: window,
+        excess: Vec::new(),
+    };
+    (address, select_layout(random, slot, first.unwrap_or(0)))
 }
 
 /// A layout with one select line and the data lines of a word side by side, in any order.
@@ -110,7 +139,8 @@ fn change(random: &mut Random, gpios: &mut [u8]) {
     }
 }
 
-fn words_fit(random: &mut Random, slot: &mut Description, lines: usize) {
+/// Sizes around what the lines reach.
+pub fn words_fit(random: &mut Random, slot: &mut Description, lines: usize) {
     for chip in &mut slot.chips {
         let full = u32::from(slot.word_bytes) << lines;
         let some = random.below(full as usize + 1) as u32;
