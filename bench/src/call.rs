@@ -1,8 +1,12 @@
 //! The calls over the C interface.
 
+use crate::images;
 use crate::layout::addr::{self, AddrLayout};
 use crate::layout::cs_data::{self, CsDataLayout};
-use crate::refusal::{Refusal, Search};
+use crate::refusal::{Call, Refusal};
+
+/// No description allows a larger table.
+const LARGEST_TABLE: u64 = 1 << 20;
 
 unsafe extern "C" {
     fn onerom_derive_addr_layout(
@@ -19,6 +23,21 @@ unsafe extern "C" {
         addr_layout_len: usize,
         layout: *mut u8,
         layout_len: usize,
+    ) -> u64;
+
+    fn onerom_build_rom_image(
+        description: *const u8,
+        description_len: usize,
+        addr_layout: *const u8,
+        addr_layout_len: usize,
+        cs_data_layout: *const u8,
+        cs_data_layout_len: usize,
+        spans: *const u8,
+        spans_len: usize,
+        images: *const u8,
+        images_len: usize,
+        table: *mut u8,
+        table_len: usize,
     ) -> u64;
 }
 
@@ -42,7 +61,7 @@ pub fn derive_addr_layout_into(description: &[u8], layout: &mut [u8]) -> u64 {
 pub fn derive_addr_layout(description: &[u8]) -> Result<AddrLayout, Refusal> {
     let mut record = [0; addr::LENGTH];
     let result = derive_addr_layout_into(description, &mut record);
-    match Refusal::of(Search::Address, result) {
+    match Refusal::of(Call::Address, result) {
         None => Ok(AddrLayout::read(&record)),
         Some(refusal) => Err(refusal),
     }
@@ -76,8 +95,73 @@ pub fn derive_cs_data_layout(
 ) -> Result<CsDataLayout, Refusal> {
     let mut record = [0; cs_data::LENGTH];
     let result = derive_cs_data_layout_into(description, addr_layout, &mut record);
-    match Refusal::of(Search::Select, result) {
+    match Refusal::of(Call::Select, result) {
         None => Ok(CsDataLayout::read(&record)),
         Some(refusal) => Err(refusal),
     }
+}
+
+/// The build in the same way: the table at the front of the lent buffer. The images are the bytes
+/// of all chips, and the spans say where each chip's stand.
+pub fn build_rom_image_into(
+    description: &[u8],
+    addr_layout: &[u8],
+    cs_data_layout: &[u8],
+    spans: &[u8],
+    images: &[u8],
+    table: &mut [u8],
+) -> u64 {
+    // SAFETY: as above.
+    unsafe {
+        onerom_build_rom_image(
+            description.as_ptr(),
+            description.len(),
+            addr_layout.as_ptr(),
+            addr_layout.len(),
+            cs_data_layout.as_ptr(),
+            cs_data_layout.len(),
+            spans.as_ptr(),
+            spans.len(),
+            images.as_ptr(),
+            images.len(),
+            table.as_mut_ptr(),
+            table.len(),
+        )
+    }
+}
+
+/// The table of the slot that a record describes, by its layouts' records and the bytes of its
+/// chips. A chip past the list's end has none.
+pub fn build_rom_image(
+    description: &[u8],
+    addr_layout: &[u8],
+    cs_data_layout: &[u8],
+    images: &[Option<&[u8]>],
+) -> Result<Vec<u8>, Refusal> {
+    let (spans, bytes) = images::joined(images);
+    let mut table = vec![0; table_length(description, addr_layout)];
+    let result = build_rom_image_into(
+        description,
+        addr_layout,
+        cs_data_layout,
+        &spans,
+        &bytes,
+        &mut table,
+    );
+    match Refusal::of(Call::Build, result) {
+        None => Ok(table),
+        Some(refusal) => Err(refusal),
+    }
+}
+
+/// How long the table is that these records ask for; 0 where no limit allows it, since such a table
+/// is refused before the buffer is looked at.
+pub fn table_length(description: &[u8], addr_layout: &[u8]) -> usize {
+    let (Some(&word_bytes), Some(&pins)) = (description.get(3), addr_layout.get(1)) else {
+        return 0;
+    };
+    let length = addr::table_bytes(pins, word_bytes);
+    length
+        .filter(|&length| length <= LARGEST_TABLE)
+        .unwrap_or(0) as usize
 }

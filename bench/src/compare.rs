@@ -1,22 +1,27 @@
 //! The oracle's cases through the static library, against the original and the model.
 
-mod searches;
+mod build;
+mod calls;
+mod records;
 
 use std::collections::BTreeMap;
 use std::process::ExitCode;
 
-use oracle::answer::answer;
 use oracle::case::{Case, line_of};
 use oracle::engine::Engine;
 use oracle::model::Model;
 use oracle::random::Random;
 use oracle::tally::Tally;
-use oracle::{SKIPPED, generate};
+use oracle::{SKIPPED, differences, generate};
 
-use searches::{AddressSearch, Search, SelectSearch};
+use build::Build;
+use calls::{AddressSearch, Answer, Call, SelectSearch};
 
 /// What the lent buffer holds before a call.
 const FILL: u8 = 0xA5;
+
+/// Bytes behind the lent ones, in which any write would show.
+const BEHIND: usize = 4;
 
 const OUT_OF_DOMAIN: u64 = 1;
 const SHORT_BUFFER: u64 = 16;
@@ -24,81 +29,117 @@ const SHORT_BUFFER: u64 = 16;
 /// A result has the refusal's number from this bit on, and its place below.
 const PLACES: u32 = 48;
 
+/// The original and the model.
+type Both<'a> = [&'a dyn Engine; 2];
+
 #[derive(Default)]
 struct Seen {
     count: u64,
     /// How many no case can be, so that docs/INTERFACE.md alone has their answer.
     unsaid: u64,
     tally: Tally,
+    /// Where the original parts from 01, by the number in docs/DIFFERENCES.md.
+    listed: BTreeMap<u32, u64>,
     different: BTreeMap<&'static str, u64>,
     example: Option<String>,
 }
 
-/// Each case of each search as it is, with a buffer that is too short, and with one byte wrong.
-/// Fails on any difference.
+/// Each case of each call as it is, with a buffer that is too short, and with one byte wrong. Fails
+/// on any difference that is on no list.
 pub fn compare(seed: u64, count: u64) -> ExitCode {
+    judged(|both| {
+        let good = [
+            compare_call::<AddressSearch>(both, seed, count, case_of::<AddressSearch>),
+            compare_call::<SelectSearch>(both, seed, count, case_of::<SelectSearch>),
+            compare_call::<Build>(both, seed, count, case_of::<Build>),
+        ];
+        good == [true; 3]
+    })
+}
+
+/// The same with builds of 512 KiB.
+pub fn compare_large(seed: u64, count: u64) -> ExitCode {
+    judged(|both| compare_call::<Build>(both, seed, count, generate::large_build))
+}
+
+fn judged(is_good: impl FnOnce(Both) -> bool) -> ExitCode {
     let Some(original) = oracle::original() else {
         println!("{SKIPPED}");
         return ExitCode::SUCCESS;
     };
     oracle::quiet_panics();
-    let both: [&dyn Engine; 2] = [original, &Model];
-    let good = compare_search::<AddressSearch>(both, seed, count);
-    if compare_search::<SelectSearch>(both, seed, count) && good {
+    if is_good([original, &Model]) {
         ExitCode::SUCCESS
     } else {
         ExitCode::FAILURE
     }
 }
 
+fn case_of<C: Call>(seed: u64, number: u64) -> Case {
+    generate::case(seed, number, &[C::KIND])
+}
+
 /// Whether nothing differed.
-fn compare_search<S: Search>(both: [&dyn Engine; 2], seed: u64, count: u64) -> bool {
+fn compare_call<C: Call>(both: Both, seed: u64, count: u64, cases: fn(u64, u64) -> Case) -> bool {
     let (mut whole, mut changed) = (Seen::default(), Seen::default());
     for number in 0..count {
-        let case = generate::case(seed, number, &[S::KIND]);
-        let Some(search) = S::of(&case) else {
+        let case = cases(seed, number);
+        let Some(call) = C::of(&case) else {
             continue;
         };
-        whole.add(&search, Some(&case), both);
+        whole.add(&call, Some(&case), both);
         // Other numbers than the case was made of.
         let mut random = Random::of_case(!seed, number);
-        let damaged = search.damaged(&mut random);
-        changed.add(&damaged, damaged.case().as_ref(), both);
+        let (damaged, case) = call.damaged(&mut random);
+        changed.add(&damaged, case.as_ref(), both);
     }
-    println!("{}, the oracle's cases", S::NAME);
+    println!("{}, the oracle's cases", C::NAME);
     let good = whole.print();
-    println!("{}, the same with one byte wrong", S::NAME);
+    println!("{}, the same with one byte wrong", C::NAME);
     changed.print() && good
 }
 
 impl Seen {
     /// Holds the library's answer against those of the original and the model to the same case;
     /// without a case, against 1.
-    fn add<S: Search>(&mut self, search: &S, case: Option<&Case>, both: [&dyn Engine; 2]) {
-        let (result, ours) = ours(search);
+    fn add<C: Call>(&mut self, call: &C, case: Option<&Case>, both: Both) {
+        let (result, ours) = ours(call);
         self.count += 1;
-        self.tally.add(&ours);
+        self.tally.add(&ours.line);
         let wanted = match case {
-            Some(case) => vec![
-                ("the original", answer(both[0], case)),
-                ("the model", answer(both[1], case)),
-            ],
+            Some(case) => self.wanted(case, both),
             None => {
                 self.unsaid += 1;
-                let refused = line_of(&[S::KIND, OUT_OF_DOMAIN, 0]);
-                vec![("docs/INTERFACE.md", refused)]
+                let line = line_of(&[C::KIND, OUT_OF_DOMAIN, 0]);
+                let table = Vec::new();
+                vec![("docs/INTERFACE.md", Answer { line, table })]
             }
         };
-        let handed_in = || case.map_or_else(|| format!("{:?}", search.bytes()), Case::line);
+        let handed_in = || case.map_or_else(|| format!("{:?}", call.bytes()), Case::line);
         for (who, theirs) in wanted {
             if ours != theirs {
-                self.note(who, &handed_in(), &ours, &theirs);
+                self.note(who, &handed_in(), &ours.line, &theirs.line);
             }
         }
-        if !refuses_short_buffer(search, result) {
+        if !refuses_short_buffer(call, result) {
             let (who, wanted) = ("01 on a buffer too short", "16, nothing written");
-            self.note(who, &handed_in(), &ours, wanted);
+            self.note(who, &handed_in(), &ours.line, wanted);
         }
+    }
+
+    /// Whose answers count: the model's alone where docs/DIFFERENCES.md has the case.
+    fn wanted(&mut self, case: &Case, both: Both) -> Vec<(&'static str, Answer)> {
+        let [original, model] = both.map(|engine| Answer::of(engine, case));
+        let listed = if original == model {
+            None
+        } else {
+            differences::number(case, &original.line, &model.line)
+        };
+        let Some(number) = listed else {
+            return vec![("the original", original), ("the model", model)];
+        };
+        *self.listed.entry(number).or_default() += 1;
+        vec![("the model", model)]
     }
 
     fn note(&mut self, who: &'static str, case: &str, ours: &str, theirs: &str) {
@@ -113,6 +154,9 @@ impl Seen {
         if self.unsaid > 0 {
             println!("  held against docs/INTERFACE.md alone: {}", self.unsaid);
         }
+        for (listed, number) in &self.listed {
+            println!("  held against the model alone, difference {listed}: {number}");
+        }
         for (who, number) in &self.different {
             println!("  different from {who}: {number}");
         }
@@ -125,24 +169,36 @@ impl Seen {
     }
 }
 
-/// The library's result, and its answer as a line of docs/CASES.md. Where it wrote more or less
-/// than the record, the line says so and equals no other.
-fn ours<S: Search>(search: &S) -> (u64, String) {
-    let mut lent = vec![FILL; S::LENGTH + 4];
-    let result = search.call(&mut lent);
-    let (fields, past) = match result {
-        0 => (S::numbers(&lent[..S::LENGTH]), &lent[S::LENGTH..]),
-        _ => (Some(Vec::new()), &lent[..]),
+/// The library's result, and its answer. Where it wrote more or less than it says, the line says so
+/// and equals no other.
+fn ours<C: Call>(call: &C) -> (u64, Answer) {
+    let (result, buffer) = called(call, call.lent());
+    let success = result == 0;
+    let parts = buffer.split_at_checked(if success { call.length() } else { 0 });
+    let written = parts
+        .filter(|(_, past)| untouched(past))
+        .map(|parts| parts.0);
+    let fields = match written {
+        Some(written) if success => C::numbers(written),
+        refused => refused.map(|_| Vec::new()),
     };
-    let mut numbers = vec![S::KIND, result >> PLACES, place(result)];
-    let line = match fields.filter(|_| untouched(past)) {
+    let mut numbers = vec![C::KIND, result >> PLACES, place(result)];
+    let line = match fields {
         Some(fields) => {
             numbers.extend(fields);
             line_of(&numbers)
         }
         None => line_of(&numbers) + " and the buffer is wrong",
     };
-    (result, line)
+    let table = written.map_or(Vec::new(), C::table);
+    (result, Answer { line, table })
+}
+
+/// The result with so many bytes lent, and these with the ones behind them.
+fn called<C: Call>(call: &C, lent: usize) -> (u64, Vec<u8>) {
+    let mut buffer = vec![FILL; lent + BEHIND];
+    let result = call.call(&mut buffer[..lent]);
+    (result, buffer)
 }
 
 fn place(result: u64) -> u64 {
@@ -153,12 +209,12 @@ fn untouched(lent: &[u8]) -> bool {
     lent.iter().all(|&byte| byte == FILL)
 }
 
-/// A buffer one byte short: 16 where a layout was found, else the same refusal, nothing written.
-fn refuses_short_buffer<S: Search>(search: &S, result: u64) -> bool {
-    let mut short = vec![FILL; S::LENGTH - 1];
+/// A buffer one byte short: 16 where the call succeeded, else the same refusal, nothing written.
+fn refuses_short_buffer<C: Call>(call: &C, result: u64) -> bool {
     let wanted = match result {
         0 => SHORT_BUFFER << PLACES,
         refused => refused,
     };
-    search.call(&mut short) == wanted && untouched(&short)
+    let (short, buffer) = called(call, call.length().saturating_sub(1));
+    short == wanted && untouched(&buffer)
 }

@@ -1,6 +1,8 @@
-//! The bench program: lays out the sample or a described board, compares and measures.
+//! The bench program: lays out the sample or a described board, builds its table, compares and
+//! measures.
 
 mod compare;
+mod make;
 mod plain;
 mod speed;
 
@@ -9,20 +11,24 @@ use std::io::Write;
 use std::path::Path;
 use std::process::ExitCode;
 
-use onerom_bench::{
-    Description, Refusal, Search, derive_addr_layout, derive_cs_data_layout, show, text,
-};
+use onerom_bench::{Description, Refusal, derive_addr_layout, derive_cs_data_layout, show, text};
 
 const SAMPLE: &str = include_str!("../sample/2764.txt");
 
 const USAGE: &str = "bench            lay out the sample, a 2764 on a 28-pin board
 bench FILE       lay out the slot that the file describes
+bench build FILE TABLE CHIP..
+                 build the slot's table from a file for each chip, - for none
 bench compare SEED COUNT
                  hold the library against the original and the model
+bench compare-large SEED COUNT
+                 the same with builds of 512 KiB
 bench speed      measure the library and the original";
 
-/// A file that is no description, or words that are no command.
+/// A file that cannot be used, or words that are no command.
 const UNREAD: u8 = 2;
+
+const COMMANDS: [&str; 3] = ["build", "compare", "compare-large"];
 
 fn main() -> ExitCode {
     let given: Vec<OsString> = std::env::args_os().skip(1).collect();
@@ -31,50 +37,56 @@ fn main() -> ExitCode {
         .map(|word| word.to_str().unwrap_or(""))
         .collect();
     match words[..] {
-        [] => lay_out("sample", SAMPLE.as_bytes()),
+        [] => lay_out(sample()),
         ["speed"] => speed::speed(),
-        ["compare", seed, count] => match (seed.parse(), count.parse()) {
-            (Ok(seed), Ok(count)) => compare::compare(seed, count),
-            _ => usage(),
-        },
-        [word] if word != "compare" && !word.starts_with('-') => lay_out_file(Path::new(&given[0])),
+        ["build", _, _, _, ..] => make::make(&given[1], &given[2], &given[3..]),
+        ["compare", seed, count] => on_cases(seed, count, compare::compare),
+        ["compare-large", seed, count] => on_cases(seed, count, compare::compare_large),
+        [word] if !COMMANDS.contains(&word) && !word.starts_with('-') => {
+            lay_out(described(Path::new(&given[0])))
+        }
         _ => usage(),
     }
 }
 
 fn usage() -> ExitCode {
-    eprintln!("{USAGE}");
-    ExitCode::from(UNREAD)
+    unread(USAGE)
 }
 
-fn lay_out_file(file: &Path) -> ExitCode {
-    match std::fs::read(file) {
-        Ok(bytes) => lay_out(&file.display().to_string(), &bytes),
-        Err(why) => {
-            eprintln!("{}: {why}", file.display());
-            ExitCode::from(UNREAD)
-        }
+fn on_cases(seed: &str, count: &str, compare: fn(u64, u64) -> ExitCode) -> ExitCode {
+    match (seed.parse(), count.parse()) {
+        (Ok(seed), Ok(count)) => compare(seed, count),
+        _ => usage(),
     }
 }
 
-fn lay_out(name: &str, bytes: &[u8]) -> ExitCode {
-    let slot = match text::read_bytes(bytes) {
-        Ok(slot) => slot,
-        Err(why) => {
-            eprintln!("{name}, {why}");
-            return ExitCode::from(UNREAD);
-        }
-    };
-    match print_layouts(&slot) {
-        Ok(()) => ExitCode::SUCCESS,
-        Err(refusal) => {
-            let who = match refusal.search {
-                Search::Address => "",
-                Search::Select => "\nselect search ",
-            };
-            say(&format!("{who}refused: {refusal}\n"));
-            ExitCode::FAILURE
-        }
+/// Says why there is nothing to be done.
+fn unread(why: &str) -> ExitCode {
+    eprintln!("{why}");
+    ExitCode::from(UNREAD)
+}
+
+fn refused(refusal: &Refusal) -> ExitCode {
+    say(&format!("{} refused: {refusal}\n", refusal.call));
+    ExitCode::FAILURE
+}
+
+fn sample() -> Result<Description, String> {
+    text::read(SAMPLE).map_err(|why| format!("sample, {why}"))
+}
+
+/// The slot that a file describes.
+fn described(file: &Path) -> Result<Description, String> {
+    let name = file.display();
+    let bytes = std::fs::read(file).map_err(|why| format!("{name}: {why}"))?;
+    text::read_bytes(&bytes).map_err(|why| format!("{name}, {why}"))
+}
+
+fn lay_out(slot: Result<Description, String>) -> ExitCode {
+    match slot.map(|slot| print_layouts(&slot)) {
+        Ok(Ok(())) => ExitCode::SUCCESS,
+        Ok(Err(refusal)) => refused(&refusal),
+        Err(why) => unread(&why),
     }
 }
 
@@ -84,8 +96,8 @@ fn print_layouts(slot: &Description) -> Result<(), Refusal> {
     let addr = derive_addr_layout(&record)?;
     say(&show::addr_summary(slot, &addr));
     say(&show::addr_table(&addr));
-    let cs_data = derive_cs_data_layout(&record, &addr.to_bytes())?;
     say("\n");
+    let cs_data = derive_cs_data_layout(&record, &addr.to_bytes())?;
     say(&show::cs_data_summary(&cs_data));
     say(&show::cs_data_table(&cs_data));
     Ok(())

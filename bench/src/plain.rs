@@ -1,6 +1,6 @@
 //! The library's values as the oracle has them, and back.
 
-use onerom_bench::layout::cs_data::{Line, Qualifiers};
+use onerom_bench::layout::cs_data::{Line, Qualifiers, Role};
 use onerom_bench::{AddrLayout, CsDataLayout, Refusal};
 use oracle::engine::Failure;
 use oracle::layout::{AddressLayout, Qualifier, SelectLayout};
@@ -16,8 +16,8 @@ pub fn address(layout: AddrLayout) -> AddressLayout {
     }
 }
 
-/// The oracle's layout as the library takes it.
-pub fn handed_in(layout: AddressLayout) -> AddrLayout {
+/// The oracle's layouts as the library takes them.
+pub fn to_address(layout: AddressLayout) -> AddrLayout {
     AddrLayout {
         base: layout.base,
         pins: layout.pins,
@@ -45,6 +45,33 @@ pub fn select(layout: CsDataLayout) -> SelectLayout {
         select: lines(&layout.select),
         commoned: lines(&layout.commoned),
     }
+}
+
+pub fn to_select(layout: SelectLayout) -> CsDataLayout {
+    let qualifiers = |given: Qualifier| Qualifiers {
+        base_pin: given.base_pin,
+        pins: given.pins,
+        pattern: given.pattern,
+    };
+    CsDataLayout {
+        base: layout.base,
+        base_data_pin: layout.base_data_pin,
+        data: layout.data,
+        base_cs_pin: layout.base_cs_pin,
+        cs_pins: layout.cs_pins,
+        ignore_index: layout.ignore,
+        qualifiers: layout.qualifier.map(qualifiers),
+        select: to_lines(&layout.select),
+        commoned: to_lines(&layout.commoned),
+    }
+}
+
+fn to_lines(lines: &[oracle::layout::Line]) -> Vec<Line> {
+    let line = |&(role, gpio): &oracle::layout::Line| Line {
+        role: Role::of(role),
+        gpio,
+    };
+    lines.iter().map(line).collect()
 }
 
 fn lines(lines: &[Line]) -> Vec<oracle::layout::Line> {

@@ -2,18 +2,29 @@
 
 use std::fmt;
 
-/// A search of the library.
+/// A call of the library.
 #[derive(Debug, Clone, Copy, PartialEq, Eq)]
-pub enum Search {
+pub enum Call {
     Address,
     Select,
+    Build,
 }
 
-/// Why a search gave no layout.
+impl fmt::Display for Call {
+    fn fmt(&self, f: &mut fmt::Formatter<'_>) -> fmt::Result {
+        f.write_str(match self {
+            Self::Address => "address search",
+            Self::Select => "select search",
+            Self::Build => "build",
+        })
+    }
+}
+
+/// Why a call gave no layout or table.
 #[derive(Debug, Clone, Copy, PartialEq, Eq)]
 pub struct Refusal {
     /// Who refused: a number can mean one thing in one search and another in the other.
-    pub search: Search,
+    pub call: Call,
     pub number: u16,
     pub name: &'static str,
     pub place: u64,
@@ -103,7 +114,7 @@ const ROWS: [Row; 25] = [
     row(
         "BadPosition",
         Place::Nothing,
-        "a line lies outside the table's index",
+        "a line's position is not 0 to 31, or a needed X pin or select line is absent",
     ),
     row("MissingImageData", Place::Chip, "a chip has no bytes"),
     row(
@@ -180,26 +191,26 @@ const UNKNOWN: Row = row(
 const PLACES: u32 = 48;
 
 impl Refusal {
-    /// The refusal that a search's result says; none if the result is a success.
-    pub fn of(search: Search, result: u64) -> Option<Self> {
+    /// The refusal that a call's result says; none if the result is a success.
+    pub fn of(call: Call, result: u64) -> Option<Self> {
         let number = (result >> PLACES) as u16;
         (result != 0).then(|| Self {
-            search,
+            call,
             number,
-            name: row_of(search, number).name,
+            name: row_of(call, number).name,
             place: result & ((1 << PLACES) - 1),
         })
     }
 
     /// What it means, in a line.
     pub fn meaning(&self) -> &'static str {
-        row_of(self.search, self.number).meaning
+        row_of(self.call, self.number).meaning
     }
 
     /// The place in words; empty where the refusal names none.
     pub fn place_words(&self) -> String {
         let place = self.place;
-        match row_of(self.search, self.number).place {
+        match row_of(self.call, self.number).place {
             Place::Nothing => String::new(),
             Place::SocketPin => format!("socket pin {place}"),
             Place::ChipPin => format!("chip pin {place}"),
@@ -212,9 +223,9 @@ impl Refusal {
     }
 }
 
-fn row_of(search: Search, number: u16) -> &'static Row {
+fn row_of(call: Call, number: u16) -> &'static Row {
     let own = SELECT_ROWS.iter().find(|row| row.0 == number);
-    if let (Search::Select, Some((_, row))) = (search, own) {
+    if let (Call::Select, Some((_, row))) = (call, own) {
         return row;
     }
     let place = usize::from(number).checked_sub(1);

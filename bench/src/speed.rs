@@ -1,15 +1,19 @@
 //! The library and the original on the same inputs, by the clock.
 
 mod boards;
+mod tables;
 
 use std::hint::black_box;
 use std::process::ExitCode;
 use std::time::{Duration, Instant};
 
 use onerom_bench::description::LENGTH;
-use onerom_bench::{Description, Refusal, derive_addr_layout, derive_cs_data_layout};
+use onerom_bench::{
+    Description, Refusal, build_rom_image, derive_addr_layout, derive_cs_data_layout,
+};
 use oracle::SKIPPED;
-use oracle::engine::Told;
+use oracle::engine::{Job, Told};
+use oracle::slot::ChipBytes;
 
 use crate::plain;
 
@@ -19,14 +23,18 @@ const REPEATS: usize = 25;
 /// A repeat goes on for this long at least, so that the clock's grain does not matter.
 const REPEAT: Duration = Duration::from_millis(20);
 
-/// A slot, and how many two-candidate pins the search lists.
+/// What a search's work goes by, and a build's.
+const SEARCHED: [&str; 2] = ["two-candidate pins", "choices"];
+const BUILT: [&str; 2] = ["entries", "bytes"];
+
+/// A slot, and the two numbers that the work on it goes by.
 struct Input {
     name: &'static str,
-    two_candidate_pins: usize,
+    size: [u64; 2],
     slot: Description,
 }
 
-/// Both sides of a search on one input, ready to be run any number of times.
+/// Both sides of a call on one input, ready to be run any number of times.
 struct Pair {
     /// What both answer, in a word.
     answer: String,
@@ -48,9 +56,13 @@ pub fn speed() -> ExitCode {
         println!("{SKIPPED}");
         return ExitCode::SUCCESS;
     }
-    let good = print_table("address search", boards::of_address_search(), address_pair);
+    let (address, select) = (boards::of_address_search(), boards::of_select_search());
+    let mut good = print_table("address search", SEARCHED, address, address_pair);
     println!();
-    if print_table("select search", boards::of_select_search(), select_pair) && good {
+    good &= print_table("select search", SEARCHED, select, select_pair);
+    println!();
+    good &= print_table("build", BUILT, tables::of_build(), build_pair);
+    if good {
         ExitCode::SUCCESS
     } else {
         ExitCode::FAILURE
@@ -58,8 +70,14 @@ pub fn speed() -> ExitCode {
 }
 
 /// Whether the two agree on all inputs.
-fn print_table(search: &str, inputs: Vec<Input>, pair: fn(&Description) -> Option<Pair>) -> bool {
-    println!("| {search} | answer | two-candidate pins | choices | original | ours | ratio |");
+fn print_table(
+    call: &str,
+    size: [&str; 2],
+    inputs: Vec<Input>,
+    pair: fn(&Description) -> Option<Pair>,
+) -> bool {
+    let [one, other] = size;
+    println!("| {call} | answer | {one} | {other} | original | ours | ratio |");
     println!("|---|---|---|---|---|---|---|");
     for input in inputs {
         let Some(pair) = pair(&input.slot) else {
@@ -76,7 +94,7 @@ fn address_pair(slot: &Description) -> Option<Pair> {
     let record = slot.to_bytes();
     let original = oracle::prepared_address_search(&described(&record)?)?;
     let ours = move || derive_addr_layout(black_box(&record));
-    agreeing(original, ours, plain::address)
+    agreeing("layout", original, ours, plain::address)
 }
 
 /// The same of the select search, which is given the found address layout.
@@ -87,18 +105,55 @@ fn select_pair(slot: &Description) -> Option<Pair> {
     let layout = plain::address(layout);
     let original = oracle::prepared_select_search(&described(&record)?, Some(&layout))?;
     let ours = move || derive_cs_data_layout(black_box(&record), black_box(&handed_in));
-    agreeing(original, ours, plain::select)
+    agreeing("layout", original, ours, plain::select)
+}
+
+/// The same of the build, which is given both found layouts and bytes for each chip.
+fn build_pair(slot: &Description) -> Option<Pair> {
+    let record = slot.to_bytes();
+    let addr = derive_addr_layout(&record).ok()?;
+    let cs_data = derive_cs_data_layout(&record, &addr.to_bytes()).ok()?;
+    let (addr_record, cs_data_record) = (addr.to_bytes(), cs_data.to_bytes());
+    let images = chip_bytes(slot);
+    let job = Job {
+        address: &plain::address(addr),
+        select: &plain::select(cs_data),
+        images: &images,
+        table_length: usize::MAX,
+    };
+    let original = oracle::prepared_build(&described(&record)?, &job)?;
+    let images = images.map(|image| image.bytes());
+    let ours = move || {
+        let images = images.each_ref().map(|image| Some(&image[..]));
+        build_rom_image(
+            black_box(&record),
+            black_box(&addr_record),
+            black_box(&cs_data_record),
+            black_box(&images),
+        )
+    };
+    agreeing("table", original, ours, |table| table)
+}
+
+/// As many bytes as each chip has, each chip's own.
+fn chip_bytes(slot: &Description) -> [ChipBytes; 4] {
+    std::array::from_fn(|chip| ChipBytes {
+        present: true,
+        length: slot.chips.get(chip).map_or(0, |chip| chip.size),
+        seed: chip as u32 * 0x0123_4567,
+    })
 }
 
 /// None if the answers differ.
 fn agreeing<T: PartialEq + 'static, U: 'static>(
+    found: &str,
     original: impl Fn() -> Told<T> + 'static,
     ours: impl Fn() -> Result<U, Refusal> + 'static,
     to_plain: fn(U) -> T,
 ) -> Option<Pair> {
     let told = ours();
     let answer = match &told {
-        Ok(_) => "layout".into(),
+        Ok(_) => found.into(),
         Err(refusal) => format!("refusal {}", refusal.number),
     };
     let same = original() == told.map(to_plain).map_err(plain::failure);
@@ -151,11 +206,10 @@ fn time_of_a_call(call: &dyn Fn(), calls: u32) -> Duration {
 
 fn print(input: &Input, answer: &str, times: &Times) {
     let ratio = times.original.as_secs_f64() / times.ours.as_secs_f64();
+    let [one, other] = input.size;
     println!(
-        "| {} | {answer} | {} | {} | {} | {} | {ratio:.1} |",
+        "| {} | {answer} | {one} | {other} | {} | {} | {ratio:.1} |",
         input.name,
-        input.two_candidate_pins,
-        1u64 << input.two_candidate_pins,
         microseconds(times.original),
         microseconds(times.ours),
     );

@@ -3,7 +3,7 @@
 use onerom_bench::description::{Candidates, Kind, Multi, SetType, Setting, Settings};
 use onerom_bench::layout::cs_data::{Line, Qualifiers, Role};
 use onerom_bench::{
-    AddrLayout, CsDataLayout, Description, Refusal, Search, derive_addr_layout,
+    AddrLayout, Call, CsDataLayout, Description, Refusal, derive_addr_layout,
     derive_cs_data_layout, derive_cs_data_layout_into, show, text,
 };
 
@@ -75,6 +75,33 @@ fn places_are_read() {
     assert_eq!(CsDataLayout::read(&record), wanted);
     assert_eq!(wanted.ignored_gpio(), Some(24));
     assert_eq!(wanted.qualifier_gpios(), [25, 26, 28]);
+    assert_eq!(wanted.to_bytes(), record);
+}
+
+#[test]
+fn a_layout_goes_on_as_it_came() {
+    let mut qualified = sample();
+    qualified.qualifiers = vec![0, 2];
+    for slot in [sample(), qualified, multi(vec![Kind::Oe], vec![])] {
+        let record = slot.to_bytes();
+        let addr = derive_addr_layout(&record).expect("an address layout");
+        let mut written = [0; 100];
+        let result = derive_cs_data_layout_into(&record, &addr.to_bytes(), &mut written);
+        assert_eq!(result, 0);
+        assert_eq!(CsDataLayout::read(&written).to_bytes(), written);
+    }
+}
+
+#[test]
+fn lists_that_are_too_long_keep_their_counts() {
+    let mut layout = found(&sample());
+    layout.data = vec![1; 17];
+    layout.select = vec![line(Role::Ce, 1); 300];
+    layout.commoned = vec![line(Role::Unknown(9), 1); 7];
+    let record = layout.to_bytes();
+    assert_eq!((record[2], record[6], record[7]), (17, 255, 7));
+    assert_eq!(record[12..28], [1; 16]);
+    assert_eq!(record[88..90], [9, 1]);
 }
 
 #[test]
@@ -225,7 +252,7 @@ fn refusals_before_any_pin() {
     slot.qualifiers = vec![0];
     let refusal = derive_cs_data_layout(&slot.to_bytes(), &[]).expect_err("a refusal");
     assert_eq!((refusal.number, refusal.place), (5, 0));
-    assert_eq!(refusal.search, Search::Select);
+    assert_eq!(refusal.call, Call::Select);
 }
 
 #[test]

@@ -101,7 +101,8 @@ fn x_pins_gaps_and_excess_lines() {
 fn a_refusal() {
     let told = on_file("refused.txt", "socket 24\nchip size 2\naddress 5\ndata 2\n");
     assert_eq!(told.status.code(), Some(1));
-    let wanted = "refused: 3 UnmappedPin, place 5 (socket pin 5): a needed pin has no GPIO\n";
+    let wanted = "address search refused: 3 UnmappedPin, place 5 (socket pin 5): \
+        a needed pin has no GPIO\n";
     assert_eq!(text(&told.stdout), wanted);
 }
 
@@ -128,12 +129,17 @@ fn no_description() {
 #[test]
 fn no_file_and_no_command() {
     assert_eq!(bench(&["no/such/file"]).status.code(), Some(2));
-    assert_eq!(bench(&["compare"]).status.code(), Some(2));
+    for command in ["build", "compare", "compare-large"] {
+        assert_eq!(bench(&[command]).status.code(), Some(2));
+    }
+    assert_eq!(bench(&["compare-large", "1", "x"]).status.code(), Some(2));
     assert_eq!(bench(&["one", "two"]).status.code(), Some(2));
 }
 
 #[test]
 fn a_short_comparison() {
     let told = bench(&["compare", "1", "300"]);
+    assert_eq!(told.status.code(), Some(0), "{}", text(&told.stdout));
+    let told = bench(&["compare-large", "1", "3"]);
     assert_eq!(told.status.code(), Some(0), "{}", text(&told.stdout));
 }

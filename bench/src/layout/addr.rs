@@ -41,7 +41,7 @@ impl AddrLayout {
         }
     }
 
-    /// The record, to be handed on to the select search. Lists that are too long for its places
+    /// The record, to be handed on to the select search and the build. Lists that are too long for its places
     /// keep their counts, cut at 255, so that the library refuses them.
     pub fn to_bytes(&self) -> [u8; LENGTH] {
         let mut record = [0; LENGTH];
@@ -63,7 +63,11 @@ impl AddrLayout {
 
     /// The table's length in bytes; none past what a number of 64 bits can say.
     pub fn table_bytes(&self, word_bytes: u8) -> Option<u64> {
-        let entries = 1u64.checked_shl(u32::from(self.pins))?;
-        entries.checked_mul(u64::from(word_bytes))
+        table_bytes(self.pins, word_bytes)
     }
+}
+
+pub(crate) fn table_bytes(pins: u8, word_bytes: u8) -> Option<u64> {
+    let entries = 1u64.checked_shl(u32::from(pins))?;
+    entries.checked_mul(u64::from(word_bytes))
 }

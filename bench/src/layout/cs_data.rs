@@ -3,6 +3,7 @@
 use std::fmt;
 
 use super::given;
+use crate::bytes::{NONE, count, put};
 
 /// Bytes of the select layout record.
 pub const LENGTH: usize = 100;
@@ -42,7 +43,8 @@ const ROLES: [(Role, &str); 9] = [
 ];
 
 impl Role {
-    fn of(number: u8) -> Self {
+    /// The role that has this number in the record.
+    pub fn of(number: u8) -> Self {
         let row = ROLES.get(usize::from(number));
         row.map_or(Self::Unknown(number), |&(role, _)| role)
     }
@@ -133,6 +135,28 @@ impl CsDataLayout {
         }
     }
 
+    /// The record, to be handed on to the build. Lists that are too long for its places keep their
+    /// counts, cut at 255, so that the library refuses them.
+    pub fn to_bytes(&self) -> [u8; LENGTH] {
+        let mut record = [0; LENGTH];
+        record[0] = self.base;
+        record[1] = self.base_data_pin;
+        record[2] = count(&self.data);
+        record[3] = self.base_cs_pin;
+        record[4] = self.cs_pins;
+        record[5] = self.ignore_index.unwrap_or(NONE);
+        record[6] = count(&self.select);
+        record[7] = count(&self.commoned);
+        if let Some(given) = self.qualifiers {
+            let numbers = [1, given.base_pin, given.pins, given.pattern];
+            put(&mut record[8..12], numbers);
+        }
+        put(&mut record[DATA..SELECT], self.data.iter().copied());
+        put(&mut record[SELECT..COMMONED], pairs(&self.select));
+        put(&mut record[COMMONED..], pairs(&self.commoned));
+        record
+    }
+
     /// A GPIO's number from the base on.
     pub fn base_pin(&self, gpio: u8) -> Option<u8> {
         gpio.checked_sub(self.base)
@@ -166,4 +190,10 @@ fn lines(bytes: &[u8], count: u8) -> Vec<Line> {
         gpio: pair[1],
     };
     pairs.map(line).collect()
+}
+
+fn pairs(lines: &[Line]) -> impl Iterator<Item = u8> + '_ {
+    lines
+        .iter()
+        .flat_map(|line| [line.role.number(), line.gpio])
 }

@@ -1,4 +1,4 @@
-//! The boards that the clock sees.
+//! The boards that the searches are measured on.
 
 use onerom_bench::Description;
 use onerom_bench::description::{Candidates, Chip, Kind};
@@ -9,10 +9,10 @@ use super::Input;
 const TWO_CANDIDATE_PINS: [usize; 9] = [0, 2, 4, 6, 8, 10, 12, 14, 16];
 
 /// The published pinout of a 27C040: A0 to A18, D0 to D7.
-const ADDRESS_27C040: [u8; 19] = [
+pub const ADDRESS_27C040: [u8; 19] = [
     12, 11, 10, 9, 8, 7, 6, 5, 27, 26, 23, 25, 4, 28, 29, 3, 2, 30, 31,
 ];
-const DATA_27C040: [u8; 8] = [13, 14, 15, 17, 18, 19, 20, 21];
+pub const DATA_27C040: [u8; 8] = [13, 14, 15, 17, 18, 19, 20, 21];
 
 /// GPIOs of D0 to D15, ce and oe: the selects side by side, and with the data between them, where
 /// no choice fits.
@@ -40,12 +40,12 @@ pub fn of_select_search() -> Vec<Input> {
 fn input(name: &'static str, two_candidate_pins: usize, slot: Description) -> Input {
     Input {
         name,
-        two_candidate_pins,
+        size: [two_candidate_pins as u64, 1 << two_candidate_pins],
         slot,
     }
 }
 
-fn sample() -> Description {
+pub fn sample() -> Description {
     text::read(crate::SAMPLE).expect("the sample is a description")
 }
 

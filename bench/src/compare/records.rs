@@ -1,0 +1,96 @@
+//! Records that are handed in: what a case makes of their bytes, and bytes put wrong.
+
+use onerom_bench::images::{self, SPAN};
+use onerom_bench::layout::{addr, cs_data};
+use onerom_bench::{AddrLayout, CsDataLayout};
+use oracle::layout::{AddressLayout, SelectLayout};
+use oracle::random::Random;
+use oracle::slot::ChipBytes;
+
+use crate::plain;
+
+/// Places of the address layout record that are kept at 0.
+pub const ADDR_KEPT: [usize; 6] = [6, 7, 32, 33, 34, 35];
+
+pub fn in_turn<'a>(parts: &'a [&[u8]]) -> impl Iterator<Item = u64> + 'a {
+    parts.iter().copied().flatten().map(|&byte| u64::from(byte))
+}
+
+/// The layout of a record as a case has it. A case has no other length, no kept places, and no
+/// count past its places.
+pub fn address_layout(record: &[u8]) -> Option<AddressLayout> {
+    let record: &[u8; addr::LENGTH] = record.try_into().ok()?;
+    let kept = ADDR_KEPT.iter().all(|&place| record[place] == 0);
+    let lines = usize::from(record[4]) + usize::from(record[5]);
+    let said = kept && lines <= addr::MOST_LINES;
+    said.then(|| plain::address(AddrLayout::read(record)))
+}
+
+/// The same of a select layout, whose qualifiers a case has or has not.
+pub fn select_layout(record: &[u8]) -> Option<SelectLayout> {
+    let record: &[u8; cs_data::LENGTH] = record.try_into().ok()?;
+    let counts = [record[2], record[6], record[7]];
+    let fit = counts
+        .iter()
+        .zip([16, 30, 6])
+        .all(|(&count, most)| count <= most);
+    let said = fit && record[8] <= 1;
+    said.then(|| plain::select(CsDataLayout::read(record)))
+}
+
+/// What the spans leave of bytes that are one sequence, which begins with this seed: any part of it
+/// is a sequence too.
+pub fn chip_bytes(spans: &[u8], seed: u32, bytes: usize) -> Option<[ChipBytes; 4]> {
+    let spans: &[u8; images::LENGTH] = spans.try_into().ok()?;
+    let (chips, _) = spans.as_chunks::<SPAN>();
+    if chips.iter().any(|chip| chip[0] > 1 || chip[1..4] != [0; 3]) {
+        return None;
+    }
+    let four = |chip: &[u8; SPAN], at: usize| {
+        u32::from_le_bytes([chip[at], chip[at + 1], chip[at + 2], chip[at + 3]])
+    };
+    let told = |chip: &[u8; SPAN]| {
+        let start = four(chip, 4);
+        let there = (bytes as u32).saturating_sub(start);
+        ChipBytes {
+            present: chip[0] == 1,
+            length: four(chip, 8).min(there),
+            seed: seed.wrapping_add(start),
+        }
+    };
+    Some(std::array::from_fn(|chip| told(&chips[chip])))
+}
+
+/// Changes one byte: in half of the cases one of the slot's own, else any.
+pub fn damage_description(record: &mut [u8], random: &mut Random) {
+    let reach = random.pick(&[136, record.len()]);
+    damage_byte(&mut record[..reach], random);
+}
+
+/// Changes one byte, takes the last away or adds one.
+pub fn damage_record(record: &mut Vec<u8>, random: &mut Random) {
+    match random.below(16) {
+        0 if !record.is_empty() => {
+            record.pop();
+        }
+        0 | 1 => record.push(0),
+        _ if record.is_empty() => record.push(0),
+        _ => damage_byte(record, random),
+    }
+}
+
+pub fn damage_byte(bytes: &mut [u8], random: &mut Random) {
+    let place = random.below(bytes.len());
+    let was = bytes[place];
+    let any = random.byte();
+    bytes[place] = random.pick(&[
+        any,
+        was.wrapping_add(1),
+        was.wrapping_sub(1),
+        0,
+        47,
+        48,
+        254,
+        255,
+    ]);
+}

@@ -1,0 +1,146 @@
+//! The boards whose tables the clock sees: known chips by their published pinouts, GPIOs going to
+//! the socket's pins in order.
+
+use onerom_bench::description::{Candidates, Chip, Kind, Multi, SetType};
+use onerom_bench::{Description, derive_addr_layout};
+
+use super::Input;
+use super::boards::{ADDRESS_27C040, DATA_27C040, sample};
+
+struct Pinout {
+    pins: u8,
+    size: u32,
+    /// A0 first; in 16-bit chips the line below it, which shares the pin of D15.
+    address: &'static [u8],
+    data: &'static [u8],
+    ce: u8,
+    oe: u8,
+}
+
+const ADDRESS_27C512: [u8; 16] = [10, 9, 8, 7, 6, 5, 4, 3, 25, 24, 21, 23, 2, 26, 27, 1];
+const DATA_27C512: [u8; 8] = [11, 12, 13, 15, 16, 17, 18, 19];
+
+const ADDRESS_27C080: [u8; 20] = [
+    12, 11, 10, 9, 8, 7, 6, 5, 27, 26, 23, 25, 4, 28, 29, 3, 2, 30, 31, 1,
+];
+
+const ADDRESS_27C400: [u8; 19] = [
+    29, 9, 8, 7, 6, 5, 4, 3, 2, 40, 39, 38, 37, 36, 35, 34, 33, 32, 1,
+];
+const DATA_27C400: [u8; 16] = [
+    13, 15, 17, 19, 22, 24, 26, 28, 14, 16, 18, 20, 23, 25, 27, 29,
+];
+
+/// A chip of 28 pins with this many address lines.
+fn chip_28(lines: usize) -> Pinout {
+    Pinout {
+        pins: 28,
+        size: 1 << lines,
+        address: &ADDRESS_27C512[..lines],
+        data: &DATA_27C512,
+        ce: 20,
+        oe: 22,
+    }
+}
+
+/// The same of 32 pins.
+fn chip_32(address: &'static [u8]) -> Pinout {
+    Pinout {
+        pins: 32,
+        size: 1 << address.len(),
+        address,
+        data: &DATA_27C040,
+        ce: 22,
+        oe: 24,
+    }
+}
+
+fn chip_16_bit() -> Pinout {
+    Pinout {
+        pins: 40,
+        size: 512 * 1024,
+        address: &ADDRESS_27C400,
+        data: &DATA_27C400,
+        ce: 10,
+        oe: 12,
+    }
+}
+
+pub fn of_build() -> Vec<Input> {
+    let single = |chip: Pinout| board(&chip, SetType::Single, 1);
+    let four = board(&chip_32(&ADDRESS_27C040[..17]), SetType::Banked, 4);
+    let three = board(&chip_28(15), SetType::Multi, 3);
+    vec![
+        input("2764, the sample", sample()),
+        input("27C512", single(chip_28(16))),
+        input("27C040", single(chip_32(&ADDRESS_27C040))),
+        input("27C080", single(chip_32(&ADDRESS_27C080))),
+        input("four 27C010, Banked", four),
+        input("three 27C256, Multi", three),
+        input("27C400, 16-bit", single(chip_16_bit())),
+    ]
+}
+
+/// Entries and bytes of the table are those of the layout that is found; 0 if none is.
+fn input(name: &'static str, slot: Description) -> Input {
+    let found = derive_addr_layout(&slot.to_bytes()).ok();
+    let bytes = found.and_then(|layout| layout.table_bytes(slot.word_bytes));
+    let bytes = bytes.unwrap_or(0);
+    Input {
+        name,
+        size: [bytes / u64::from(slot.word_bytes), bytes],
+        slot,
+    }
+}
+
+/// The chip on a board that gives its first GPIOs to the lines that index the table, the next ones
+/// to data and selects.
+fn board(pinout: &Pinout, set_type: SetType, chips: usize) -> Description {
+    let mut slot = sample();
+    slot.board_pins = pinout.pins;
+    slot.set_type = set_type;
+    slot.word_bytes = if pinout.data.len() > 8 { 2 } else { 1 };
+    slot.largest_table = pinout.size.max(512 * 1024);
+    slot.socket = [Candidates::Absent; 40];
+    let mut gpios = 0..48;
+    let selects = [pinout.ce, pinout.oe];
+    // In 16-bit mode the first address pin is not used.
+    let lines = &pinout.address[usize::from(slot.word_bytes) - 1..];
+    wire(&mut slot, &mut gpios, lines);
+    if set_type == SetType::Multi {
+        wire(&mut slot, &mut gpios, &selects);
+    }
+    if set_type != SetType::Single {
+        slot.x
+            .fill_with(|| gpios.next().map_or(Candidates::Absent, Candidates::One));
+    }
+    wire(&mut slot, &mut gpios, pinout.data);
+    if set_type != SetType::Multi {
+        wire(&mut slot, &mut gpios, &selects);
+    }
+    slot.multi = (set_type == SetType::Multi).then(|| Multi {
+        select: Kind::Ce,
+        commoned: vec![Kind::Oe],
+        ignored: vec![],
+    });
+    slot.chips = vec![chip(pinout); chips];
+    slot
+}
+
+fn chip(pinout: &Pinout) -> Chip {
+    Chip {
+        size: pinout.size,
+        address_pins: pinout.address.to_vec(),
+        data_pins: pinout.data.to_vec(),
+        control: vec![(Kind::Ce, pinout.ce), (Kind::Oe, pinout.oe)],
+    }
+}
+
+/// Gives the next GPIOs to these pins, in the order in which they stand in the socket.
+fn wire(slot: &mut Description, gpios: &mut impl Iterator<Item = u8>, pins: &[u8]) {
+    let mut pins = pins.to_vec();
+    pins.sort_unstable();
+    for (pin, gpio) in pins.iter().zip(gpios) {
+        slot.socket[usize::from(*pin) - 1] = Candidates::One(gpio);
+    }
+}
