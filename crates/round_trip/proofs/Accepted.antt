@@ -3,14 +3,14 @@ use mathlib.Core.Path.{_≡_, refl, sym, _∙_, ap, subst}
 use mathlib.Core.Bool.{Bool, true, false, cond, not, _&&_, _||_}
 use mathlib.Core.List.{List}
 use mathlib.Core.Logic.{inl, inr}
-use Prim.Native.Nat.{ℕ, zero, suc, _+_, _-_, _*_, _^_, _≤_, _<_}
+use Prim.Native.Nat.{ℕ, _-_, _*_, _^_, _≤_, _<_}
 use native.Mathlib.Omega.{arith}
-use lib.Dec.{leb, ltb, eqb}
+use lib.Dec.{leb, eqb}
 use lib.ListN.{length, getD}
-use borrow.Author.Tests.{le-leb, lt-leb, lt-ltb, le-ltb, eq-eqb, eqb-true, leb-true}
+use borrow.Author.Tests.{le-leb, lt-leb, lt-ltb, le-ltb, eq-eqb, leb-true}
 use Rattle.gpio.specs.Candidates.{candidatesIn}
 use Rattle.gpio.specs.Each.{each}
-use Rattle.gpio.proofs.Bools.{and-left, and-right}
+use Rattle.gpio.proofs.Bools.{and-right}
 use Rattle.gpio.proofs.Each.{each-all}
 use Rattle.gpio.specs.declared.candidates.Candidates.{Candidates}
 use Rattle.gpio.specs.declared.candidates.Candidates.the-variants.{Absent, One, Two}
@@ -23,12 +23,12 @@ use Rattle.slot.specs.declared.refusal.Refusal.the-variants.{XPin}
 use Rattle.listing.specs.Listing.{orElse}
 use Rattle.listing.specs.Choice.{CandidateOf}
 use Rattle.listing.specs.declared.FirstFault.{FirstFault}
-use Rattle.listing.specs.declared.FirstFault.the-variants.{None, Of}
+use Rattle.listing.specs.declared.FirstFault.the-variants.{None}
 use Rattle.addr_layout.specs.Law.{InWindow, SoundLayout}
 use Rattle.addr_layout.specs.declared.layout.AddrLayout.{AddrLayout}
 use Rattle.cs_data_layout.specs.declared.layout.CsDataLayout.{CsDataLayout}
-use Rattle.rom_slot.specs.Positions.{dataBase, dataPosition}
-use Rattle.rom_slot.specs.Faults.{faultIf, firstOf, chipsFit, tableSize}
+use Rattle.rom_slot.specs.Positions.{dataBase}
+use Rattle.rom_slot.specs.Faults.{faultIf, chipsFit, tableSize}
 use Rattle.unscramble.specs.Stored as stored
 use Rattle.unscramble.specs.Faults.{layoutFault, romFault, xFault, xFaults, selectFault, pickFault, roomFault, romsFault}
 use Rattle.unscramble.specs.Words.{allWords}
@@ -42,7 +42,7 @@ none-if : (b : Bool) (why : Refusal) → b ≡ false → faultIf b why ≡ None
 none-if true why e = cc
 none-if false why e = refl
 
-both-none : (f h : FirstFault) → f ≡ None → h ≡ None → orElse f h ≡ None
+pub both-none : (f h : FirstFault) → f ≡ None → h ≡ None → orElse f h ≡ None
 both-none f h e i = rw (e, i)
 
 -- the numbers that the build's tests bound

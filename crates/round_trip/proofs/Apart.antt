@@ -1,13 +1,11 @@
 -- Well wired, the lines of an index are told apart: each has a pin of its own, and so a GPIO and a position of its own. Assumes nothing.
 use mathlib.Core.Path.{_≡_, refl, sym, _∙_, ap, subst}
-use mathlib.Core.Bool.{Bool, true, false, cond, not, _&&_}
-use mathlib.Core.List.{List}
+use mathlib.Core.Bool.{Bool, true, false, cond, not}
 use Prim.Native.Nat.{ℕ, zero, suc, _+_, _-_, _≤_, _<_}
 use native.Mathlib.Omega.{arith}
 use lib.Dec.{leb, eqb, ltb}
 use lib.ListN.{getD}
-use borrow.Author.Tests.{leb-true, eqb-true, eqb-false, lt-ltb, le-ltb, ltb-true, ltb-false}
-use Rattle.gpio.specs.declared.candidates.Candidates.{Candidates}
+use borrow.Author.Tests.{leb-true, eqb-true, eqb-false, ltb-true, ltb-false}
 use Rattle.slot.specs.Description.{isSingle, isMulti}
 use Rattle.slot.specs.declared.description.Board.{Board}
 use Rattle.slot.specs.declared.description.ChipSetType.{ChipSetType}
@@ -16,16 +14,16 @@ use Rattle.slot.specs.declared.description.Description.{Description}
 use Rattle.slot.specs.declared.slot_context.Socket.{Socket}
 use Rattle.slot.specs.declared.slot_context.Socket.the-variants.{On, Off}
 use Rattle.listing.specs.Choice.{CandidateOf}
-use Rattle.listing.specs.Lines.{pinSocket, socketCandidates, pinCandidates}
+use Rattle.listing.specs.Lines.{pinSocket}
 use Rattle.addr_layout.specs.Lines.{lineSocket, offBefore}
 use Rattle.addr_layout.specs.Choices.{inRange}
 use Rattle.addr_layout.specs.Law.{InWindow, XLaid, SoundLayout}
 use Rattle.addr_layout.specs.declared.layout.XGpio.{XGpio}
-use Rattle.addr_layout.specs.declared.layout.XGpio.the-variants.{Unused, At}
+use Rattle.addr_layout.specs.declared.layout.XGpio.the-variants.{At}
 use Rattle.addr_layout.specs.declared.layout.AddrLayout.{AddrLayout}
 use Rattle.cs_data_layout.specs.declared.layout.CsDataLayout.{CsDataLayout}
 use Rattle.rom_slot.specs.Positions.{linePosition, xPosition}
-use Rattle.rom_slot.specs.Picks.{xLines, picksOf, numPicks, firstSelect, xGpio, pickOf, pickAt, pickPosition}
+use Rattle.rom_slot.specs.Picks.{xLines, picksOf, numPicks, firstSelect, xGpio, pickOf, pickPosition}
 use Rattle.round_trip.specs.WellWired.{BoardPin, candidatesOf, Unshared, addressPin, selectPin, WellWired}
 use Rattle.round_trip.specs.WellWired.BoardPin.{socket, x1, x2}
 use Rattle.round_trip.specs.Fitted.{indexPosition}

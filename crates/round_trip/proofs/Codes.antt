@@ -1,17 +1,16 @@
 -- The bits that pick a chip: every chip of the slot has some. Assumes nothing.
-use mathlib.Core.Path.{_≡_, refl, _∙_, ap}
+use mathlib.Core.Path.{_≡_, refl, ap}
 use mathlib.Core.Bool.{Bool, true, false, cond, _&&_}
 use Prim.Native.Nat.{ℕ, zero, suc, _+_, _^_, _≤_, _<_}
 use native.Mathlib.Omega.{arith}
-use lib.Dec.{ltb, leb, eqb}
+use lib.Dec.{leb}
 use borrow.Author.Tests.{lt-ltb, eqb-true, leb-true, leb-false}
-use Rattle.gpio.proofs.Bools.{and-left, and-right}
+use Rattle.gpio.proofs.Bools.{and-right}
 use Rattle.slot.specs.declared.description.ChipSetType.{ChipSetType}
 use Rattle.slot.specs.declared.description.ChipSetType.the-variants.{Single, Banked, Multi}
-use Rattle.rom_slot.specs.Picks.{picksOf, pickedBy, xLines}
+use Rattle.rom_slot.specs.Picks.{picksOf, pickedBy}
 use Rattle.rom_slot.specs.Faults.{chipsFit}
-use Rattle.rom_slot.specs.declared.picks.Picked.{Picked}
-use Rattle.rom_slot.specs.declared.picks.Picked.the-variants.{NoChip, Chip}
+use Rattle.rom_slot.specs.declared.picks.Picked.the-variants.{Chip}
 
 abbrev pub codeOf : ChipSetType → ℕ → ℕ
 codeOf Single k = 0

@@ -1,5 +1,5 @@
 -- The first entry for a word, and faults that none has. Assumes nothing.
-use mathlib.Core.Path.{_≡_, refl, sym, _∙_, ap}
+use mathlib.Core.Path.{_≡_, refl, ap}
 use mathlib.Core.Bool.{Bool, true, false, cond, _&&_}
 use mathlib.Core.Logic.{inl, inr}
 use Prim.Native.Nat.{ℕ, zero, suc, _≤_, _<_}
@@ -9,9 +9,8 @@ use lib.Dec.{ltb, eqb}
 use borrow.Author.Tests.{ltb-true, ltb-false, lt-ltb, eqb-true, eq-eqb}
 use Rattle.gpio.proofs.Bools.{and-left, and-right}
 use Rattle.slot.specs.declared.description.ChipSetType.{ChipSetType}
-use Rattle.listing.specs.Listing.{orElse}
 use Rattle.listing.specs.declared.FirstFault.{FirstFault}
-use Rattle.listing.specs.declared.FirstFault.the-variants.{None, Of}
+use Rattle.listing.specs.declared.FirstFault.the-variants.{None}
 use Rattle.rom_slot.specs.Faults.{firstOf}
 use Rattle.rom_slot.specs.declared.picks.Picked.{Picked}
 use Rattle.rom_slot.specs.declared.picks.Picked.the-variants.{NoChip, Chip}

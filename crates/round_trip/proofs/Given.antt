@@ -1,8 +1,8 @@
 -- What read-back is given beside a built table has the same lines. Assumes nothing.
 use mathlib.Core.Path.{_≡_, refl, sym, _∙_, ap, subst}
-use mathlib.Core.Bool.{Bool, true, false, cond, not, _&&_, _||_}
+use mathlib.Core.Bool.{Bool, true, false, cond}
 use mathlib.Core.Logic.{inl, inr}
-use Prim.Native.Nat.{ℕ, zero, suc, _+_, _-_, _*_, _≤_, _<_}
+use Prim.Native.Nat.{ℕ, zero, suc, _+_, _-_, _≤_, _<_}
 use native.Mathlib.Omega.{arith}
 use lib.Dec.{leb, ltb, eqb}
 use lib.ListN.{getD}
@@ -19,15 +19,14 @@ use Rattle.slot.specs.declared.description.Description.{Description}
 use Rattle.listing.specs.Choice.{CandidateOf}
 use Rattle.addr_layout.specs.Law.{InWindow, XLaid, SoundLayout}
 use Rattle.addr_layout.specs.declared.layout.XGpio.{XGpio}
-use Rattle.addr_layout.specs.declared.layout.XGpio.the-variants.{Unused, At}
 use Rattle.addr_layout.specs.declared.layout.AddrLayout.{AddrLayout}
 use Rattle.cs_data_layout.specs.declared.layout.CsDataLayout.{CsDataLayout}
-use Rattle.rom_slot.specs.Positions.{linePosition, xPosition}
-use Rattle.rom_slot.specs.Picks.{xLines, picksOf, numPicks, firstSelect, xGpio, pickOf, pickPosition}
+use Rattle.rom_slot.specs.Positions.{xPosition}
+use Rattle.rom_slot.specs.Picks.{xLines, picksOf, xGpio, pickOf, pickPosition}
 use Rattle.unscramble.specs.Stored as stored
 use Rattle.unscramble.specs.Words as read
 use Rattle.unscramble.specs.declared.stored.StoredSlot.{StoredSlot}
-use Rattle.round_trip.specs.WellWired.{OneInside, WellWired, Mapped, StoredAs}
+use Rattle.round_trip.specs.WellWired.{OneInside, WellWired, StoredAs}
 use Rattle.round_trip.specs.Fitted.{Fitted}
 use Rattle.round_trip.proofs.Apart.{x-few, x-third}
 

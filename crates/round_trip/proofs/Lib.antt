@@ -10,3 +10,4 @@ pub mod Given
 pub mod Accepted
 pub mod Bytes
 pub mod Laid
+pub mod RoundTrip

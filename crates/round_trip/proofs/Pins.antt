@@ -1,33 +1,26 @@
 -- The board's pins behind the lines of an address layout: each line has one, and no two lines the same. Assumes nothing.
-use mathlib.Core.Path.{_≡_, refl, sym, _∙_, ap, subst}
-use mathlib.Core.Bool.{Bool, true, false, cond, not, _&&_}
-use mathlib.Core.List.{List, [], _∷_, _++_}
+use mathlib.Core.Path.{_≡_, refl, sym, _∙_, ap}
+use mathlib.Core.Bool.{Bool, true, false, cond, _&&_}
 use mathlib.Core.Logic.{inl, inr}
 use Prim.Native.Nat.{ℕ, zero, suc, _+_, _-_, _≤_, _<_}
 use native.Mathlib.Nat.{eq-or-lt-of-le}
 use native.Mathlib.Omega.{arith}
 use lib.Dec.{leb, eqb, ltb}
-use lib.ListN.{length, getD, length-append, List·getD-append}
-use lib.Seq.{getD-at}
 use borrow.Author.Tests.{leb-true, eqb-true, eqb-false, ltb-true, ltb-false}
 use Rattle.gpio.specs.Each.{tally}
-use Rattle.gpio.specs.Tab.{tab}
 use Rattle.gpio.proofs.Bools.{and-left}
-use Rattle.gpio.proofs.Tab.{tab-length, getD-tab}
-use Rattle.gpio.specs.declared.candidates.Candidates.{Candidates}
-use Rattle.gpio.specs.declared.candidates.Candidates.the-variants.{Absent, One, Two}
+use Rattle.gpio.specs.declared.candidates.Candidates.the-variants.{Absent}
 use Rattle.slot.specs.Description.{isSingle}
-use Rattle.slot.specs.SlotContext.{raisedOf, onSocket, socketOf}
+use Rattle.slot.specs.SlotContext.{raisedOf}
 use Rattle.slot.specs.declared.description.Board.{Board}
 use Rattle.slot.specs.declared.description.Description.{Description}
 use Rattle.slot.specs.declared.refusal.Refusal.the-variants.{NoValidLayout}
 use Rattle.slot.specs.declared.slot_context.Socket.{Socket}
 use Rattle.slot.specs.declared.slot_context.Socket.the-variants.{On, Off}
-use Rattle.listing.specs.Listing.{listed, candidatesAt, xListed, xPins}
-use Rattle.listing.specs.Choice.{CandidateOf, pinAt}
+use Rattle.listing.specs.Listing.{listed, xListed}
+use Rattle.listing.specs.Choice.{CandidateOf}
 use Rattle.listing.specs.Lines.{pinSocket}
-use Rattle.listing.specs.declared.Listed.{Listed}
-use Rattle.addr_layout.specs.Lines.{firstPin, lines, lineSocket, isOff, offBefore, flyLead, overhanging, atSocket, lineListed, addrListed}
+use Rattle.addr_layout.specs.Lines.{lines, lineSocket, isOff, offBefore, flyLead, atSocket, lineListed}
 use Rattle.round_trip.specs.WellWired.{BoardPin, candidatesOf, addressPin}
 use Rattle.round_trip.specs.WellWired.BoardPin.{socket, x1, x2}
 

@@ -1,10 +1,9 @@
 -- A built table reads back: no entry disagrees, every word has one, and what is recovered are the chips' words. Assumes nothing.
 use mathlib.Core.Path.{_≡_, refl, sym, _∙_, ap}
-use mathlib.Core.Bool.{Bool, true, false, cond, not, _&&_}
-use mathlib.Core.List.{List, [], _++_}
-use Prim.Native.Nat.{ℕ, zero, suc, _+_, _*_, _/_, _^_, _≤_, _<_, min}
+use mathlib.Core.Bool.{Bool, true, false, not, _&&_}
+use mathlib.Core.List.{List}
+use Prim.Native.Nat.{ℕ, zero, suc, _/_, _^_, _<_, min}
 use native.Mathlib.Omega.{arith}
-use lib.Dec.{ltb, eqb}
 use lib.ListN.{getD}
 use borrow.Author.Tests.{eq-eqb, ne-eqb}
 use Rattle.gpio.specs.Tab.{joined}
@@ -14,14 +13,12 @@ use Rattle.words.specs.Words.{word, wordsBytes}
 use Rattle.words.proofs.Words.{words-cong}
 use Rattle.slot.specs.declared.description.Description.{Description}
 use Rattle.slot.specs.declared.refusal.Refusal.{Refusal}
-use Rattle.slot.specs.declared.refusal.Refusal.the-variants.{Inconsistent, Unserved}
 use Rattle.addr_layout.specs.declared.layout.AddrLayout.{AddrLayout}
 use Rattle.cs_data_layout.specs.declared.layout.CsDataLayout.{CsDataLayout}
-use Rattle.listing.specs.declared.FirstFault.{FirstFault}
-use Rattle.listing.specs.declared.FirstFault.the-variants.{None, Of}
+use Rattle.listing.specs.declared.FirstFault.the-variants.{None}
 use Rattle.rom_slot.specs.Images.{spanAt, chipBytes}
 use Rattle.rom_slot.specs.Picks.{picksOf, numPicks, pickPosition, pickedBy}
-use Rattle.rom_slot.specs.Faults.{faultIf, firstOf, chipsFit, entriesOf}
+use Rattle.rom_slot.specs.Faults.{faultIf, chipsFit, entriesOf}
 use Rattle.rom_slot.specs.declared.images.ImageSpan.{ImageSpan}
 use Rattle.rom_slot.specs.declared.picks.Picked.{Picked}
 use Rattle.rom_slot.specs.declared.picks.Picked.the-variants.{NoChip, Chip}
@@ -29,7 +26,7 @@ use Rattle.rom_image.specs.Entry.{tableOf}
 use Rattle.rom_image.proofs.Picks.{picked-below}
 use Rattle.unscramble.specs.Stored as stored
 use Rattle.unscramble.specs.Words as read
-use Rattle.unscramble.specs.Recovered.{firstFor, keptValue, disagreesIn, disagreesFor, inconsistent, unservedIn, unserved, romBytes, recovered}
+use Rattle.unscramble.specs.Recovered.{firstFor, keptValue, disagreesFor, inconsistent, unservedIn, unserved, recovered}
 use Rattle.unscramble.specs.declared.stored.StoredSlot.{StoredSlot}
 use Rattle.round_trip.specs.Fitted.{Fitted, ToldApart}
 use Rattle.round_trip.proofs.Values.{value-is, index, index-lt, index-picks, index-address}
@@ -40,7 +37,7 @@ never : (b c : Bool) (why : Refusal) → (b ≡ true → c ≡ true) → faultIf
 never true c why h = rw (h refl)
 never false c why h = refl
 
-joined-cong : (n : ℕ) (f g : ℕ → List ℕ) → ((k : ℕ) → k < n → f k ≡ g k) → joined n f ≡ joined n g
+pub joined-cong : (n : ℕ) (f g : ℕ → List ℕ) → ((k : ℕ) → k < n → f k ≡ g k) → joined n f ≡ joined n g
 unfolding joined
 joined-cong zero f g h = refl
 joined-cong (suc n) f g h = rw (joined-cong n f g (λ k l. h k (omega arith)), h n (omega arith))

@@ -1,14 +1,14 @@
 -- Every word has an entry: an index whose lines in use say its address and whose other lines pick its chip. Assumes nothing.
-use mathlib.Core.Path.{_≡_, refl, sym, _∙_, ap}
-use mathlib.Core.Bool.{Bool, true, false, cond}
-use Prim.Native.Nat.{ℕ, zero, suc, _+_, _-_, _*_, _/_, _%_, _^_, _≤_, _<_}
+use mathlib.Core.Path.{_≡_, sym, _∙_, ap}
+use mathlib.Core.Bool.{cond}
+use Prim.Native.Nat.{ℕ, _+_, _-_, _*_, _/_, _%_, _^_, _<_}
 use native.Mathlib.Nat.{zero-add, add-sub-cancel-left}
 use native.Mathlib.Omega.{arith}
 use lib.Pow.{high, shr-shr}
-use lib.Dec.{ltb, leb, eqb}
+use lib.Dec.{ltb}
 use borrow.Author.Tests.{lt-ltb, le-ltb}
 use Rattle.bits.specs.Bits.{bit, gather, scatter}
-use Rattle.bits.proofs.Bit.{bit-split, bit-below, bit-past, bits-same}
+use Rattle.bits.proofs.Bit.{bit-split, bit-below, bits-same}
 use Rattle.bits.proofs.Gathered.{gather-lt}
 use Rattle.bits.proofs.Scattered.{scatter-lt}
 use Rattle.bits.proofs.Back.{bit-gather, bit-scatter}

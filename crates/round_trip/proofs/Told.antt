@@ -1,10 +1,8 @@
 -- Well wired, the lines of found layouts are told apart. Assumes nothing.
 use mathlib.Core.Path.{_≡_, refl, sym, _∙_, ap, subst}
-use mathlib.Core.Bool.{Bool, true, false, cond}
-use Prim.Native.Nat.{ℕ, _+_, _-_, _*_, _≤_, _<_}
+use mathlib.Core.Bool.{Bool, true, false}
+use Prim.Native.Nat.{ℕ, _-_, _*_, _<_}
 use native.Mathlib.Omega.{arith}
-use lib.Dec.{eqb}
-use lib.ListN.{getD}
 use borrow.Author.Tests.{ne-eqb}
 use Rattle.gpio.specs.Candidates.{two}
 use Rattle.gpio.specs.Set.{Distinct}
@@ -25,7 +23,7 @@ use Rattle.addr_layout.specs.declared.layout.XGpio.the-variants.{At}
 use Rattle.addr_layout.specs.declared.layout.AddrLayout.{AddrLayout}
 use Rattle.cs_data_layout.specs.Law as cs
 use Rattle.cs_data_layout.specs.declared.layout.CsDataLayout.{CsDataLayout}
-use Rattle.rom_slot.specs.Positions.{dataBase, dataPosition}
+use Rattle.rom_slot.specs.Positions.{dataPosition}
 use Rattle.rom_slot.specs.Picks.{firstSelect}
 use Rattle.round_trip.specs.WellWired.{BoardPin, candidatesOf, dataPin, selectPin, WellWired}
 use Rattle.round_trip.specs.WellWired.BoardPin.{socket, x1, x2}
@@ -89,7 +87,7 @@ module _ (d : Description) (ca cc' : ℕ) (sound : addr.Sound d ca) (c : CsDataL
 
   -- in Multi the select
   module _ (m : isMulti (d .«set_type») ≡ true) where
-    selects : OnSocket d (selectPin d) (cs.selectGpio c 0)
+    pub selects : OnSocket d (selectPin d) (cs.selectGpio c 0)
     selects = on-socket d (selectPin d) (cs.selectGpio c 0) (laid .select-candidate m)
 
     first-is : firstSelect c ≡ At (cs.selectGpio c 0)
@@ -100,7 +98,7 @@ module _ (d : Description) (ca cc' : ℕ) (sound : addr.Sound d ca) (c : CsDataL
         rw (ne-eqb (kindPin d (d .multi .select)) 0 (laid .select-on m))
         (first-one (pinCandidates d (selectPin d)) (cs.selectGpio c 0) (wired .select-one m) (laid .select-candidate m))
 
-    select-at : SelectAt d a c (selects .place)
+    pub select-at : SelectAt d a c (selects .place)
     select-at = record {
       on = selects .on;
       gpio = cs.selectGpio c 0;

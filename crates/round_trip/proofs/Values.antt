@@ -1,11 +1,10 @@
 -- What each entry of a built table reads as, and that every word has one. Assumes nothing.
-use mathlib.Core.Path.{_≡_, refl, sym, _∙_, ap}
-use mathlib.Core.Bool.{Bool, true, false, cond}
-use mathlib.Core.List.{List, [], append-nil, _++_}
-use Prim.Native.Nat.{ℕ, zero, suc, _+_, _-_, _*_, _/_, _%_, _^_, _≤_, _<_, min}
+use mathlib.Core.Path.{_≡_, sym, _∙_, ap}
+use mathlib.Core.Bool.{true}
+use mathlib.Core.List.{List, [], append-nil}
+use Prim.Native.Nat.{ℕ, _-_, _*_, _/_, _%_, _^_, _<_}
 use native.Mathlib.Nat.{mod-eq-of-lt}
 use native.Mathlib.Omega.{arith}
-use lib.Dec.{ltb}
 use lib.ListN.{getD}
 use borrow.Author.Tests.{lt-ltb}
 use Rattle.bits.specs.Bits.{gather, scatter}
@@ -15,18 +14,16 @@ use Rattle.bits.proofs.Back.{gather-scatter}
 use Rattle.words.specs.Words.{word}
 use Rattle.words.proofs.Words.{word-lt}
 use Rattle.words.proofs.Back.{word-of-words}
-use Rattle.slot.specs.Description.{noChip}
 use Rattle.slot.specs.declared.description.Description.{Description}
 use Rattle.addr_layout.specs.declared.layout.AddrLayout.{AddrLayout}
 use Rattle.cs_data_layout.specs.declared.layout.CsDataLayout.{CsDataLayout}
 use Rattle.rom_slot.specs.Images.{spanAt, chipBytes}
 use Rattle.rom_slot.specs.Positions.{linePosition, dataPosition}
-use Rattle.rom_slot.specs.Picks.{picksOf, numPicks, pickPosition, picked, pickedBy}
+use Rattle.rom_slot.specs.Picks.{picksOf, numPicks, pickPosition, pickedBy}
 use Rattle.rom_slot.specs.Faults.{chipsFit, entriesOf}
 use Rattle.rom_slot.specs.declared.images.ImageSpan.{ImageSpan}
-use Rattle.rom_slot.specs.declared.picks.Picked.{Picked}
-use Rattle.rom_slot.specs.declared.picks.Picked.the-variants.{NoChip, Chip}
-use Rattle.rom_image.specs.Entry.{chipAddress, pickedAt, wordCount, wordOf, padOf, scrambled, entryAt, tableOf}
+use Rattle.rom_slot.specs.declared.picks.Picked.the-variants.{Chip}
+use Rattle.rom_image.specs.Entry.{chipAddress, pickedAt, wordCount, scrambled, entryAt, tableOf}
 use Rattle.unscramble.specs.Stored as stored
 use Rattle.unscramble.specs.Words as read
 use Rattle.unscramble.specs.declared.stored.StoredSlot.{StoredSlot}

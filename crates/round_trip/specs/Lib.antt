@@ -1,2 +1,3 @@
 pub mod WellWired
 pub mod Fitted
+pub mod RoundTrip

@@ -1,0 +1,271 @@
+-- Demand 3 over the definitions: what both searches and the build accept of a well wired slot reads back. Assumes nothing.
+use mathlib.Core.Path.{_≡_, refl, sym, _∙_, ap, subst}
+use mathlib.Core.Bool.{Bool, true, false, cond, not, _&&_, _||_}
+use mathlib.Core.List.{List, _++_}
+use Prim.Native.Nat.{ℕ, zero, suc, _+_, _-_, _*_, _/_, _^_, _≤_, _<_}
+use native.Mathlib.Nat.{div-mul-le-self, mul-le-mul-right, le-trans}
+use native.Mathlib.Omega.{arith}
+use lib.Dec.{leb, ltb, eqb}
+use lib.ListN.{length, take, drop, replicate, getD, length-take, List·getD-eq-default}
+use lib.Seq.{take-at, getD-take, getD-drop}
+use borrow.Author.Tests.{le-leb, eq-eqb, ltb-true, ltb-false, leb-true, lt-leb}
+use Rattle.gpio.specs.Candidates.{candidatesIn}
+use Rattle.gpio.specs.Each.{each}
+use Rattle.gpio.specs.Tab.{joined}
+use Rattle.gpio.specs.Window.{fits}
+use Rattle.gpio.proofs.Bools.{and-left, and-right}
+use Rattle.gpio.proofs.Each.{each-all, each-at}
+use Rattle.gpio.proofs.Fits.{fits-within}
+use Rattle.words.specs.Words.{word, wordsBytes}
+use Rattle.words.proofs.Words.{words-length}
+use Rattle.slot.specs.Description.{isMulti, noChip}
+use Rattle.slot.specs.declared.description.Description.{Description}
+use Rattle.slot.specs.declared.refusal.Refusal.{Refusal}
+use Rattle.slot.specs.declared.refusal.Refusal.the-variants.{OutOfDomain}
+use Rattle.slot.specs.SlotContext.{boardPinsIn, raisedOf}
+use Rattle.domain.specs.Domain.{between, pinsIn, controlIn, socketIn, boardIn, wordBytesIn, maxImageSizeIn, chipIn, chipsIn, multiIn, descriptionIn}
+use Rattle.domain.proofs.Bounds.{board-in, chip-count, word-bytes}
+use Rattle.listing.specs.Listing.{orElse}
+use Rattle.listing.specs.declared.FirstFault.{FirstFault}
+use Rattle.listing.specs.declared.FirstFault.the-variants.{None, Of}
+use Rattle.addr_layout.specs.Law as addr
+use Rattle.addr_layout.specs.declared.layout.AddrLayout.{AddrLayout}
+use Rattle.cs_data_layout.specs.declared.layout.CsDataLayout.{CsDataLayout}
+use Rattle.rom_slot.specs.Images.{spanAt, chipBytes}
+use Rattle.rom_slot.specs.Domain.{inDomain}
+use Rattle.rom_slot.specs.Faults.{entriesOf, tableSize, buildFault}
+use Rattle.rom_slot.specs.declared.images.ImageSpan.{ImageSpan}
+use Rattle.rom_image.specs.Entry.{entryAt, tableOf}
+use Rattle.rom_image.specs.Build.{Built, built, afterFault, buildOf}
+use Rattle.rom_image.specs.declared.BuildAnswer.{BuildAnswer}
+use Rattle.addr_layout.specs.declared.layout.XGpio.the-variants.{At}
+use Rattle.unscramble.specs.Stored as stored
+use Rattle.unscramble.specs.Faults.{wrongSize, romsFault}
+use Rattle.unscramble.specs.Words as read
+use Rattle.unscramble.specs.Recovered as recover
+use Rattle.unscramble.specs.Recovered.{readBack, front, inconsistent, unserved, recovered, unscrambled}
+use Rattle.unscramble.specs.declared.stored.StoredSlot.{StoredSlot}
+use Rattle.round_trip.specs.WellWired.{WellWired, StoredAs}
+use Rattle.round_trip.specs.Fitted.{Fitted, ToldApart}
+use Rattle.round_trip.specs.RoundTrip.{Accepted, tableBuilt, chipWords, wordsTo, words, Room, firstBytes, asBefore, ReadsBack}
+use Rattle.rom_slot.proofs.Facts.{described, selected, data-base}
+use Rattle.rom_image.specs.Wiring.{Buildable}
+use Rattle.rom_image.proofs.Past.{buildable, pins-few}
+use Rattle.round_trip.proofs.Laid.{Found-at, addr-found, Cs-found-at, cs-found}
+use Rattle.round_trip.proofs.Told.{told-apart, select-at}
+use Rattle.round_trip.proofs.Given.{fitted}
+use Rattle.round_trip.proofs.Accepted.{both-none, Small, none-refused}
+use Rattle.round_trip.proofs.Bytes.{words-take}
+use Rattle.round_trip.proofs.Read.{joined-cong, consistent, all-served, recovered-words}
+
+-- a build that accepts is past its tests
+done : BuildAnswer → ℕ
+done BuildAnswer.Built = 1
+done (BuildAnswer.Refused why) = 0
+
+refused-not-built : (why : Refusal) → BuildAnswer.Refused why ≡ BuildAnswer.Built → ⊥
+unfolding done
+refused-not-built why e = let z : _≡_ {A = ℕ} 0 1 = ap done e in omega arith
+
+module _ (d : Description) (a : AddrLayout) (c : CsDataLayout) (images : List ℕ) (spans : List ImageSpan) (lent : List ℕ) where
+  pub record Past : Type 0 where
+    pub domain : inDomain d a c ≡ true
+    pub none : buildFault d a c images spans (length lent) ≡ None
+    pub table : buildOf d a c images spans lent .table ≡ tableOf d a c images spans ++ drop (tableSize d a) lent
+
+  by-fault : (f : FirstFault) → buildFault d a c images spans (length lent) ≡ f → inDomain d a c ≡ true
+      → buildOf d a c images spans lent ≡ afterFault d a c images spans lent f → afterFault d a c images spans lent f .answer ≡ BuildAnswer.Built → Past
+  by-fault (Of why) q i w e = absurd (refused-not-built why e)
+  by-fault None q i w e = record { domain = i; none = q; table = ap (λ (b : Built). b .table) w }
+
+  by-domain : (t : Bool) → inDomain d a c ≡ t
+      → buildOf d a c images spans lent
+      ≡ cond t (afterFault d a c images spans lent (buildFault d a c images spans (length lent))) (built (BuildAnswer.Refused OutOfDomain) lent)
+      → buildOf d a c images spans lent .answer ≡ BuildAnswer.Built → Past
+  by-domain false q w e = absurd (refused-not-built _ (sym (ap (λ (b : Built). b .answer) w) ∙ e))
+  by-domain true q w e = by-fault (buildFault d a c images spans (length lent)) refl q w (sym (ap (λ (b : Built). b .answer) w) ∙ e)
+
+  pub build-past : buildOf d a c images spans lent .answer ≡ BuildAnswer.Built → Past
+  unfolding buildOf
+  build-past e = by-domain (inDomain d a c) refl refl e
+
+-- bytes of a part are bytes
+part-byte : (l : List ℕ) (start size k : ℕ) (t : Bool) → ltb k size ≡ t → ((j : ℕ) → getD l j 0 < 256) → getD (take size (drop start l)) k 0 < 256
+part-byte l start size k true e h = rw (getD-take size (drop start l) k 0 (ltb-true k size e), getD-drop start l k 0) (h (start + k))
+part-byte l start size k false e h =
+    rw (List·getD-eq-default (take size (drop start l)) 0 {n = k} (simp length-take (let g = ltb-false k size e in omega arith))) (omega arith)
+
+-- the domain of the description: its X pins, and its chips' sizes
+module _ (d : Description) (e : descriptionIn d ≡ true) where
+  x-pins-in : (candidatesIn (d .board .x1) ≡ true) × (candidatesIn (d .board .x2) ≡ true)
+  x-pins-in =
+      let b = d .board in
+      let all = board-in d e in (
+        and-right (boardPinsIn (b .pins) && socketIn b) (candidatesIn (b .x1))
+            (and-left (boardPinsIn (b .pins) && socketIn b && candidatesIn (b .x1)) (candidatesIn (b .x2)) all),
+        and-right (boardPinsIn (b .pins) && socketIn b && candidatesIn (b .x1)) (candidatesIn (b .x2)) all,
+      )
+
+  chips-all : chipsIn (d .chips) (d .«num_chips») (d .«word_bytes») ≡ true
+  unfolding descriptionIn
+  chips-all =
+      let b = boardIn (d .board) in
+      let n = wordBytesIn (d .«word_bytes») && maxImageSizeIn (d .«max_image_size») in
+      let o = leb (raisedOf (d .«pin_offset»)) 8 in
+      let c = chipsIn (d .chips) (d .«num_chips») (d .«word_bytes») in
+      let m = (not (d .«has_multi») || multiIn (d .multi)) && (not (isMulti (d .«set_type»)) || d .«has_multi») in
+      and-right (between 1 4 (d .«num_chips»)) c
+      (and-right (b && n && o) (between 1 4 (d .«num_chips») && c) (and-left (b && n && o && (between 1 4 (d .«num_chips») && c)) m e))
+
+  size-in : (k : ℕ) → k < d .«num_chips» → getD (d .chips) k noChip .size ≤ 2 ^ 24
+  unfolding chipsIn
+  size-in k l =
+      let n = d .«num_chips» in
+      let one = each-at (λ j. leb n j || chipIn (getD (d .chips) j noChip) (d .«word_bytes»)) 4 chips-all k (omega (arith, chip-count d e)) in
+      let it = getD (d .chips) k noChip in
+      let inside : chipIn it (d .«word_bytes») ≡ true = rw (lt-leb n k l) at one in
+      leb-true (it .size) (2 ^ 24)
+      (and-right
+      ((between 1 24 (it .«num_address_pins») && (eqb (d .«word_bytes») 1 || leb 2 (it .«num_address_pins»)) && pinsIn (it .«address_pins») (it .«num_address_pins»))
+      && (between 1 16 (it .«num_data_pins») && pinsIn (it .«data_pins») (it .«num_data_pins»)) && controlIn (it .control))
+      (leb (it .size) (2 ^ 24)) inside)
+
+-- the slot as it is stored is in read-back's domain
+stored-in : (d : Description) (a : AddrLayout) (c : CsDataLayout) (s : StoredSlot) → descriptionIn d ≡ true → StoredAs d a c s → stored.storedIn s ≡ true
+unfolding stored.storedIn
+stored-in d a c s e g =
+    let x = x-pins-in d e in
+    let x1 : candidatesIn (s .x1) ≡ true = ap candidatesIn (g .x1) ∙ x .0 in
+    let x2 : candidatesIn (s .x2) ≡ true = ap candidatesIn (g .x2) ∙ x .1 in
+    let few : s .«num_roms» ≤ 4 = omega (arith, g .roms, chip-count d e) in
+    let sizes : each (s .«num_roms») (λ k. leb (stored.romAt s k .«chip_size») (2 ^ 24)) ≡ true = each-all _ (s .«num_roms») (λ k l.
+    let m : k < d .«num_chips» = omega (arith, g .roms, l) in
+    le-leb (stored.romAt s k .«chip_size») (2 ^ 24) (omega (arith, g .rom k m .size, size-in d e k m))) in
+    rw (le-leb (s .«num_overrides») 64 (g .overrides), x1, x2, le-leb (s .«num_roms») 4 few, sizes)
+
+-- as many words are counted as demand 3 says
+module _ (d : Description) (a : AddrLayout) (c : CsDataLayout) (s : StoredSlot) (f : Fitted d a c s) where
+  words-same : (k : ℕ) → k < d .«num_chips» → read.romWords s k ≡ chipWords d a k
+  words-same k l = rw (f .size k l, f .bytes, f .lines k l)
+
+  before-same : (n : ℕ) → n ≤ d .«num_chips» → read.wordsBefore s n ≡ wordsTo d a n
+  unfolding read.wordsBefore wordsTo
+  before-same zero h = refl
+  before-same (suc n) h = rw (before-same n (omega arith), words-same n (omega arith))
+
+  all-same : read.allWords s ≡ words d a
+  all-same = ap (read.wordsBefore s) (f .chips) ∙ before-same (d .«num_chips») (omega arith)
+
+-- a chip's counted words are in its bytes
+words-within : (x y w size long : ℕ) → x ≤ size / w → size ≤ long → x * w ≤ long
+words-within x y w size long h l = le-trans (mul-le-mul-right w h) (le-trans (div-mul-le-self size w) l)
+
+module _ (d : Description) (a : AddrLayout) (c : CsDataLayout) (images : List ℕ) (spans : List ImageSpan) (lent : List ℕ) (s : StoredSlot) (output marks : List ℕ)
+    (ok : Accepted d a c images spans lent) (bytes : (k : ℕ) → getD images k 0 < 256) (wired : WellWired d a) (given : StoredAs d a c s)
+    (room : Room d a output marks) where
+  past : Past d a c images spans lent
+  past = build-past d a c images spans lent (ok .build)
+
+  in-description : descriptionIn d ≡ true
+  in-description = described d a c (past .domain)
+
+  can : Buildable d a c images spans
+  can = buildable d a c images spans (length lent) (past .domain) (past .none)
+
+  -- the found layouts
+  laid : Found-at d a
+  laid = addr-found d a (ok .address)
+
+  sound : addr.SoundLayout d (laid .choice) a
+  sound = subst (addr.SoundLayout d (laid .choice)) (sym (laid .is)) (laid .sound .layout)
+
+  selected-at : Cs-found-at d c
+  selected-at = cs-found d (record { given = true; layout = a }) c (ok .select)
+
+  told : ToldApart d a c
+  told =
+      subst (λ (x : AddrLayout). ToldApart d x c) (sym (laid .is))
+      (told-apart d (laid .choice) (selected-at .choice) (laid .sound) c (selected-at .sound) (subst (WellWired d) (laid .is) wired))
+
+  same-lines : Fitted d a c s
+  same-lines = fitted d a c s given (laid .choice) sound wired
+
+  chip-byte : (rom k : ℕ) → getD (chipBytes images (spanAt spans rom)) k 0 < 256
+  unfolding chipBytes
+  chip-byte rom k = part-byte images (spanAt spans rom .start) (spanAt spans rom .length) k (ltb k (spanAt spans rom .length)) refl bytes
+
+  -- the table that is read
+  table-long : length (tableOf d a c images spans) ≡ tableSize d a
+  unfolding tableOf
+  table-long = words-length (d .«word_bytes») (entryAt d a c images spans) (entriesOf a)
+
+  table-is : tableBuilt d a c images spans lent ≡ tableOf d a c images spans
+  table-is = ap (take (tableSize d a)) (past .table) ∙ take-at (tableOf d a c images spans) (drop (tableSize d a) lent) (tableSize d a) table-long
+
+  -- what comes back of a chip
+  chip-back : (k : ℕ) → k < d .«num_chips»
+      → wordsBytes (d .«word_bytes») (λ n. word (d .«word_bytes») (chipBytes images (spanAt spans k)) n) (read.romWords s k) ≡ firstBytes d a images spans k
+  chip-back k l =
+      ap (λ (n : ℕ). wordsBytes (d .«word_bytes») (word (d .«word_bytes») (chipBytes images (spanAt spans k))) n) (words-same d a c s same-lines k l)
+      ∙ words-take (d .«word_bytes») (chipBytes images (spanAt spans k)) (chipWords d a k) (chip-byte k)
+      (words-within (chipWords d a k) 0 (d .«word_bytes») (getD (d .chips) k noChip .size) _ (omega arith) (can .lent k l))
+
+  all-back : recovered s (d .«set_type») (tableOf d a c images spans) ≡ joined (d .«num_chips») (firstBytes d a images spans)
+  all-back =
+      recovered-words d a c images spans s same-lines told (can .chips) chip-byte
+      ∙ joined-cong (d .«num_chips») _ _ (λ k l. chip-back k l)
+
+  -- read-back refuses nothing
+  base-small : (l : AddrLayout) → a ≡ l → fits (l .«gpio_base») (l .«num_addr_pins») ≡ true → 8 ≤ l .«num_addr_pins» → a .«gpio_base» ≤ 47
+  base-small l e w h =
+      let same : a .«gpio_base» ≡ l .«gpio_base» = ap (λ (x : AddrLayout). x .«gpio_base») e in
+      omega (arith, same, fits-within (l .«gpio_base») (l .«num_addr_pins») w, h)
+
+  small : Small d a c
+  small = record {
+    base = base-small _ (laid .is) (laid .sound .window) (laid .sound .wide);
+    data-base = data-base c (selected d a c (past .domain));
+    bytes = can .bytes;
+    pins = pins-few d a c images spans (length lent) (past .domain) (past .none);
+  }
+
+  select-window : isMulti (d .«set_type») ≡ true → addr.InWindow a (stored.selectGpio s)
+  select-window m =
+      let at = select-at d (laid .choice) (selected-at .choice) (laid .sound) c (selected-at .sound) (subst (WellWired d) (laid .is) wired) m in
+      let one : At (at .gpio) ≡ At (stored.selectGpio s) = sym (at .first) ∙ given .select m in
+      let same : at .gpio ≡ stored.selectGpio s = cc in
+      subst (addr.InWindow a) same (subst (λ (x : AddrLayout). addr.InWindow x (at .gpio)) (sym (laid .is)) (at .inside))
+
+  none-before : romsFault s (d .«set_type») (tableOf d a c images spans) (length output) (length marks) ≡ None
+  none-before =
+      let x = x-pins-in d in-description in
+      let all = all-same d a c s same-lines in
+      none-refused d a c s given small (laid .choice) sound wired (x .0) (x .1) (tableOf d a c images spans) (length output) (length marks) table-long told
+      (selected-at .sound .data-above) (can .chips) select-window (rw (all, given .word-bytes) (room .for-output)) (rw all (room .for-marks))
+
+  size-right : wrongSize s (tableOf d a c images spans) ≡ false
+  size-right = rw (eq-eqb (length (tableOf d a c images spans)) (s .size) (table-long ∙ sym (given .size)))
+
+  -- so that the entries decide, and none is at fault
+  abbrev table : List ℕ
+  table = tableOf d a c images spans
+
+  tested : unscrambled s table output marks ≡ recover.ofType s table output marks (s .«slot_type»)
+  unfolding unscrambled
+  tested = rw (stored-in d a c s in-description given, size-right)
+
+  entries-none : orElse (inconsistent s (d .«set_type») table) (unserved s (d .«set_type»)) ≡ None
+  entries-none =
+      both-none _ _ (consistent d a c images spans s same-lines told (can .chips) chip-byte) (all-served d a c images spans s same-lines told (can .chips) chip-byte)
+
+  reads : unscrambled s table output marks ≡ asBefore d a images spans output marks
+  reads =
+      tested
+      ∙ ap (recover.ofType s table output marks) (given .set-type)
+      ∙ ap (recover.afterFault s (d .«set_type») table output marks) none-before
+      ∙ ap (recover.afterEntries s (d .«set_type») table output marks) entries-none
+      ∙ ap (λ (r : List ℕ). readBack None (front r output) (front (replicate (read.allWords s) 1) marks)) all-back
+      ∙ ap (λ (n : ℕ). readBack None (front (joined (d .«num_chips») (firstBytes d a images spans)) output) (front (replicate n 1) marks)) (all-same d a c s same-lines)
+
+  pub round-trip : ReadsBack d a c images spans lent s output marks
+  round-trip = ap (λ (t : List ℕ). unscrambled s t output marks) table-is ∙ reads
