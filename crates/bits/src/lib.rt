@@ -27,7 +27,7 @@ fn bit_at(i: u32, p: u8) -> u32
 
 // The number whose bit k is the bit of i at the k-th position.
 pub fn gather(positions: &[u8], n: usize, i: u32) -> u32
-    requires { ⌜ n ≤ 31 ⌝ }
+    requires { ⌜ n ≤ 32 ⌝ }
     ensures { λ r. ⌜ r ≡ gather n (λ k. getD (now (positions .entry)) k 0) i ⌝ }
     ensures { λ r. ⌜ r < 2 ^ n ⌝ }
 {

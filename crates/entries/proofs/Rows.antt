@@ -10,21 +10,13 @@ use lib.ListN.{getD}
 use lib.Pow.{pow-mono}
 use Rattle.gpio.specs.Tab.{tab}
 use Rattle.gpio.proofs.Tab.{getD-tab}
-use Rattle.bits.specs.Bits.{gather, scatter}
-use Rattle.bits.proofs.Gathered.{gather-lt, gather-split}
+use Rattle.bits.specs.Bits.{scatter}
+use Rattle.bits.proofs.Gathered.{gather-lt, row, gather-row}
 use Rattle.bits.proofs.Scattered.{scatter-split}
 use Rattle.entries.specs.Entries.{WiringIn, partOf, scrambledBy, noSource, rawFrom, entryBy}
 use Rattle.entries.specs.declared.wiring.Wiring.{Wiring}
 use Rattle.entries.specs.declared.wiring.Part.{Part}
 use Rattle.entries.specs.declared.sources.Source.{Source}
-
-row : (i : ℕ) → i / 256 * 256 + i % 256 ≡ i
-row i = omega arith
-
-gather-row : (n : ℕ) (p : ℕ → ℕ) (i : ℕ) → gather n p (i % 256) + gather n p (i / 256 * 256) ≡ gather n p i
-gather-row n p i =
-    let e = gather-split n p (i / 256) 8 (i % 256) (omega arith) in
-    omega (arith, rw (row i) at e)
 
 scatter-row : (n : ℕ) (p : ℕ → ℕ) (m v : ℕ) → bitOr (scatter n p m (v % 256)) (scatter n p m (v / 256 * 256)) ≡ scatter n p m v
 scatter-row n p m v =

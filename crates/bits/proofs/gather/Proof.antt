@@ -13,10 +13,10 @@ use Rattle.bits.proofs.gather.Statement.{statement}
 use Rattle.bits.proofs.gather.Tie as tie
 
 -- one turn, with the bit shifted in 32 bits
-turn : (p : ℕ → ℕ) (i k at b g : ℕ) → k < 31 → at ≡ p k → b ≡ bit i at → g ≡ gather k p i → g + b * 2 ^ k % 2 ^ 32 ≡ gather (k + 1) p i
+turn : (p : ℕ → ℕ) (i k at b g : ℕ) → k < 32 → at ≡ p k → b ≡ bit i at → g ≡ gather k p i → g + b * 2 ^ k % 2 ^ 32 ≡ gather (k + 1) p i
 turn p i k at b g l e f h = rw (f, e, bit-shl (bit i (p k)) k (bit-lt i (p k)) (omega arith)) (gather-turn p i k g h)
 
-fits : (p : ℕ → ℕ) (i k g : ℕ) → k < 31 → g ≡ gather (k + 1) p i → g < 2 ^ 32
+fits : (p : ℕ → ℕ) (i k g : ℕ) → k < 32 → g ≡ gather (k + 1) p i → g < 2 ^ 32
 fits p i k g l e = rw e (lt-of-lt-of-le (gather-lt (k + 1) p i) (pow-mono {j = 32} (omega arith)))
 
 abbrev Inv-loop : tie.InvT-loop
