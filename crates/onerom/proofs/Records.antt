@@ -5,33 +5,31 @@ use mathlib.Core.List.{List}
 use Prim.Native.Nat.{ℕ}
 use Rattle.slot.specs.declared.description.Description.{Description}
 use Rattle.slot.specs.declared.refusal.Refusal.{Refusal}
-use Rattle.slot.specs.declared.refusal.Refusal.the-variants.{OutOfDomain}
 use Rattle.record.specs.Record.{decodedOf}
 use Rattle.record.specs.declared.Answer.{Answer}
 use Rattle.record.specs.declared.Answer.the-variants.{Described, Refused}
 use Rattle.record.specs.declared.Decoded.{Decoded}
-use Rattle.onerom.specs.Packed.{packed}
-use Rattle.onerom.specs.Calls.{Answered, answer, refused, ifDescribed, described}
+use Rattle.onerom.specs.Calls.{ifDescribed, described}
 
-module _ (f : Description → Answered) (b buffer : List ℕ) (dec : Decoded) (e : dec ≡ decodedOf b) where
-  told : (a : Answer) → dec .answer ≡ a → ifDescribed f buffer a (dec .description) ≡ described f buffer (decodedOf b)
-  told a t = ap (λ (x : Answer). ifDescribed f buffer x (dec .description)) (sym t) ∙ ap (described f buffer) e
+module _ {A : Type 0} (f : Description → A) (refuse : Refusal → A) (b : List ℕ) (dec : Decoded) (e : dec ≡ decodedOf b) where
+  told : (a : Answer) → dec .answer ≡ a → ifDescribed f refuse a (dec .description) ≡ described f refuse (decodedOf b)
+  told a t = ap (λ (x : Answer). ifDescribed f refuse x (dec .description)) (sym t) ∙ ap (described f refuse) e
 
-  pub taken : dec .answer ≡ Described → f (dec .description) ≡ described f buffer (decodedOf b)
+  pub taken : dec .answer ≡ Described → f (dec .description) ≡ described f refuse (decodedOf b)
   taken t = told Described t
 
-  pub no-record : (why : Refusal) (r : ℕ) → dec .answer ≡ Refused why → r ≡ packed why → answer r buffer ≡ described f buffer (decodedOf b)
-  no-record why r t q = ap (λ (n : ℕ). answer n buffer) q ∙ told (Refused why) t
+  pub no-record : (why : Refusal) → dec .answer ≡ Refused why → refuse why ≡ described f refuse (decodedOf b)
+  no-record why t = told (Refused why) t
 
 -- the other records: whether they are formed is tested first
-module _ (good : Answered) (buffer : List ℕ) where
-  abbrev tested : Bool → Answered
-  tested g = cond g good (refused OutOfDomain buffer)
+module _ {A : Type 0} (good bad : A) where
+  abbrev tested : Bool → A
+  tested g = cond g good bad
 
   pub formed : (f g : Bool) → f ≡ g → not f ≡ false → good ≡ tested g
   formed true g e n = ap tested e
   formed false g e n = cc
 
-  pub not-formed : (f g : Bool) (r : ℕ) → f ≡ g → not f ≡ true → r ≡ packed OutOfDomain → answer r buffer ≡ tested g
-  not-formed true g r e n q = cc
-  not-formed false g r e n q = ap (λ (k : ℕ). answer k buffer) q ∙ ap tested e
+  pub not-formed : (f g : Bool) → f ≡ g → not f ≡ true → bad ≡ tested g
+  not-formed true g e n = cc
+  not-formed false g e n = ap tested e

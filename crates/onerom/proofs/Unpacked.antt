@@ -1,6 +1,6 @@
 -- The number and the place of a refusal, taken out of the packed number again. Assumes nothing.
 use mathlib.Core.Path.{_≡_}
-use Prim.Native.Nat.{ℕ, _/_, _%_, _^_, _<_}
+use Prim.Native.Nat.{_/_, _%_, _^_, _<_}
 use native.Mathlib.Omega.{arith}
 use Rattle.slot.specs.Refusal.{numberOf, placeOf}
 use Rattle.slot.specs.declared.refusal.Refusal.{Refusal}

@@ -1,4 +1,4 @@
--- What each call answers: its result, and what the buffer lent to it holds then. Assumes nothing.
+-- What each call answers: its result, and what the buffers lent to it hold then. Assumes nothing.
 use Prim.Native.Nat.{ℕ}
 use mathlib.Core.Bool.{Bool, _&&_, cond}
 use mathlib.Core.List.{List, _++_}
@@ -23,6 +23,10 @@ use Rattle.rom_image.specs.declared.BuildAnswer.{BuildAnswer}
 use Rattle.layout_record.specs.AddrRecord.{addrSize, layoutBytes, layoutAt, layoutFormed, givenAt, givenFormed}
 use Rattle.layout_record.specs.CsDataRecord.{csDataSize, csDataBytes, csDataAt, csDataFormed}
 use Rattle.layout_record.specs.ImageRecord.{spansAt, spansFormed}
+use Rattle.listing.specs.declared.FirstFault.{FirstFault}
+use Rattle.stored_record.specs.StoredRecord.{storedAt, storedFormed}
+use Rattle.unscramble.specs.Recovered.{ReadBack, unscrambled}
+use Rattle.round_trip.specs.Chain.{Trip, roundTripOf}
 use Rattle.onerom.specs.Packed.{packed}
 
 pub record Answered : Type 0 where
@@ -41,12 +45,12 @@ abbrev pub written : ℕ → List ℕ → List ℕ → Answered
 written size bytes buffer = cond (ltb (length buffer) size) (refused ShortBuffer buffer) (answer 0 (bytes ++ drop size buffer))
 
 -- "Number 1 comes first everywhere": bytes that are no description record
-abbrev pub ifDescribed : (Description → Answered) → List ℕ → Answer → Description → Answered
-ifDescribed f buffer Answer.Described d = f d
-ifDescribed f buffer (Answer.Refused why) d = refused why buffer
+abbrev pub ifDescribed : {A : Type 0} → (Description → A) → (Refusal → A) → Answer → Description → A
+ifDescribed f refuse Answer.Described d = f d
+ifDescribed f refuse (Answer.Refused why) d = refuse why
 
-abbrev pub described : (Description → Answered) → List ℕ → Decoded → Answered
-described f buffer x = ifDescribed f buffer (x .answer) (x .description)
+abbrev pub described : {A : Type 0} → (Description → A) → (Refusal → A) → Decoded → A
+described f refuse x = ifDescribed f refuse (x .answer) (x .description)
 
 -- the search's own refusals come before the buffer's
 abbrev pub addrOutcome : AddrOutcome → AddrLayout → List ℕ → Answered
@@ -58,7 +62,7 @@ addrFound a buffer = addrOutcome (a .outcome) (a .layout) buffer
 
 -- `onerom_derive_addr_layout` of a record's bytes and a lent buffer
 unfoldable pub addrCall : List ℕ → List ℕ → Answered
-addrCall description buffer = described (λ d. addrFound (addrAnswer d) buffer) buffer (decodedOf description)
+addrCall description buffer = described (λ d. addrFound (addrAnswer d) buffer) (λ why. refused why buffer) (decodedOf description)
 
 abbrev pub csDataOutcome : CsDataOutcome → CsDataLayout → List ℕ → Answered
 csDataOutcome CsDataOutcome.LaidOut l buffer = written csDataSize (csDataBytes l) buffer
@@ -71,7 +75,7 @@ csDataFound a buffer = csDataOutcome (a .outcome) (a .layout) buffer
 unfoldable pub csDataCall : List ℕ → List ℕ → List ℕ → Answered
 csDataCall description layout buffer =
     cond (givenFormed layout)
-    (described (λ d. csDataFound (csDataAnswer d (givenAt layout)) buffer) buffer (decodedOf description))
+    (described (λ d. csDataFound (csDataAnswer d (givenAt layout)) buffer) (λ why. refused why buffer) (decodedOf description))
     (refused OutOfDomain buffer)
 
 -- a build says itself what its table holds
@@ -93,5 +97,59 @@ buildFrom d addr csData spans images table = buildFound (buildOf d (layoutAt add
 unfoldable pub buildCall : List ℕ → List ℕ → List ℕ → List ℕ → List ℕ → List ℕ → Answered
 buildCall description addr csData spans images table =
     cond (buildFormed addr csData spans)
-    (described (λ d. buildFrom d addr csData spans images table) table (decodedOf description))
+    (described (λ d. buildFrom d addr csData spans images table) (λ why. refused why table) (decodedOf description))
     (refused OutOfDomain table)
+
+-- read-back is lent two buffers: "output" and "marks"
+pub record ReadAnswered : Type 0 where
+  pub result : ℕ
+  pub output : List ℕ
+  pub marks : List ℕ
+
+abbrev pub readAnswer : ℕ → List ℕ → List ℕ → ReadAnswered
+readAnswer r o m = record { result = r; output = o; marks = m }
+
+abbrev pub readResult : FirstFault → ℕ
+readResult FirstFault.None = 0
+readResult (FirstFault.Of why) = packed why
+
+-- read-back says itself what its buffers hold: "Refusals write nothing, except 23 and 24"
+abbrev pub readFound : ReadBack → ReadAnswered
+readFound b = readAnswer (readResult (b .answer)) (b .output) (b .marks)
+
+abbrev pub readFrom : List ℕ → List ℕ → List ℕ → List ℕ → ReadAnswered
+readFrom slot stored output marks = readFound (unscrambled (storedAt slot) stored output marks)
+
+-- `onerom_unscramble_slot` of a stored slot's bytes, of its table, and of two lent buffers; "Number 1 comes first everywhere":
+-- bytes that are no stored slot record
+unfoldable pub readBackCall : List ℕ → List ℕ → List ℕ → List ℕ → ReadAnswered
+readBackCall slot stored output marks =
+    cond (storedFormed slot)
+    (readFrom slot stored output marks)
+    (readAnswer (packed OutOfDomain) output marks)
+
+-- both searches, the build and read-back in turn, on three buffers
+pub record TripAnswered : Type 0 where
+  pub result : ℕ
+  pub table : List ℕ
+  pub output : List ℕ
+  pub marks : List ℕ
+
+abbrev pub tripAnswer : ℕ → List ℕ → List ℕ → List ℕ → TripAnswered
+tripAnswer r t o m = record { result = r; table = t; output = o; marks = m }
+
+abbrev pub tripRefused : Refusal → List ℕ → List ℕ → List ℕ → TripAnswered
+tripRefused why table output marks = tripAnswer (packed why) table output marks
+
+abbrev pub tripFound : Trip → TripAnswered
+tripFound t = tripAnswer (readResult (t .answer)) (t .table) (t .output) (t .marks)
+
+abbrev pub tripFrom : Description → List ℕ → List ℕ → List ℕ → List ℕ → List ℕ → TripAnswered
+tripFrom d spans images table output marks = tripFound (roundTripOf d images (spansAt spans) table output marks)
+
+-- `onerom_round_trip` of the bytes of a description and of the spans, of the chips' bytes, and of the lent table, output and marks
+unfoldable pub tripCall : List ℕ → List ℕ → List ℕ → List ℕ → List ℕ → List ℕ → TripAnswered
+tripCall description spans images table output marks =
+    cond (spansFormed spans)
+    (described (λ d. tripFrom d spans images table output marks) (λ why. tripRefused why table output marks) (decodedOf description))
+    (tripRefused OutOfDomain table output marks)

@@ -4,16 +4,19 @@ mod refused; // a refusal as one number
 mod addr; // the address search's answer, handed over
 mod cs_data; // the select search's answer, handed over
 mod build; // the build's answer, handed over
+mod read_back; // read-back's answer, handed over
+mod trip; // the round trip's answer, handed over
 
 use addr_layout::derive_addr_layout;
 use cs_data_layout::derive_cs_data_layout;
 use layout_record::addr_record::given_at;
 use layout_record::addr_record::given_formed;
+use layout_record::image_record;
 use record::Answer;
 use refused::packed;
 use slot::refusal::Refusal;
 ghost use mathlib.Core.Path.{_≡_};
-ghost use Rattle.onerom.specs.Calls.{answer, addrCall, csDataCall, buildCall};
+ghost use Rattle.onerom.specs.Calls.{answer, tripAnswer, tripCall, addrCall, csDataCall, buildCall, readAnswer, readBackCall};
 
 // Finds the address layout of the slot that the record describes, and writes it as a record.
 #[no_mangle]
@@ -82,6 +85,47 @@ pub extern "C" fn onerom_build_rom_image(
                 images,
                 table,
             )
+        }
+        Answer::Refused(why) => packed(why),
+    }
+}
+
+// Reads back the slot that the record stores, from its table: each ROM's words, chip after chip, and a mark for each word.
+#[no_mangle]
+pub extern "C" fn onerom_unscramble_slot(
+    slot: &[u8],
+    stored: &[u8],
+    output: &mut [u8],
+    marks: &mut [u8],
+) -> u64
+    ensures { λ r. ⌜ readAnswer r (now (output .exit)) (now (marks .exit)) ≡ readBackCall (now (slot .entry)) (now (stored .entry)) (now (output .entry)) (now (marks .entry)) ⌝ }
+{
+    if !stored_record::formed(slot) {
+        return packed(Refusal::OutOfDomain);
+    }
+    read_back::hand_over(slot, stored, output, marks)
+}
+
+// Makes both layouts, the table and its read-back in turn. `images` has the chips' bytes, and `spans` says where in it each chip's stand.
+#[no_mangle]
+pub extern "C" fn onerom_round_trip(
+    description: &[u8],
+    spans: &[u8],
+    images: &[u8],
+    table: &mut [u8],
+    output: &mut [u8],
+    marks: &mut [u8],
+) -> u64
+    ensures { λ r. ⌜ tripAnswer r (now (table .exit)) (now (output .exit)) (now (marks .exit)) ≡ tripCall (now (description .entry)) (now (spans .entry)) (now (images .entry)) (now (table .entry)) (now (output .entry)) (now (marks .entry)) ⌝ }
+{
+    if !image_record::formed(spans) {
+        return packed(Refusal::OutOfDomain);
+    }
+    let decoded = record::decode(description);
+    let outcome = decoded.answer;
+    match outcome {
+        Answer::Described => {
+            trip::hand_over(decoded.description, spans, images, table, output, marks)
         }
         Answer::Refused(why) => packed(why),
     }

@@ -34,7 +34,7 @@ pub fn four_at(b: &[u8], p: usize) -> u32
 }
 
 // Fills `out` with the bytes from the place p on.
-fn fill(b: &[u8], p: usize, out: &mut [u8])
+pub fn fill(b: &[u8], p: usize, out: &mut [u8])
     requires { ⌜ p < size ⌝ }
     ensures { λ r. ⌜ now (out .exit) ≡ bytesAt (now (b .entry)) p (length (now (out .entry))) ⌝ }
 {

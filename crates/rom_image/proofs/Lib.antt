@@ -1,4 +1,3 @@
-pub mod Picks
 pub mod Chips
 pub mod Entries
 pub mod Past

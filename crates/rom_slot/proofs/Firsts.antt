@@ -1,4 +1,4 @@
--- What a loop that keeps the first fault needs of `firstOf`; no fault of all is no fault of any. Assumes nothing.
+-- What a loop that keeps the first fault needs of `firstOf`; no fault of all is no fault of any, and the other way. Assumes nothing.
 use mathlib.Core.Path.{_≡_, refl}
 use Prim.Native.Nat.{ℕ, zero, suc, _+_, _<_}
 use native.Mathlib.Numerals.{add-one}
@@ -39,3 +39,8 @@ first-all f (suc n) e k h =
       | inl q ↦ rw q (or-right (firstOf n f) (f n) e)
       | inr l ↦ first-all f n (or-left (firstOf n f) (f n) e) k l
     ]
+
+pub none-of : (n : ℕ) (f : ℕ → FirstFault) → ((k : ℕ) → k < n → f k ≡ None) → firstOf n f ≡ None
+unfolding firstOf
+none-of zero f h = refl
+none-of (suc n) f h = rw (none-of n f (λ k l. h k (omega arith)), h n (omega arith))

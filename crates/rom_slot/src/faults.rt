@@ -21,7 +21,7 @@ ghost use Rattle.rom_slot.specs.Positions.{dataBase};
 ghost use Rattle.rom_slot.specs.Domain.{inDomain};
 ghost use Rattle.rom_slot.specs.Faults.{faultIf, firstOf, tableSize, tooLarge, tooShort, addressIn, chipsFit, linesIn, missingAt, shortAt, linesFault, lentFault, buildFault};
 
-fn fault_if(bad: bool, why: Refusal) -> FirstFault
+pub fn fault_if(bad: bool, why: Refusal) -> FirstFault
     ensures { λ r. ⌜ r ≡ faultIf bad why ⌝ }
 {
     if bad {
@@ -68,7 +68,7 @@ fn lines_in(c: CsDataLayout) -> bool
     positions_in(&gpios, c.num_data_pins, data_base(c))
 }
 
-fn chips_fit(set_type: ChipSetType, n: u8) -> bool
+pub fn chips_fit(set_type: ChipSetType, n: u8) -> bool
     ensures { λ r. ⌜ r ≡ chipsFit «set_type» n ⌝ }
 {
     match set_type {

@@ -40,7 +40,8 @@ pub fn num_picks(set_type: ChipSetType, chips: u8) -> u8
     }
 }
 
-fn first_select(c: CsDataLayout) -> XGpio
+// The GPIO of the first select line.
+pub fn first_select(c: CsDataLayout) -> XGpio
     ensures { λ r. ⌜ r ≡ firstSelect c ⌝ }
 {
     let lines = c.select_lines;
@@ -84,10 +85,10 @@ pub fn pick_of(set_type: ChipSetType, a: AddrLayout, c: CsDataLayout, k: u8) -> 
 fn bank(chips: u8, bits: u8) -> Picked
     ensures { λ r. ⌜ r ≡ pickedBy Banked chips bits ⌝ }
 {
-    if bits < chips {
-        return Picked::Chip(bits);
+    if chips <= bits {
+        return Picked::NoChip;
     }
-    Picked::NoChip
+    Picked::Chip(bits)
 }
 
 fn only_one(bits: u8) -> Picked

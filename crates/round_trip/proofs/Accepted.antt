@@ -29,13 +29,13 @@ use Rattle.addr_layout.specs.declared.layout.AddrLayout.{AddrLayout}
 use Rattle.cs_data_layout.specs.declared.layout.CsDataLayout.{CsDataLayout}
 use Rattle.rom_slot.specs.Positions.{dataBase}
 use Rattle.rom_slot.specs.Faults.{faultIf, chipsFit, tableSize}
+use Rattle.rom_slot.proofs.Firsts.{none-of}
 use Rattle.unscramble.specs.Stored as stored
 use Rattle.unscramble.specs.Faults.{layoutFault, romFault, xFault, xFaults, selectFault, pickFault, roomFault, romsFault}
 use Rattle.unscramble.specs.Words.{allWords}
 use Rattle.unscramble.specs.declared.stored.StoredSlot.{StoredSlot}
 use Rattle.round_trip.specs.WellWired.{OneInside, WellWired, Mapped, StoredAs}
 use Rattle.round_trip.specs.Fitted.{ToldApart}
-use Rattle.round_trip.proofs.First.{none-of}
 use Rattle.round_trip.proofs.Given.{window-is, is-window}
 
 none-if : (b : Bool) (why : Refusal) → b ≡ false → faultIf b why ≡ None

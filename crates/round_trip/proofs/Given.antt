@@ -22,7 +22,7 @@ use Rattle.addr_layout.specs.declared.layout.XGpio.{XGpio}
 use Rattle.addr_layout.specs.declared.layout.AddrLayout.{AddrLayout}
 use Rattle.cs_data_layout.specs.declared.layout.CsDataLayout.{CsDataLayout}
 use Rattle.rom_slot.specs.Positions.{xPosition}
-use Rattle.rom_slot.specs.Picks.{xLines, picksOf, xGpio, pickOf, pickPosition}
+use Rattle.rom_slot.specs.Picks.{xLines, picksOf, xGpio, pickOf}
 use Rattle.unscramble.specs.Stored as stored
 use Rattle.unscramble.specs.Words as read
 use Rattle.unscramble.specs.declared.stored.StoredSlot.{StoredSlot}

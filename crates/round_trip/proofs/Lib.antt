@@ -1,7 +1,6 @@
 pub mod Served
 pub mod Codes
 pub mod Values
-pub mod First
 pub mod Read
 pub mod Pins
 pub mod Apart
@@ -11,3 +10,6 @@ pub mod Accepted
 pub mod Bytes
 pub mod Laid
 pub mod RoundTrip
+pub mod StoredOf
+pub mod Whole
+pub mod Chained

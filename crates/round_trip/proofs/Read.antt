@@ -2,13 +2,11 @@
 use mathlib.Core.Path.{_≡_, refl, sym, _∙_, ap}
 use mathlib.Core.Bool.{Bool, true, false, not, _&&_}
 use mathlib.Core.List.{List}
-use Prim.Native.Nat.{ℕ, zero, suc, _/_, _^_, _<_, min}
+use Prim.Native.Nat.{ℕ, zero, suc, _^_, _<_}
 use native.Mathlib.Omega.{arith}
 use lib.ListN.{getD}
 use borrow.Author.Tests.{eq-eqb, ne-eqb}
 use Rattle.gpio.specs.Tab.{joined}
-use Rattle.bits.specs.Bits.{gather}
-use Rattle.bits.proofs.Gathered.{gather-lt}
 use Rattle.words.specs.Words.{word, wordsBytes}
 use Rattle.words.proofs.Words.{words-cong}
 use Rattle.slot.specs.declared.description.Description.{Description}
@@ -17,20 +15,21 @@ use Rattle.addr_layout.specs.declared.layout.AddrLayout.{AddrLayout}
 use Rattle.cs_data_layout.specs.declared.layout.CsDataLayout.{CsDataLayout}
 use Rattle.listing.specs.declared.FirstFault.the-variants.{None}
 use Rattle.rom_slot.specs.Images.{spanAt, chipBytes}
-use Rattle.rom_slot.specs.Picks.{picksOf, numPicks, pickPosition, pickedBy}
 use Rattle.rom_slot.specs.Faults.{faultIf, chipsFit, entriesOf}
 use Rattle.rom_slot.specs.declared.images.ImageSpan.{ImageSpan}
 use Rattle.rom_slot.specs.declared.picks.Picked.{Picked}
 use Rattle.rom_slot.specs.declared.picks.Picked.the-variants.{NoChip, Chip}
+use Rattle.rom_slot.proofs.Firsts.{none-of}
 use Rattle.rom_image.specs.Entry.{tableOf}
-use Rattle.rom_image.proofs.Picks.{picked-below}
+use Rattle.kept.proofs.First.{first-passes, first-found}
 use Rattle.unscramble.specs.Stored as stored
 use Rattle.unscramble.specs.Words as read
 use Rattle.unscramble.specs.Recovered.{firstFor, keptValue, disagreesFor, inconsistent, unservedIn, unserved, recovered}
 use Rattle.unscramble.specs.declared.stored.StoredSlot.{StoredSlot}
+use Rattle.unscramble.proofs.Serves as serves
+use Rattle.unscramble.proofs.Serves.{serves-picks, serves-address, serves-counted, serves-is}
 use Rattle.round_trip.specs.Fitted.{Fitted, ToldApart}
 use Rattle.round_trip.proofs.Values.{value-is, index, index-lt, index-picks, index-address}
-use Rattle.round_trip.proofs.First.{none-of, serves-picks, serves-address, serves-counted, serves-is, first-serves, first-found}
 
 -- a test of two that fails by its second
 never : (b c : Bool) (why : Refusal) → (b ≡ true → c ≡ true) → faultIf (b && not c) why ≡ None
@@ -56,10 +55,7 @@ module _ (d : Description) (a : AddrLayout) (c : CsDataLayout) (images : List �
 
   -- a ROM that is picked is one of the slot's
   picked-there : (rom i : ℕ) → read.pickedAt s (d .«set_type») i ≡ Chip rom → rom < d .«num_chips»
-  unfolding read.pickedAt
-  picked-there rom i p =
-      picked-below (d .«set_type») (d .«num_chips») _ rom fit (gather-lt (numPicks d) (read.pickPosition s (d .«set_type»)) i)
-      (sym (ap (λ (n : ℕ). pickedBy (d .«set_type») n (gather (picksOf (d .«set_type») n) (read.pickPosition s (d .«set_type»)) i)) (f .chips)) ∙ p)
+  picked-there rom i p = omega (arith, f .chips, serves.picked-there s (d .«set_type») (ap (chipsFit (d .«set_type»)) (f .chips) ∙ fit) rom i p)
 
   -- an entry for a word has that word
   served-value : (rom n i : ℕ) → i < 2 ^ stored.pinsOf s → read.serves s (d .«set_type») rom n i ≡ true → read.valueAt s table rom i ≡ wordIn rom n
@@ -70,8 +66,8 @@ module _ (d : Description) (a : AddrLayout) (c : CsDataLayout) (images : List �
 
   kept-value : (rom n i : ℕ) → i < 2 ^ stored.pinsOf s → read.serves s (d .«set_type») rom n i ≡ true → keptValue s (d .«set_type») table rom n ≡ wordIn rom n
   kept-value rom n i l e =
-      let g = first-found s (d .«set_type») rom n (2 ^ stored.pinsOf s) i l e in
-      served-value rom n _ g (first-serves s (d .«set_type») rom n (2 ^ stored.pinsOf s) g)
+      let g = first-found (read.serves s (d .«set_type») rom n) (2 ^ stored.pinsOf s) i l e in
+      served-value rom n _ g (first-passes (read.serves s (d .«set_type») rom n) (2 ^ stored.pinsOf s) g)
 
   agrees : (i : ℕ) → i < 2 ^ stored.pinsOf s → (p : Picked) → disagreesFor s (d .«set_type») table i p ≡ None
   agrees i l NoChip = refl
@@ -100,7 +96,7 @@ module _ (d : Description) (a : AddrLayout) (c : CsDataLayout) (images : List �
 
     served-one : unservedIn s (d .«set_type») rom n ≡ None
     served-one =
-        let g = first-found s (d .«set_type») rom n (2 ^ stored.pinsOf s) at at-lt at-serves in
+        let g = first-found (read.serves s (d .«set_type») rom n) (2 ^ stored.pinsOf s) at at-lt at-serves in
         rw (ne-eqb (firstFor s (d .«set_type») rom n (2 ^ stored.pinsOf s)) (2 ^ stored.pinsOf s) (λ e. omega arith))
 
     kept-one : keptValue s (d .«set_type») table rom n ≡ wordIn rom n

@@ -24,7 +24,7 @@ use Rattle.slot.specs.declared.refusal.Refusal.{Refusal}
 use Rattle.slot.specs.declared.refusal.Refusal.the-variants.{OutOfDomain}
 use Rattle.slot.specs.SlotContext.{boardPinsIn, raisedOf}
 use Rattle.domain.specs.Domain.{between, pinsIn, controlIn, socketIn, boardIn, wordBytesIn, maxImageSizeIn, chipIn, chipsIn, multiIn, descriptionIn}
-use Rattle.domain.proofs.Bounds.{board-in, chip-count, word-bytes}
+use Rattle.domain.proofs.Bounds.{board-in, chip-count}
 use Rattle.listing.specs.Listing.{orElse}
 use Rattle.listing.specs.declared.FirstFault.{FirstFault}
 use Rattle.listing.specs.declared.FirstFault.the-variants.{None, Of}

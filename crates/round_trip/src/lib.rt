@@ -1,1 +1,114 @@
 // The round trip: what the build writes, read-back reads. specs/ states it, proofs/ proves it.
+pub mod stored; // what read-back is given of a found layout
+
+use crate::stored::stored_slot;
+use addr_layout::derive_addr_layout;
+use addr_layout::layout::AddrLayout;
+use addr_layout::layout::AddrOutcome;
+use cs_data_layout::derive_cs_data_layout;
+use cs_data_layout::layout::CsDataLayout;
+use cs_data_layout::layout::CsDataOutcome;
+use cs_data_layout::layout::GivenLayout;
+use listing::FirstFault;
+use rom_image::BuildAnswer;
+use rom_image::build_rom_image;
+use rom_slot::faults::table_size;
+use rom_slot::images::ImageSpan;
+use slot::description::Description;
+use unscramble::unscramble_slot;
+ghost use mathlib.Core.Path.{_≡_};
+ghost use mathlib.Core.Bool.{true};
+ghost use Prim.Native.Nat.{_≤_, _<_, _^_};
+ghost use lib.ListN.{length};
+ghost use Rattle.rom_slot.specs.Faults.{tableSize};
+ghost use Rattle.rom_image.specs.Build.{buildOf};
+ghost use Rattle.cs_data_layout.specs.Search.{csDataAnswer};
+ghost use Rattle.unscramble.specs.Recovered.{readBack};
+ghost use Rattle.round_trip.specs.Chain.{trip, readOf, buildTrip, selectTrip, roundTripOf, AsDemanded};
+
+// Reads the table back that a build has left at the front of a buffer.
+fn read_table(
+    d: Description,
+    a: AddrLayout,
+    c: CsDataLayout,
+    table: &[u8],
+    output: &mut [u8],
+    marks: &mut [u8],
+) -> FirstFault
+    requires { ⌜ (a .«num_addr_pins» < 32) × (1 ≤ d .«word_bytes») × (d .«word_bytes» ≤ 2) × (tableSize d a ≤ 2 ^ 20) ⌝ }
+    requires { ⌜ tableSize d a ≤ length (now table) ⌝ }
+    ensures { λ r. ⌜ trip r (now (table .entry)) (now (output .exit)) (now (marks .exit)) ≡ readOf d a c (now (table .entry)) (now (output .entry)) (now (marks .entry)) ⌝ }
+{
+    let size = table_size(d, a) as usize;
+    unscramble_slot(stored_slot(d, a, c), &table[0..size], output, marks)
+}
+
+// The build by the layouts found, and read-back of its table.
+fn build_and_read(
+    d: Description,
+    a: AddrLayout,
+    c: CsDataLayout,
+    images: &[u8],
+    spans: [ImageSpan; 4],
+    table: &mut [u8],
+    output: &mut [u8],
+    marks: &mut [u8],
+) -> FirstFault
+    ensures { λ r. ⌜ trip r (now (table .exit)) (now (output .exit)) (now (marks .exit)) ≡ buildTrip d a c (now (output .entry)) (now (marks .entry)) (buildOf d a c (now (images .entry)) spans (now (table .entry))) ⌝ }
+{
+    match build_rom_image(d, a, c, images, spans, table) {
+        BuildAnswer::Refused(why) => FirstFault::Of(why),
+        BuildAnswer::Built => read_table(d, a, c, table, output, marks),
+    }
+}
+
+// The select search by the address layout found, and what follows it.
+fn select_and_build(
+    d: Description,
+    a: AddrLayout,
+    images: &[u8],
+    spans: [ImageSpan; 4],
+    table: &mut [u8],
+    output: &mut [u8],
+    marks: &mut [u8],
+) -> FirstFault
+    ensures { λ r. ⌜ trip r (now (table .exit)) (now (output .exit)) (now (marks .exit)) ≡ selectTrip d a (now (images .entry)) spans (now (table .entry)) (now (output .entry)) (now (marks .entry)) (csDataAnswer d (record { given = true; layout = a })) ⌝ }
+{
+    let found = derive_cs_data_layout(
+        d,
+        GivenLayout {
+            given: true,
+            layout: a,
+        },
+    );
+    let outcome = found.outcome;
+    match outcome {
+        CsDataOutcome::Refused(why) => FirstFault::Of(why),
+        CsDataOutcome::LaidOut => {
+            build_and_read(d, a, found.layout, images, spans, table, output, marks)
+        }
+    }
+}
+
+// Both searches, the build and read-back in turn. The first that refuses answers; a well wired slot that is not refused reads back as
+// its chips.
+pub fn round_trip(
+    d: Description,
+    images: &[u8],
+    spans: [ImageSpan; 4],
+    table: &mut [u8],
+    output: &mut [u8],
+    marks: &mut [u8],
+) -> FirstFault
+    ensures { λ r. ⌜ trip r (now (table .exit)) (now (output .exit)) (now (marks .exit)) ≡ roundTripOf d (now (images .entry)) spans (now (table .entry)) (now (output .entry)) (now (marks .entry)) ⌝ }
+    ensures { λ r. ⌜ AsDemanded d (now (images .entry)) spans (now (table .entry)) (now (output .entry)) (now (marks .entry)) (readBack r (now (output .exit)) (now (marks .exit))) ⌝ }
+{
+    let found = derive_addr_layout(d);
+    let outcome = found.outcome;
+    match outcome {
+        AddrOutcome::Refused(why) => FirstFault::Of(why),
+        AddrOutcome::LaidOut => {
+            select_and_build(d, found.layout, images, spans, table, output, marks)
+        }
+    }
+}

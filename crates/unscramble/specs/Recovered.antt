@@ -1,11 +1,12 @@
 -- `unscramble_slot`: what it answers, and what the lent buffers hold then. Assumes nothing.
-use Prim.Native.Nat.{ℕ, zero, suc, _*_, _^_}
+use Prim.Native.Nat.{ℕ, _*_, _^_}
 use mathlib.Core.Bool.{cond, not, _&&_}
 use mathlib.Core.List.{List, _++_}
 use lib.Dec.{ltb, eqb}
 use lib.ListN.{length, drop, replicate}
 use Rattle.gpio.specs.Tab.{joined}
 use Rattle.words.specs.Words.{wordsBytes}
+use Rattle.kept.specs.Kept.{firstWhere}
 use Rattle.slot.specs.declared.description.ChipSetType.{ChipSetType}
 use Rattle.slot.specs.declared.refusal.Refusal.{Refusal}
 use Rattle.slot.specs.declared.refusal.Refusal.the-variants.{OutOfDomain, WrongSize, UnknownSlotType, ShortBuffer, Inconsistent, Unserved}
@@ -23,10 +24,8 @@ use Rattle.unscramble.specs.declared.stored.SlotType.the-variants.{Unkno
 use Rattle.unscramble.specs.declared.stored.StoredSlot.{StoredSlot}
 
 -- the first of the entries before m that is for word n of a ROM; m where none is
-unfoldable pub firstFor : StoredSlot → ChipSetType → ℕ → ℕ → ℕ → ℕ
-firstFor s set rom n zero = 0
-firstFor s set rom n (suc m) =
-    cond (ltb (firstFor s set rom n m) m) (firstFor s set rom n m) (cond (serves s set rom n m) m (suc m))
+abbrev pub firstFor : StoredSlot → ChipSetType → ℕ → ℕ → ℕ → ℕ
+firstFor s set rom n m = firstWhere m (serves s set rom n)
 
 -- "Entries are read in rising index order, the first value kept."
 abbrev pub keptValue : StoredSlot → ChipSetType → List ℕ → ℕ → ℕ → ℕ
@@ -87,10 +86,13 @@ afterFault s set stored output marks None =
     afterEntries s set stored output marks (orElse (inconsistent s set stored) (unserved s set))
 
 -- "Plugins are copied whole."; "a plugin is tested for 16 after 17", "touches no mark"
+abbrev pub pluginRead : List ℕ → List ℕ → List ℕ → ReadBack
+pluginRead stored output marks =
+    cond (ltb (length output) (length stored)) (refused ShortBuffer output marks) (readBack None (front stored output) marks)
+
 abbrev pub ofType : StoredSlot → List ℕ → List ℕ → List ℕ → SlotType → ReadBack
 ofType s stored output marks Unknown = refused UnknownSlotType output marks
-ofType s stored output marks Plugin =
-    cond (ltb (length output) (length stored)) (refused ShortBuffer output marks) (readBack None (front stored output) marks)
+ofType s stored output marks Plugin = pluginRead stored output marks
 ofType s stored output marks (Roms set) =
     afterFault s set stored output marks (romsFault s set stored (length output) (length marks))
 

@@ -1,9 +1,9 @@
 -- The slot as it is stored: its window, its maps, its forced bits. Assumes nothing.
 use Prim.Native.Nat.{ℕ, zero, suc, _+_, _-_, _/_, _%_, _^_}
 use mathlib.Core.Bool.{Bool, true, false, cond, _&&_, _||_, not}
-use mathlib.Core.List.{List, []}
+use mathlib.Core.List.{List}
 use lib.Dec.{leb, ltb, eqb}
-use lib.ListN.{getD}
+use lib.ListN.{getD, replicate}
 use Rattle.gpio.specs.Each.{each}
 use Rattle.gpio.specs.Candidates.{candidatesIn}
 use Rattle.gpio.specs.declared.candidates.Candidates.{Candidates}
@@ -13,7 +13,7 @@ use Rattle.unscramble.specs.declared.stored.Rom.{Rom}
 use Rattle.unscramble.specs.declared.stored.StoredSlot.{StoredSlot}
 
 abbrev pub noRom : Rom
-noRom = record { «has_map» = false; «chip_size» = 0; addr = []; «data_lines» = [] }
+noRom = record { «has_map» = false; «chip_size» = 0; addr = replicate 32 0; «data_lines» = replicate 32 0 }
 
 abbrev pub romAt : StoredSlot → ℕ → Rom
 romAt s k = getD (s .roms) k noRom

@@ -1,2 +1,98 @@
-// Read-back: the chips' bytes from a stored table. What it is given; specs/ says what it answers.
+// Read-back: the chips' bytes from a stored table.
 pub mod stored; // the slot as it is stored
+mod in_domain; // number 1
+mod window; // its windows, and what is wrong with its algorithms
+mod roms; // the ROMs' maps and words
+mod picks; // the lines that pick a ROM
+mod faults; // the refusals in their order
+mod forced; // the bits that overrides force
+mod reading; // what the entries are read by
+mod place; // a word's ROM and address
+
+use crate::faults::roms_fault;
+use crate::in_domain::stored_in;
+use crate::place::fault_of;
+use crate::reading::reading;
+use crate::stored::SlotType;
+use crate::stored::StoredSlot;
+use crate::window::entries;
+use bytes::copy;
+use kept::collect;
+use listing::FirstFault;
+use slot::description::ChipSetType;
+use slot::refusal::Refusal;
+ghost use mathlib.Core.Path.{_≡_};
+ghost use mathlib.Core.Bool.{true};
+ghost use mathlib.Core.List.{List};
+ghost use Prim.Native.Nat.{ℕ};
+ghost use lib.ListN.{length};
+ghost use Rattle.listing.specs.Listing.{orElse};
+ghost use Rattle.listing.specs.declared.FirstFault.the-variants.{None};
+ghost use Rattle.unscramble.specs.Stored.{storedIn};
+ghost use Rattle.unscramble.specs.Faults.{romsFault};
+ghost use Rattle.unscramble.specs.Recovered.{readBack, pluginRead, inconsistent, unserved, afterEntries, afterFault, unscrambled};
+
+// A plugin is stored as it is.
+fn plugin(stored: &[u8], output: &mut [u8]) -> FirstFault
+    ensures { λ r. ⌜ ((marks : List ℕ) → readBack r (now (output .exit)) marks ≡ pluginRead (now (stored .entry)) (now (output .entry)) marks) ⌝ }
+{
+    if output.len() < stored.len() {
+        return FirstFault::Of(Refusal::ShortBuffer);
+    }
+    copy(stored, output);
+    FirstFault::None
+}
+
+// The ROMs of a slot that nothing refuses before its entries are read.
+fn read_entries(
+    s: StoredSlot,
+    set_type: ChipSetType,
+    stored: &[u8],
+    output: &mut [u8],
+    marks: &mut [u8],
+) -> FirstFault
+    requires { ⌜ (storedIn s ≡ true) × (romsFault s «set_type» (now stored) (length (now output)) (length (now marks)) ≡ None) ⌝ }
+    ensures { λ r. ⌜ readBack r (now (output .exit)) (now (marks .exit)) ≡ afterEntries s «set_type» (now (stored .entry)) (now (output .entry)) (now (marks .entry)) (orElse (inconsistent s «set_type» (now (stored .entry))) (unserved s «set_type»)) ⌝ }
+{
+    let outcome = collect(reading(s, set_type), stored, entries(s), output, marks);
+    fault_of(s, outcome)
+}
+
+fn roms_read(
+    s: StoredSlot,
+    set_type: ChipSetType,
+    stored: &[u8],
+    output: &mut [u8],
+    marks: &mut [u8],
+) -> FirstFault
+    requires { ⌜ storedIn s ≡ true ⌝ }
+    ensures { λ r. ⌜ readBack r (now (output .exit)) (now (marks .exit)) ≡ afterFault s «set_type» (now (stored .entry)) (now (output .entry)) (now (marks .entry)) (romsFault s «set_type» (now (stored .entry)) (length (now (output .entry))) (length (now (marks .entry)))) ⌝ }
+{
+    match roms_fault(s, set_type, stored, output.len(), marks.len()) {
+        FirstFault::Of(why) => FirstFault::Of(why),
+        FirstFault::None => read_entries(s, set_type, stored, output, marks),
+    }
+}
+
+// Reads a stored slot back: its ROMs' words, chip after chip, and a mark for each; a plugin's bytes as they are.
+pub fn unscramble_slot(
+    s: StoredSlot,
+    stored: &[u8],
+    output: &mut [u8],
+    marks: &mut [u8],
+) -> FirstFault
+    ensures { λ r. ⌜ readBack r (now (output .exit)) (now (marks .exit)) ≡ unscrambled s (now (stored .entry)) (now (output .entry)) (now (marks .entry)) ⌝ }
+{
+    if !stored_in(s) {
+        return FirstFault::Of(Refusal::OutOfDomain);
+    }
+    if stored.len() != s.size as usize {
+        return FirstFault::Of(Refusal::WrongSize);
+    }
+    let slot_type = s.slot_type;
+    match slot_type {
+        SlotType::Unknown => FirstFault::Of(Refusal::UnknownSlotType),
+        SlotType::Plugin => plugin(stored, output),
+        SlotType::Roms(set_type) => roms_read(s, set_type, stored, output, marks),
+    }
+}

@@ -1,7 +1,8 @@
 -- `onerom_build_rom_image` meets its contract. Assumes nothing.
-use mathlib.Core.Path.{_∙_}
+use mathlib.Core.Path.{ap, _∙_}
+use Prim.Native.Nat.{ℕ}
 use borrow.Author.Needs.{needs}
-use Rattle.onerom.specs.Calls.{buildCall}
+use Rattle.onerom.specs.Calls.{answer, refused, buildCall}
 use Rattle.onerom.proofs.Records.{taken, no-record, formed, not-formed}
 use Rattle.onerom.proofs.onerom_build_rom_image.Statement.{statement}
 use Rattle.onerom.proofs.onerom_build_rom_image.Tie as tie
@@ -9,22 +10,25 @@ use Rattle.onerom.proofs.onerom_build_rom_image.Tie as tie
 returns : tie.Need-returns
 unfolding buildCall
 returns c =
-    not-formed _ (c .before .before .before .before .before .before .before .before .before .args .table .now) _ _ _ (c .before .before .formed .ensures) (c .before .if1 .taken) (c .packed .ensures)
+    let s = c .before .before .before .before .before .before .before .before .before in
+    ap (λ (r : ℕ). answer r (s .args .table .now)) (c .packed .ensures)
+    ∙ not-formed _ _ _ _ (c .before .before .formed .ensures) (c .before .if1 .taken)
 
 returns-2 : tie.Need-returns-2
 unfolding buildCall
 returns-2 c =
     let s = c .before .before .before .before .before .before .before .before .before .before .before .before .before .before .before in
     c .before .before .hand-over .ensures
-    ∙ taken _ (s .args .description .now) (s .args .table .now) _ (c .before .before .before .before .before .before .decode .ensures) (c .before .before .before .before .enum-told .given .1)
-    ∙ formed _ (s .args .table .now) _ _ (c .before .before .before .before .before .before .before .before .formed .ensures) (c .before .before .before .before .before .before .before .if1 .left)
+    ∙ taken _ (λ why. refused why (s .args .table .now)) (s .args .description .now) _ (c .before .before .before .before .before .before .decode .ensures) (c .before .before .before .before .enum-told .given .1)
+    ∙ formed _ _ _ _ (c .before .before .before .before .before .before .before .before .formed .ensures) (c .before .before .before .before .before .before .before .if1 .left)
 
 returns-3 : tie.Need-returns-3
 unfolding buildCall
 returns-3 c =
     let s = c .before .before .before .before .before .before .before .before .before .before .before .before .before in
-    no-record _ (s .args .description .now) (s .args .table .now) _ (c .before .before .before .before .decode .ensures) _ _ (c .before .before .outcome .given .1) (c .packed2 .ensures)
-    ∙ formed _ (s .args .table .now) _ _ (c .before .before .before .before .before .before .formed .ensures) (c .before .before .before .before .before .if1 .left)
+    ap (λ (r : ℕ). answer r (s .args .table .now)) (c .packed2 .ensures)
+    ∙ no-record _ (λ why. refused why (s .args .table .now)) (s .args .description .now) _ (c .before .before .before .before .decode .ensures) _ (c .before .before .outcome .given .1)
+    ∙ formed _ _ _ _ (c .before .before .before .before .before .before .formed .ensures) (c .before .before .before .before .before .if1 .left)
 
 pub onerom-build-rom-image-spec : {M : Type 1} → statement M
 onerom-build-rom-image-spec =

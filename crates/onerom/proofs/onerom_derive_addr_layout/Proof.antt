@@ -8,7 +8,7 @@ use Rattle.record.specs.declared.Answer.the-variants.{Described}
 use Rattle.record.specs.declared.Decoded.{Decoded}
 use Rattle.addr_layout.specs.Search.{addrAnswer}
 use Rattle.addr_layout.specs.declared.layout.AddrAnswer.{AddrAnswer}
-use Rattle.onerom.specs.Calls.{addrFound, addrCall}
+use Rattle.onerom.specs.Calls.{answer, refused, addrFound, addrCall}
 use Rattle.onerom.proofs.Records.{taken, no-record}
 use Rattle.onerom.proofs.onerom_derive_addr_layout.Statement.{statement}
 use Rattle.onerom.proofs.onerom_derive_addr_layout.Tie as tie
@@ -17,7 +17,7 @@ searched : (b buffer : List ℕ) (dec : Decoded) → dec ≡ decodedOf b → (a 
     → a ≡ addrAnswer (dec .description) → addrFound a buffer ≡ addrCall b buffer
 unfolding addrCall
 searched b buffer dec e a t q =
-    ap (λ (x : AddrAnswer). addrFound x buffer) q ∙ taken (λ d. addrFound (addrAnswer d) buffer) b buffer dec e t
+    ap (λ (x : AddrAnswer). addrFound x buffer) q ∙ taken (λ d. addrFound (addrAnswer d) buffer) (λ why. refused why buffer) b dec e t
 
 returns : tie.Need-returns
 returns c =
@@ -30,8 +30,8 @@ returns-2 : tie.Need-returns-2
 unfolding addrCall
 returns-2 c =
     let s = c .before .before .before .before .before .before .before in
-    no-record _ (s .args .description .now) (s .args .layout .now) _ (c .before .before .before .before .decode .ensures) _ _
-    (c .before .before .outcome .given .1) (c .packed .ensures)
+    ap (λ (r : ℕ). answer r (s .args .layout .now)) (c .packed .ensures)
+    ∙ no-record _ (λ why. refused why (s .args .layout .now)) (s .args .description .now) _ (c .before .before .before .before .decode .ensures) _ (c .before .before .outcome .given .1)
 
 pub onerom-derive-addr-layout-spec : {M : Type 1} → statement M
 onerom-derive-addr-layout-spec =

@@ -1,5 +1,5 @@
 -- `onerom_derive_cs_data_layout` meets its contract. Assumes nothing.
-use mathlib.Core.Path.{_≡_, _∙_}
+use mathlib.Core.Path.{_≡_, ap, _∙_}
 use mathlib.Core.List.{List}
 use Prim.Native.Nat.{ℕ}
 use borrow.Author.Needs.{needs}
@@ -10,21 +10,22 @@ use Rattle.cs_data_layout.specs.Search.{csDataAnswer}
 use Rattle.cs_data_layout.specs.declared.layout.CsDataAnswer.{CsDataAnswer}
 use Rattle.cs_data_layout.specs.declared.layout.GivenLayout.{GivenLayout}
 use Rattle.layout_record.specs.AddrRecord.{givenAt}
-use Rattle.onerom.specs.Calls.{described, csDataFound, csDataCall}
+use Rattle.onerom.specs.Calls.{answer, refused, described, csDataFound, csDataCall}
 use Rattle.onerom.proofs.Records.{taken, no-record, formed, not-formed}
 use Rattle.onerom.proofs.onerom_derive_cs_data_layout.Statement.{statement}
 use Rattle.onerom.proofs.onerom_derive_cs_data_layout.Tie as tie
 
 searched : (b l buffer : List ℕ) (dec : Decoded) → dec ≡ decodedOf b → (g : GivenLayout) (a : CsDataAnswer) → g ≡ givenAt l
     → dec .answer ≡ Described → a ≡ csDataAnswer (dec .description) g
-    → csDataFound a buffer ≡ described (λ d. csDataFound (csDataAnswer d (givenAt l)) buffer) buffer (decodedOf b)
-searched b l buffer dec e g a eg t q = rw (q, eg) (taken (λ d. csDataFound (csDataAnswer d (givenAt l)) buffer) b buffer dec e t)
+    → csDataFound a buffer ≡ described (λ d. csDataFound (csDataAnswer d (givenAt l)) buffer) (λ why. refused why buffer) (decodedOf b)
+searched b l buffer dec e g a eg t q = rw (q, eg) (taken (λ d. csDataFound (csDataAnswer d (givenAt l)) buffer) (λ why. refused why buffer) b dec e t)
 
 returns : tie.Need-returns
 unfolding csDataCall
 returns c =
-    not-formed _ (c .before .before .before .before .before .before .args .layout .now) _ _ _ (c .before .before .given-formed .ensures)
-    (c .before .if1 .taken) (c .packed .ensures)
+    let s = c .before .before .before .before .before .before in
+    ap (λ (r : ℕ). answer r (s .args .layout .now)) (c .packed .ensures)
+    ∙ not-formed _ _ _ _ (c .before .before .given-formed .ensures) (c .before .if1 .taken)
 
 returns-2 : tie.Need-returns-2
 unfolding csDataCall
@@ -35,16 +36,16 @@ returns-2 c =
     (c .before .before .before .before .before .before .before .before .decode .ensures) _ _
     (c .before .before .before .before .before .given-at .ensures) (c .before .before .before .before .before .before .enum-told .given .1)
     (c .before .before .before .before .derive-cs-data-layout .ensures)
-    ∙ formed _ (s .args .layout .now) _ _ (c .before .before .before .before .before .before .before .before .before .before .given-formed .ensures)
+    ∙ formed _ _ _ _ (c .before .before .before .before .before .before .before .before .before .before .given-formed .ensures)
     (c .before .before .before .before .before .before .before .before .before .if1 .left)
 
 returns-3 : tie.Need-returns-3
 unfolding csDataCall
 returns-3 c =
     let s = c .before .before .before .before .before .before .before .before .before .before in
-    no-record _ (s .args .description .now) (s .args .layout .now) _ (c .before .before .before .before .decode .ensures) _ _
-    (c .before .before .outcome .given .1) (c .packed2 .ensures)
-    ∙ formed _ (s .args .layout .now) _ _ (c .before .before .before .before .before .before .given-formed .ensures)
+    ap (λ (r : ℕ). answer r (s .args .layout .now)) (c .packed2 .ensures)
+    ∙ no-record _ (λ why. refused why (s .args .layout .now)) (s .args .description .now) _ (c .before .before .before .before .decode .ensures) _ (c .before .before .outcome .given .1)
+    ∙ formed _ _ _ _ (c .before .before .before .before .before .before .given-formed .ensures)
     (c .before .before .before .before .before .if1 .left)
 
 pub onerom-derive-cs-data-layout-spec : {M : Type 1} → statement M

@@ -4,10 +4,10 @@ use Rattle.rom_slot.proofs.picks.bank.Statement.{statement}
 use Rattle.rom_slot.proofs.picks.bank.Tie as tie
 
 returns : tie.Need-returns
-returns c = rw (lt-ltb _ _ (c .if1 .taken))
+returns c = rw (le-ltb _ _ (c .if1 .taken))
 
 returns-2 : tie.Need-returns-2
-returns-2 c = rw (le-ltb _ _ (c .if1 .left))
+returns-2 c = rw (lt-ltb _ _ (c .if1 .left))
 
 pub bank-spec : {M : Type 1} → statement M
 bank-spec =

@@ -1,0 +1,61 @@
+-- `onerom_round_trip` meets its contract. Assumes nothing.
+use mathlib.Core.Path.{ap, _∙_}
+use Prim.Native.Nat.{ℕ}
+use Rattle.slot.specs.declared.refusal.Refusal.{Refusal}
+use Rattle.onerom.specs.Calls.{TripAnswered, tripAnswer, tripRefused, tripCall}
+use Rattle.onerom.proofs.Records.{taken, no-record, formed, not-formed}
+use borrow.Author.Needs.{needs}
+use Rattle.onerom.proofs.onerom_round_trip.Statement.{statement}
+use Rattle.onerom.proofs.onerom_round_trip.Tie as tie
+
+-- what a refusal leaves
+abbrev refuse : (s : tie.Start) → Refusal → TripAnswered
+refuse s why = tripRefused why (s .args .table .now) (s .args .output .now) (s .args .marks .now)
+
+abbrev says : (s : tie.Start) → ℕ → TripAnswered
+says s r = tripAnswer r (s .args .table .now) (s .args .output .now) (s .args .marks .now)
+
+returns : tie.Need-returns
+unfolding tripCall
+returns c = let f = c .before .before in
+    let s = f .before .before .before .before .before .before .before in
+    ap (says s) (c .packed .ensures) ∙ not-formed _ _ _ _ (f .formed .ensures) (c .before .if1 .taken)
+
+returns-2 : tie.Need-returns-2
+unfolding tripCall
+returns-2 c = let k = c .before .before .before .before .before .before in
+    let t = k .before .before .before .before in
+    let x = t .before .before in
+    let f = x .before .before in
+    let s = f .before .before .before .before .before .before .before in
+    k .hand-over .ensures
+    ∙ taken _ (refuse s) (s .args .description .now) _ (x .decode .ensures) (t .enum-told .given .1)
+    ∙ formed _ _ _ _ (f .formed .ensures) (x .before .if1 .left)
+
+returns-3 : tie.Need-returns-3
+unfolding tripCall
+returns-3 c = let o = c .before .before in
+    let x = o .before .before in
+    let f = x .before .before in
+    let s = f .before .before .before .before .before .before .before in
+    ap (says s) (c .packed2 .ensures)
+    ∙ no-record _ (refuse s) (s .args .description .now) _ (x .decode .ensures) _ (o .outcome .given .1)
+    ∙ formed _ _ _ _ (f .formed .ensures) (x .before .if1 .left)
+
+pub onerom-round-trip-spec : {M : Type 1} → statement M
+onerom-round-trip-spec =
+    tie.close
+    (tie.spec
+    (λ c κs. search needs)
+    (λ c κs. search needs)
+    returns
+    (λ c κs. search needs)
+    (λ c. search needs)
+    (λ c κs. search needs)
+    (λ c. search needs)
+    (λ c κs. search needs)
+    (λ c. search needs)
+    (λ c. search needs)
+    (λ c. search needs)
+    returns-2
+    returns-3)

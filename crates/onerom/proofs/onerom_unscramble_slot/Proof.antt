@@ -1,0 +1,34 @@
+-- `onerom_unscramble_slot` meets its contract. Assumes nothing.
+use mathlib.Core.Path.{ap, _∙_}
+use Prim.Native.Nat.{ℕ}
+use borrow.Author.Needs.{needs}
+use Rattle.onerom.specs.Calls.{readAnswer, readBackCall}
+use Rattle.onerom.proofs.Records.{formed, not-formed}
+use Rattle.onerom.proofs.onerom_unscramble_slot.Statement.{statement}
+use Rattle.onerom.proofs.onerom_unscramble_slot.Tie as tie
+
+returns : tie.Need-returns
+unfolding readBackCall
+returns c =
+    let s = c .before .before .before .before .before .before .before in
+    ap (λ (r : ℕ). readAnswer r (s .args .output .now) (s .args .marks .now)) (c .packed .ensures)
+    ∙ not-formed _ _ _ _ (c .before .before .formed .ensures) (c .before .if1 .taken)
+
+returns-2 : tie.Need-returns-2
+unfolding readBackCall
+returns-2 c =
+    let t = c .before .before .before .before in
+    t .hand-over .ensures
+    ∙ formed _ _ _ _ (t .before .before .before .before .formed .ensures) (t .before .before .before .if1 .left)
+
+pub onerom-unscramble-slot-spec : {M : Type 1} → statement M
+onerom-unscramble-slot-spec =
+    tie.close
+    (tie.spec
+    (λ c κs. search needs)
+    (λ c κs. search needs)
+    returns
+    (λ c κs. search needs)
+    (λ c. search needs)
+    (λ c. search needs)
+    returns-2)

@@ -1,0 +1,94 @@
+-- The four calls in turn, step by step: what the code's answers make of the definition. Assumes nothing.
+use mathlib.Core.Path.{_≡_, sym, _∙_, ap}
+use mathlib.Core.Bool.{true}
+use mathlib.Core.List.{List}
+use Prim.Native.Nat.{ℕ, _≤_, _<_, _^_}
+use native.Mathlib.Omega.{arith}
+use lib.ListN.{length, getD}
+use Rattle.slot.specs.declared.description.Description.{Description}
+use Rattle.slot.specs.declared.refusal.Refusal.{Refusal}
+use Rattle.listing.specs.declared.FirstFault.{FirstFault}
+use Rattle.addr_layout.specs.Search.{addrAnswer}
+use Rattle.addr_layout.specs.declared.layout.AddrLayout.{AddrLayout}
+use Rattle.addr_layout.specs.declared.layout.AddrOutcome.{AddrOutcome}
+use Rattle.addr_layout.specs.declared.layout.AddrAnswer.{AddrAnswer}
+use Rattle.cs_data_layout.specs.Search.{csDataAnswer}
+use Rattle.cs_data_layout.specs.declared.layout.CsDataLayout.{CsDataLayout}
+use Rattle.cs_data_layout.specs.declared.layout.CsDataOutcome.{CsDataOutcome}
+use Rattle.cs_data_layout.specs.declared.layout.CsDataAnswer.{CsDataAnswer}
+use Rattle.rom_slot.specs.Faults.{tableSize}
+use Rattle.rom_slot.specs.declared.images.ImageSpan.{ImageSpan}
+use Rattle.rom_image.specs.Build.{Built, built, buildOf}
+use Rattle.rom_image.specs.declared.BuildAnswer.{BuildAnswer}
+use Rattle.unscramble.specs.Recovered.{ReadBack, readBack}
+use Rattle.round_trip.specs.RoundTrip.{Accepted}
+use Rattle.round_trip.specs.Chain.{Trip, trip, stopped, readOf, afterBuild, buildTrip, afterSelect, selectTrip, afterAddress, addressTrip, roundTripOf, AsDemanded}
+use Rattle.round_trip.proofs.StoredOf.{callable}
+use Rattle.round_trip.proofs.Whole.{reads-back}
+
+-- the build's answer
+module _ (d : Description) (a : AddrLayout) (c : CsDataLayout) (images : List ℕ) (spans : List ImageSpan) (lent output marks : List ℕ)
+    (x : BuildAnswer) (table : List ℕ) (e : built x table ≡ buildOf d a c images spans lent) where
+  abbrev then : BuildAnswer → Trip
+  then y = afterBuild d a c output marks y table
+
+  pub build-stops : (why : Refusal) → x ≡ BuildAnswer.Refused why → stopped why table output marks ≡ buildTrip d a c output marks (buildOf d a c images spans lent)
+  build-stops why q = ap then (sym q) ∙ ap (buildTrip d a c output marks) e
+
+  pub build-goes : (r : FirstFault) (o m : List ℕ) → x ≡ BuildAnswer.Built → trip r table o m ≡ readOf d a c table output marks
+      → trip r table o m ≡ buildTrip d a c output marks (buildOf d a c images spans lent)
+  build-goes r o m q h = h ∙ ap then (sym q) ∙ ap (buildTrip d a c output marks) e
+
+  pub readable-table : x ≡ BuildAnswer.Built → length table ≡ length lent
+      → ((a .«num_addr_pins» < 32) × (1 ≤ d .«word_bytes») × (d .«word_bytes» ≤ 2) × (tableSize d a ≤ 2 ^ 20)) × (tableSize d a ≤ length table)
+  readable-table q h =
+      let can = callable d a c images spans lent (sym (ap (λ (b : Built). b .answer) e) ∙ q) in
+      (can .0, omega (arith, can .1, h))
+
+-- the select search's answer
+module _ (d : Description) (a : AddrLayout) (images : List ℕ) (spans : List ImageSpan) (table output marks : List ℕ)
+    (x : CsDataAnswer) (e : x ≡ csDataAnswer d (record { given = true; layout = a })) where
+  abbrev select-then : CsDataOutcome → Trip
+  select-then y = afterSelect d a images spans table output marks y (x .layout)
+
+  pub select-stops : (why : Refusal) → x .outcome ≡ CsDataOutcome.Refused why
+      → stopped why table output marks ≡ selectTrip d a images spans table output marks (csDataAnswer d (record { given = true; layout = a }))
+  select-stops why q = ap select-then (sym q) ∙ ap (selectTrip d a images spans table output marks) e
+
+  pub select-goes : (t : Trip) → x .outcome ≡ CsDataOutcome.LaidOut → t ≡ buildTrip d a (x .layout) output marks (buildOf d a (x .layout) images spans table)
+      → t ≡ selectTrip d a images spans table output marks (csDataAnswer d (record { given = true; layout = a }))
+  select-goes t q h = h ∙ ap select-then (sym q) ∙ ap (selectTrip d a images spans table output marks) e
+
+-- the address search's answer
+module _ (d : Description) (images : List ℕ) (spans : List ImageSpan) (table output marks : List ℕ) (x : AddrAnswer) (e : x ≡ addrAnswer d) where
+  abbrev address-then : AddrOutcome → Trip
+  address-then y = afterAddress d images spans table output marks y (x .layout)
+
+  whole : addressTrip d images spans table output marks x ≡ roundTripOf d images spans table output marks
+  unfolding roundTripOf
+  whole = ap (addressTrip d images spans table output marks) e
+
+  pub address-stops : (why : Refusal) → x .outcome ≡ AddrOutcome.Refused why → stopped why table output marks ≡ roundTripOf d images spans table output marks
+  address-stops why q = ap address-then (sym q) ∙ whole
+
+  pub address-goes : (t : Trip) → x .outcome ≡ AddrOutcome.LaidOut
+      → t ≡ selectTrip d (x .layout) images spans table output marks (csDataAnswer d (record { given = true; layout = x .layout }))
+      → t ≡ roundTripOf d images spans table output marks
+  address-goes t q h = h ∙ ap address-then (sym q) ∙ whole
+
+-- demand 3, of the definition and so of whatever is equal to it
+module _ (d : Description) (images : List ℕ) (spans : List ImageSpan) (table output marks : List ℕ) (bytes : (k : ℕ) → getD images k 0 < 256) where
+  accepted : (a : AddrLayout) (c : CsDataLayout) → Accepted d a c images spans table
+      → roundTripOf d images spans table output marks ≡ readOf d a c (buildOf d a c images spans table .table) output marks
+  unfolding roundTripOf
+  accepted a c ok =
+      ap (addressTrip d images spans table output marks) (ok .address)
+      ∙ ap (selectTrip d a images spans table output marks) (ok .select)
+      ∙ ap (λ (y : BuildAnswer). afterBuild d a c output marks y (buildOf d a c images spans table .table)) (ok .build)
+
+  abbrev what-is-read : Trip → ReadBack
+  what-is-read t = readBack (t .answer) (t .output) (t .marks)
+
+  pub demanded : (r : FirstFault) (t o m : List ℕ) → trip r t o m ≡ roundTripOf d images spans table output marks → AsDemanded d images spans table output marks (readBack r o m)
+  demanded r t o m e a c ok wired room =
+      ap what-is-read (e ∙ accepted a c ok) ∙ reads-back d a c images spans table output marks ok bytes wired room

@@ -1,0 +1,45 @@
+-- `read_table` meets its contract. Assumes nothing.
+use mathlib.Core.Path.{_≡_, refl, _∙_, ap}
+use mathlib.Core.List.{List}
+use Prim.Native.Nat.{ℕ, _-_}
+use native.Mathlib.Omega.{arith}
+use lib.ListN.{take}
+use Rattle.slot.specs.declared.description.Description.{Description}
+use Rattle.listing.specs.declared.FirstFault.{FirstFault}
+use Rattle.addr_layout.specs.declared.layout.AddrLayout.{AddrLayout}
+use Rattle.cs_data_layout.specs.declared.layout.CsDataLayout.{CsDataLayout}
+use Rattle.rom_slot.specs.Faults.{tableSize}
+use Rattle.unscramble.specs.Recovered.{readBack, unscrambled}
+use Rattle.unscramble.specs.declared.stored.StoredSlot.{StoredSlot}
+use Rattle.round_trip.specs.Stored.{storedOf}
+use Rattle.round_trip.specs.Chain.{trip, tripRead, readOf}
+use borrow.Author.Needs.{needs}
+use Rattle.round_trip.proofs.read_table.Statement.{statement}
+use Rattle.round_trip.proofs.read_table.Tie as tie
+
+read : (d : Description) (a : AddrLayout) (c : CsDataLayout) (table output marks o m part : List ℕ) (r : FirstFault) (s : StoredSlot) (n : ℕ) → s ≡ storedOf d a c → n ≡ tableSize d a
+    → readBack r o m ≡ unscrambled s part output marks → part ≡ take (n - 0) table → trip r table o m ≡ readOf d a c table output marks
+read d a c table output marks o m part r s n e h q p =
+    let whole : n - 0 ≡ tableSize d a = omega (arith, h) in
+    ap (tripRead table) (q ∙ ap (λ (x : List ℕ). unscrambled s x output marks) p ∙ ap (λ (k : ℕ). unscrambled s (take k table) output marks) whole
+    ∙ ap (λ (x : StoredSlot). unscrambled x (take (tableSize d a) table) output marks) e)
+
+returns : tie.Need-returns
+returns c = let k = c .before .before .before .before in
+    let t = k .before .before .before .before .before in
+    let s = t .before .before .before .before in
+    read (s .args .d) (s .args .a) (s .args .c) (s .args .table .now) (s .args .output .now) (s .args .marks .now) _ _ _ _ _ _ (k .before .before .before .before .stored-slot .ensures) (t .table-size .ensures .0) (k .unscramble-slot .ensures) refl
+
+pub read-table-spec : {M : Type 1} → statement M
+read-table-spec =
+    tie.close
+    (tie.spec
+    (λ c κs. search needs)
+    (λ c κs. search needs)
+    (λ c. search needs)
+    (λ c. search needs)
+    (λ c. search needs)
+    (λ c κs. search needs)
+    (λ c. search needs)
+    (λ c. search needs)
+    returns)

@@ -1,0 +1,78 @@
+-- Both searches, the build and read-back in turn: what they answer, and what the lent buffers hold then. Assumes nothing.
+use mathlib.Core.Path.{_≡_}
+use mathlib.Core.Bool.{true}
+use mathlib.Core.List.{List}
+use Prim.Native.Nat.{ℕ}
+use lib.ListN.{take}
+use Rattle.slot.specs.declared.description.Description.{Description}
+use Rattle.slot.specs.declared.refusal.Refusal.{Refusal}
+use Rattle.listing.specs.declared.FirstFault.{FirstFault}
+use Rattle.listing.specs.declared.FirstFault.the-variants.{Of}
+use Rattle.addr_layout.specs.Search.{addrAnswer}
+use Rattle.addr_layout.specs.declared.layout.AddrLayout.{AddrLayout}
+use Rattle.addr_layout.specs.declared.layout.AddrOutcome.{AddrOutcome}
+use Rattle.addr_layout.specs.declared.layout.AddrAnswer.{AddrAnswer}
+use Rattle.cs_data_layout.specs.Search.{csDataAnswer}
+use Rattle.cs_data_layout.specs.declared.layout.CsDataLayout.{CsDataLayout}
+use Rattle.cs_data_layout.specs.declared.layout.CsDataOutcome.{CsDataOutcome}
+use Rattle.cs_data_layout.specs.declared.layout.CsDataAnswer.{CsDataAnswer}
+use Rattle.rom_slot.specs.Faults.{tableSize}
+use Rattle.rom_slot.specs.declared.images.ImageSpan.{ImageSpan}
+use Rattle.rom_image.specs.Build.{Built, buildOf}
+use Rattle.rom_image.specs.declared.BuildAnswer.{BuildAnswer}
+use Rattle.unscramble.specs.Recovered.{ReadBack, unscrambled}
+use Rattle.round_trip.specs.WellWired.{WellWired}
+use Rattle.round_trip.specs.RoundTrip.{Accepted, Room, asBefore}
+use Rattle.round_trip.specs.Stored.{storedOf}
+
+-- the answer, and the three lent buffers
+pub record Trip : Type 0 where
+  pub answer : FirstFault
+  pub table : List ℕ
+  pub output : List ℕ
+  pub marks : List ℕ
+
+abbrev pub trip : FirstFault → List ℕ → List ℕ → List ℕ → Trip
+trip a t o m = record { answer = a; table = t; output = o; marks = m }
+
+-- the first of the four that refuses answers; until the build has accepted nothing is written
+abbrev pub stopped : Refusal → List ℕ → List ℕ → List ℕ → Trip
+stopped why table output marks = trip (Of why) table output marks
+
+-- "Read-back's data are the bytes the build wrote"
+abbrev pub tripRead : List ℕ → ReadBack → Trip
+tripRead table r = trip (r .answer) table (r .output) (r .marks)
+
+abbrev pub readOf : Description → AddrLayout → CsDataLayout → List ℕ → List ℕ → List ℕ → Trip
+readOf d a c table output marks = tripRead table (unscrambled (storedOf d a c) (take (tableSize d a) table) output marks)
+
+abbrev pub afterBuild : Description → AddrLayout → CsDataLayout → List ℕ → List ℕ → BuildAnswer → List ℕ → Trip
+afterBuild d a c output marks BuildAnswer.Built table = readOf d a c table output marks
+afterBuild d a c output marks (BuildAnswer.Refused why) table = stopped why table output marks
+
+abbrev pub buildTrip : Description → AddrLayout → CsDataLayout → List ℕ → List ℕ → Built → Trip
+buildTrip d a c output marks b = afterBuild d a c output marks (b .answer) (b .table)
+
+-- "Both searches and the build go by one description, and the build by the layouts found."
+abbrev pub afterSelect : Description → AddrLayout → List ℕ → List ImageSpan → List ℕ → List ℕ → List ℕ → CsDataOutcome → CsDataLayout → Trip
+afterSelect d a images spans table output marks CsDataOutcome.LaidOut c = buildTrip d a c output marks (buildOf d a c images spans table)
+afterSelect d a images spans table output marks (CsDataOutcome.Refused why) c = stopped why table output marks
+
+abbrev pub selectTrip : Description → AddrLayout → List ℕ → List ImageSpan → List ℕ → List ℕ → List ℕ → CsDataAnswer → Trip
+selectTrip d a images spans table output marks x = afterSelect d a images spans table output marks (x .outcome) (x .layout)
+
+abbrev pub afterAddress : Description → List ℕ → List ImageSpan → List ℕ → List ℕ → List ℕ → AddrOutcome → AddrLayout → Trip
+afterAddress d images spans table output marks AddrOutcome.LaidOut a =
+    selectTrip d a images spans table output marks (csDataAnswer d (record { given = true; layout = a }))
+afterAddress d images spans table output marks (AddrOutcome.Refused why) a = stopped why table output marks
+
+abbrev pub addressTrip : Description → List ℕ → List ImageSpan → List ℕ → List ℕ → List ℕ → AddrAnswer → Trip
+addressTrip d images spans table output marks x = afterAddress d images spans table output marks (x .outcome) (x .layout)
+
+unfoldable pub roundTripOf : Description → List ℕ → List ImageSpan → List ℕ → List ℕ → List ℕ → Trip
+roundTripOf d images spans table output marks = addressTrip d images spans table output marks (addrAnswer d)
+
+-- demand 3 of an answer and of what output and marks hold then
+abbrev pub AsDemanded : Description → List ℕ → List ImageSpan → List ℕ → List ℕ → List ℕ → ReadBack → Type 0
+AsDemanded d images spans table output marks r =
+    (a : AddrLayout) (c : CsDataLayout) → Accepted d a c images spans table → WellWired d a → Room d a output marks → r ≡ asBefore d a images spans output marks

@@ -1,0 +1,132 @@
+// The parts of a stored slot at their places in the record.
+use record::bytes::byte_at;
+use record::bytes::fill;
+use record::bytes::four_at;
+use slot::description::ChipSetType;
+use unscramble::stored::AlgAddr;
+use unscramble::stored::AlgCs;
+use unscramble::stored::AlgData;
+use unscramble::stored::AlgDma;
+use unscramble::stored::Rom;
+use unscramble::stored::SlotType;
+ghost use mathlib.Core.Path.{_≡_};
+ghost use Prim.Native.Nat.{_+_, _≤_};
+ghost use Rattle.record.specs.Record.{bytesAt};
+ghost use Rattle.stored_record.specs.StoredRecord.{storedSize, slotTypeOf, algAddrAt, algDataAt, algDmaAt, algCsAt};
+ghost use Rattle.stored_record.specs.StoredRecord.{romFrom, romsAt, romFormed, romsFormed};
+
+pub fn slot_type(x: u8) -> SlotType
+    ensures { λ r. ⌜ r ≡ slotTypeOf x ⌝ }
+{
+    if x <= 1 {
+        return SlotType::Roms(ChipSetType::Single);
+    }
+    if x == 2 {
+        return SlotType::Roms(ChipSetType::Banked);
+    }
+    if x == 3 {
+        return SlotType::Roms(ChipSetType::Multi);
+    }
+    if x <= 6 {
+        return SlotType::Plugin;
+    }
+    SlotType::Unknown
+}
+
+pub fn alg_addr(b: &[u8]) -> AlgAddr
+    ensures { λ r. ⌜ r ≡ algAddrAt (now (b .entry)) ⌝ }
+{
+    AlgAddr {
+        alg: byte_at(b, 6),
+        gpio_base: byte_at(b, 7),
+        base_addr_pin: byte_at(b, 8),
+        num_addr_pins: byte_at(b, 9),
+    }
+}
+
+pub fn alg_data(b: &[u8]) -> AlgData
+    ensures { λ r. ⌜ r ≡ algDataAt (now (b .entry)) ⌝ }
+{
+    AlgData {
+        alg: byte_at(b, 10),
+        gpio_base: byte_at(b, 11),
+        base_data_pin: byte_at(b, 12),
+    }
+}
+
+pub fn alg_dma(b: &[u8]) -> AlgDma
+    ensures { λ r. ⌜ r ≡ algDmaAt (now (b .entry)) ⌝ }
+{
+    AlgDma {
+        alg: byte_at(b, 13),
+        bit_mode: byte_at(b, 14),
+    }
+}
+
+pub fn alg_cs(b: &[u8]) -> AlgCs
+    ensures { λ r. ⌜ r ≡ algCsAt (now (b .entry)) ⌝ }
+{
+    AlgCs {
+        alg: byte_at(b, 15),
+        gpio_base: byte_at(b, 16),
+        first_rom_cs_base: byte_at(b, 17),
+    }
+}
+
+pub fn overrides(b: &[u8]) -> [u8; 64]
+    ensures { λ r. ⌜ r ≡ bytesAt (now (b .entry)) 19 64 ⌝ }
+{
+    let mut out = [0u8; 64];
+    fill(b, 19, &mut out);
+    out
+}
+
+// The GPIOs of a ROM's address or data lines.
+fn lines(b: &[u8], p: usize) -> [u8; 32]
+    requires { ⌜ p + 32 ≤ storedSize ⌝ }
+    ensures { λ r. ⌜ r ≡ bytesAt (now (b .entry)) p 32 ⌝ }
+{
+    let mut out = [0u8; 32];
+    fill(b, p, &mut out);
+    out
+}
+
+fn rom(b: &[u8], p: usize) -> Rom
+    requires { ⌜ p + 72 ≤ storedSize ⌝ }
+    ensures { λ r. ⌜ r ≡ romFrom (now (b .entry)) p ⌝ }
+{
+    Rom {
+        has_map: byte_at(b, p) == 1,
+        chip_size: four_at(b, p + 4),
+        addr: lines(b, p + 8),
+        data_lines: lines(b, p + 40),
+    }
+}
+
+// ROMs 0 to 3, 72 bytes a ROM.
+pub fn roms(b: &[u8]) -> [Rom; 4]
+    ensures { λ r. ⌜ r ≡ romsAt (now (b .entry)) ⌝ }
+{
+    [rom(b, 88), rom(b, 160), rom(b, 232), rom(b, 304)]
+}
+
+fn rom_formed(b: &[u8], p: usize) -> bool
+    requires { ⌜ p + 72 ≤ storedSize ⌝ }
+    ensures { λ r. ⌜ r ≡ romFormed (now (b .entry)) p ⌝ }
+{
+    let has_map = byte_at(b, p);
+    let spare = byte_at(b, p + 1);
+    let spare_2 = byte_at(b, p + 2);
+    let spare_3 = byte_at(b, p + 3);
+    (has_map <= 1) & (spare == 0) & (spare_2 == 0) & (spare_3 == 0)
+}
+
+pub fn roms_formed(b: &[u8]) -> bool
+    ensures { λ r. ⌜ r ≡ romsFormed (now (b .entry)) ⌝ }
+{
+    let first = rom_formed(b, 88);
+    let second = rom_formed(b, 160);
+    let third = rom_formed(b, 232);
+    let fourth = rom_formed(b, 304);
+    first & second & third & fourth
+}

@@ -1,0 +1,136 @@
+-- What the entries come to, read by the code's tables, is what read-back answers. Assumes nothing.
+use mathlib.Core.Path.{_≡_, refl, sym, _∙_, ap, subst}
+use mathlib.Core.Bool.{true}
+use mathlib.Core.List.{List, _++_}
+use Prim.Native.Nat.{ℕ, _*_, _^_, _≤_, _<_}
+use native.Mathlib.Nat.{le-of-eq}
+use native.Mathlib.Omega.{arith}
+use lib.Pow.{pow-mono}
+use lib.ListN.{length, drop, replicate, length-replicate}
+use Rattle.slot.specs.declared.description.ChipSetType.{ChipSetType}
+use Rattle.listing.specs.Listing.{orElse}
+use Rattle.listing.specs.declared.FirstFault.{FirstFault}
+use Rattle.listing.specs.declared.FirstFault.the-variants.{None}
+use Rattle.rom_slot.specs.Faults.{chipsFit}
+use Rattle.kept.specs.Kept.{outputAfter, outcomeOf}
+use Rattle.kept.specs.Reading.{wordBy, valueBy, ReadingIn}
+use Rattle.kept.specs.declared.reading.Reading.{Reading}
+use Rattle.kept.specs.Buffers.{Kept, kept, marksHeld, heldBy, collectedOf}
+use Rattle.kept.specs.declared.Outcome.{Outcome}
+use Rattle.kept.specs.declared.Outcome.the-variants.{Whole, Disagrees, Missing}
+use Rattle.kept.proofs.Cong.{output-length, marks-cong, output-cong, outcome-cong}
+use Rattle.unscramble.specs.Stored.{storedIn, romAt, wordBytes, pinsOf, dataLines}
+use Rattle.unscramble.specs.Faults.{romsFault}
+use Rattle.unscramble.specs.Words.{allWords}
+use Rattle.unscramble.specs.Walk.{wordAt, saidAt, faultOf}
+use Rattle.unscramble.specs.Reading.{Readable, readingOf}
+use Rattle.unscramble.specs.Recovered.{ReadBack, readBack, front, inconsistent, unserved, recovered, afterEntries}
+use Rattle.unscramble.specs.declared.stored.StoredSlot.{StoredSlot}
+use Rattle.unscramble.proofs.Same.{fault-same, output-same, marks-same}
+use Rattle.unscramble.proofs.ReadBy.{word-same, said-same, reading-in}
+use Rattle.unscramble.proofs.Unrefused.{few-roms, fit, room-output, room-marks, table-long, data-whole, readable}
+
+-- a front as long as what it takes the place of
+front-long : (new old : List ℕ) (n : ℕ) → length new ≡ n → new ++ drop n old ≡ front new old
+front-long new old n e = rw (← e)
+
+module _ (s : StoredSlot) (set : ChipSetType) (stored output marks : List ℕ)
+    (fit : chipsFit set (s .«num_roms») ≡ true) (few : s .«num_roms» ≤ 4) (whole : (rom : ℕ) → rom < s .«num_roms» → dataLines (romAt s rom) ≡ 8 * wordBytes s) where
+  abbrev w : ℕ
+  w = wordBytes s
+
+  abbrev words : ℕ
+  words = allWords s
+
+  abbrev entries : ℕ
+  entries = 2 ^ pinsOf s
+
+  abbrev for-word : ℕ → ℕ
+  for-word = wordAt s set
+
+  abbrev says : ℕ → ℕ
+  says = saidAt s set stored
+
+  -- by the code's tables, and by the definitions
+  same-for : (i : ℕ) → i < entries → wordBy (readingOf s set) i ≡ for-word i
+  same-for i l = word-same s set fit few i
+
+  same-says : (i : ℕ) → i < entries → valueBy (readingOf s set) stored i ≡ says i
+  same-says i l = said-same s set fit few whole stored i
+
+  same-outcome : outcomeOf (wordBy (readingOf s set)) (valueBy (readingOf s set) stored) words entries ≡ outcomeOf for-word says words entries
+  same-outcome = outcome-cong _ _ entries same-for _ _ same-says words
+
+  held-same : (x : Outcome)
+      → _≡_ {A = Kept Outcome} (heldBy w (wordBy (readingOf s set)) (valueBy (readingOf s set) stored) words entries output marks x) (heldBy w for-word says words entries output marks x)
+  held-same Whole = rw (output-cong _ _ entries same-for _ _ same-says w words, marks-cong _ _ entries same-for words)
+  held-same (Disagrees f) = refl
+  held-same (Missing f) = refl
+
+  abbrev answered : Kept Outcome → ReadBack
+  answered k = readBack (faultOf s (k .answer)) (k .output) (k .marks)
+
+  -- 0 over all words
+  cleared : (why : FirstFault)
+      → readBack why (replicate (words * w) 0 ++ drop (words * w) output) (replicate words 0 ++ drop words marks)
+      ≡ readBack why (front (replicate (words * w) 0) output) (front (replicate words 0) marks)
+  cleared why =
+      ap (λ (o : List ℕ). readBack why o (replicate words 0 ++ drop words marks)) (front-long (replicate (words * w) 0) output (words * w) (length-replicate {A = ℕ} (words * w) 0))
+      ∙ ap (λ (m : List ℕ). readBack why (front (replicate (words * w) 0) output) m) (front-long (replicate words 0) marks words (length-replicate {A = ℕ} words 0))
+
+  -- by the outcome
+  by-outcome : (x : Outcome) → outcomeOf for-word says words entries ≡ x → answered (heldBy w for-word says words entries output marks x) ≡ afterEntries s set stored output marks (faultOf s x)
+  by-outcome Whole e =
+      let out = front-long (outputAfter w for-word says words entries) output (words * w) (output-length w for-word says words entries)
+      ∙ ap (λ (x : List ℕ). front x output) (output-same s set stored fit e) in
+      let told = ap (λ (x : List ℕ). x ++ drop words marks) (marks-same s set stored fit e) ∙ front-long (replicate words 1) marks words (length-replicate {A = ℕ} words 1) in
+      ap (λ (o : List ℕ). readBack None o (marksHeld for-word words entries marks)) out ∙ ap (λ (m : List ℕ). readBack None (front (recovered s set stored) output) m) told
+  by-outcome (Disagrees f) e = cleared (faultOf s (Disagrees f))
+  by-outcome (Missing f) e = cleared (faultOf s (Missing f))
+
+  pub finished : (x : Outcome) (o m : List ℕ) → kept x o m ≡ collectedOf w (wordBy (readingOf s set)) (valueBy (readingOf s set) stored) words entries output marks
+      → readBack (faultOf s x) o m ≡ afterEntries s set stored output marks (orElse (inconsistent s set stored) (unserved s set))
+  unfolding collectedOf
+  finished x o m e =
+      ap answered e
+      ∙ ap answered (held-same (outcomeOf (wordBy (readingOf s set)) (valueBy (readingOf s set) stored) words entries))
+      ∙ ap (λ (y : Outcome). answered (heldBy w for-word says words entries output marks y)) same-outcome
+      ∙ by-outcome (outcomeOf for-word says words entries) refl
+      ∙ ap (afterEntries s set stored output marks) (fault-same s set stored fit)
+
+-- the same of a slot that nothing before the entries refuses, for the code's own reading and number of entries
+module _ (s : StoredSlot) (set : ChipSetType) (stored output marks : List ℕ)
+    (in-domain : storedIn s ≡ true) (none : romsFault s set stored (length output) (length marks) ≡ None) where
+  abbrev can : Readable s set
+  can = readable s set stored (length output) (length marks) in-domain none
+
+  abbrev data-lines : (rom : ℕ) → rom < s .«num_roms» → dataLines (romAt s rom) ≡ 8 * wordBytes s
+  data-lines = data-whole s set stored (length output) (length marks) in-domain none
+
+  abbrev Collectable : Reading → ℕ → Type 0
+  Collectable r n =
+      (ReadingIn r × (n ≤ 2 ^ 31) × (n * r .«word_bytes» ≤ length stored)) × ((r .words * r .«word_bytes» ≤ length output) × (r .words ≤ length marks))
+
+  collectable-so : Collectable (readingOf s set) (2 ^ pinsOf s)
+  unfolding readingOf
+  collectable-so = (
+    (reading-in s set (few-roms s in-domain) data-lines can, pow-mono {j = 31} (omega (arith, can .pins)), le-of-eq (sym (table-long s set stored (length output) (length marks) in-domain none))),
+    (room-output s set stored (length output) (length marks) in-domain none, room-marks s set stored (length output) (length marks) in-domain none),
+  )
+
+  pub collectable : (r : Reading) (n : ℕ) → r ≡ readingOf s set → n ≡ 2 ^ pinsOf s → Collectable r n
+  collectable r n e h = subst (λ (x : Reading). Collectable x n) (sym e) (subst (Collectable (readingOf s set)) (sym h) collectable-so)
+
+  abbrev Finishes : Reading → ℕ → Type 0
+  Finishes r n = (x : Outcome) (o m : List ℕ) (why : FirstFault) → why ≡ faultOf s x
+      → kept x o m ≡ collectedOf (r .«word_bytes») (wordBy r) (valueBy r stored) (r .words) n output marks
+      → readBack why o m ≡ afterEntries s set stored output marks (orElse (inconsistent s set stored) (unserved s set))
+
+  finishes-so : Finishes (readingOf s set) (2 ^ pinsOf s)
+  unfolding readingOf
+  finishes-so x o m why e h =
+      ap (λ (y : FirstFault). readBack y o m) e
+      ∙ finished s set stored output marks (fit s set stored (length output) (length marks) in-domain none) (few-roms s in-domain) data-lines x o m h
+
+  pub finishes : (r : Reading) (n : ℕ) → r ≡ readingOf s set → n ≡ 2 ^ pinsOf s → Finishes r n
+  finishes r n e h = subst (λ (x : Reading). Finishes x n) (sym e) (subst (Finishes (readingOf s set)) (sym h) finishes-so)

@@ -1,0 +1,13 @@
+pub mod Serves
+pub mod Flat
+pub mod Entries
+pub mod Joined
+pub mod Same
+pub mod Masks
+pub mod ReadBy
+pub mod Loops
+pub mod Listed
+pub mod Counted
+pub mod Whole
+pub mod Unrefused
+pub mod Finished

@@ -1,0 +1,47 @@
+-- `forced_high` meets its contract. The loop's invariant: the mask of the positions passed. Assumes nothing.
+use mathlib.Core.Path.{_≡_, _∙_, ap}
+use mathlib.Core.Bool.{Bool, cond}
+use Prim.Native.Nat.{_-_, _^_, _≤_}
+use native.Mathlib.Omega.{arith}
+use Rattle.unscramble.specs.Reading.{maskOf, highAt}
+use Rattle.unscramble.proofs.Loops.{mask-none, mask-turn, mask-done, mask-fits}
+use borrow.Author.Needs.{needs}
+use Rattle.unscramble.proofs.forced.forced_high.Statement.{statement}
+use Rattle.unscramble.proofs.forced.forced_high.Tie as tie
+
+abbrev Inv-loop : tie.InvT-loop
+Inv-loop s n mask₀ p₀ mask p = (p ≤ n) × (mask ≡ maskOf p (highAt s))
+
+abbrev μ-loop : tie.MeasureT-loop
+μ-loop s n mask₀ p₀ mask p = n - p
+
+loop-holds : tie.Need-loop-holds Inv-loop μ-loop
+loop-holds c = (omega arith, mask-none _)
+
+-- the bit that a turn adds
+bit : (c : tie.After-bit-if Inv-loop μ-loop) → c .bit-if .result ≡ cond (highAt (c .before .before .before .before .before .args .s) (c .before .before .before .loop .p)) (2 ^ (c .before .before .before .loop .p)) 0
+bit c = c .bit-if .ensures ∙ ap (λ (b : Bool). cond b (2 ^ (c .before .before .before .loop .p)) 0) (c .before .high-at .ensures)
+
+add-mask : tie.Need-add-mask Inv-loop μ-loop
+add-mask c = omega (arith, mask-fits _ _ _ _ (c .before .before .before .loop .inv .1) (bit c) (omega (arith, c .before .before .before .before .before .pre)))
+
+loop-again : tie.Need-loop-again Inv-loop μ-loop
+loop-again c = (omega arith, mask-turn _ _ _ _ (c .before .before .before .loop .inv .1) (bit c))
+
+returns : tie.Need-returns Inv-loop μ-loop
+returns c = mask-done _ _ _ _ (omega arith) (c .before .loop .inv .1)
+
+pub forced-high-spec : {M : Type 1} → statement M
+forced-high-spec =
+    tie.close
+    (tie.spec
+    Inv-loop
+    μ-loop
+    loop-holds
+    (λ c κs. search needs)
+    (λ c κs. search needs)
+    add-mask
+    (λ c. search needs)
+    (λ c. search needs)
+    loop-again
+    returns)

@@ -1,0 +1,77 @@
+-- What the entries are read by, of a stored slot: positions, extents, forced bits. That this comes to what Words says is proved. Assumes
+-- nothing.
+use Prim.Native.Nat.{ℕ, zero, suc, _+_, _-_, _^_, _≤_, _<_}
+use mathlib.Core.Bool.{Bool, cond, _||_}
+use mathlib.Core.List.{List}
+use lib.Dec.{ltb}
+use lib.ListN.{getD, replicate}
+use Rattle.gpio.specs.Tab.{tab}
+use Rattle.slot.specs.declared.description.ChipSetType.{ChipSetType}
+use Rattle.rom_slot.specs.Picks.{picksOf, pickedBy}
+use Rattle.rom_slot.specs.declared.picks.Picked.{Picked}
+use Rattle.rom_slot.specs.declared.picks.Picked.the-variants.{NoChip, Chip}
+use Rattle.kept.specs.declared.maps.Map.{Map}
+use Rattle.kept.specs.declared.reading.Extent.{Extent}
+use Rattle.kept.specs.declared.reading.Reading.{Reading}
+use Rattle.unscramble.specs.Stored.{romAt, wordBytes, addrBase, dataBase, pinsOf, listed, names}
+use Rattle.unscramble.specs.Words.{romWords, wordsBefore, allWords, pickGpio, pickPosition}
+use Rattle.unscramble.specs.declared.stored.StoredSlot.{StoredSlot}
+
+-- a slot that no test before the entries refuses: its numbers fit
+pub record Readable (s : StoredSlot) (set : ChipSetType) : Type 0 where
+  pub pins : pinsOf s < 32
+  pub bytes : wordBytes s ≤ 2
+  pub addr-base : addrBase s ≤ 255
+  pub data-base : dataBase s ≤ 255
+  pub pick : (k : ℕ) → pickGpio s set k ≤ 255
+  pub words : allWords s ≤ 2 ^ 26
+
+-- a ROM's lines, from a base
+abbrev pub mapOf : List ℕ → ℕ → Map
+mapOf gpios base = record { positions = tab 32 (λ k. getD gpios k 0 - base); lines = listed 32 gpios }
+
+-- the lines that pick
+abbrev pub pickMap : StoredSlot → ChipSetType → Map
+pickMap s set = record { positions = tab 32 (λ k. cond (ltb k 3) (pickPosition s set k) 0); lines = picksOf set (s .«num_roms») }
+
+abbrev pub noLines : Map
+noLines = record { positions = replicate 32 0; lines = 0 }
+
+abbrev pub addressMap : StoredSlot → ChipSetType → ℕ → Map
+addressMap s set k = cond (ltb k 4) (mapOf (romAt s k .addr) (addrBase s)) (pickMap s set)
+
+abbrev pub dataMap : StoredSlot → ℕ → Map
+dataMap s k = cond (ltb k (s .«num_roms»)) (mapOf (romAt s k .«data_lines») (dataBase s)) noLines
+
+-- the place of a ROM; the fifth for none
+abbrev pub placeOf : Picked → ℕ
+placeOf NoChip = 4
+placeOf (Chip k) = k
+
+-- a ROM's words among all
+abbrev pub extentOf : StoredSlot → ℕ → Extent
+extentOf s k = cond (ltb k (s .«num_roms»)) (record { start = wordsBefore s k; words = romWords s k }) (record { start = 0; words = 0 })
+
+-- the sum of the powers of two at the positions that pass
+unfoldable pub maskOf : ℕ → (ℕ → Bool) → ℕ
+maskOf zero p = 0
+maskOf (suc n) p = maskOf n p + cond (p n) (2 ^ n) 0
+
+-- "high beats low, in either order"
+abbrev pub highAt : StoredSlot → ℕ → Bool
+highAt s p = names (s .«num_overrides») (s .overrides) 3 (addrBase s + p)
+
+abbrev pub forcedAt : StoredSlot → ℕ → Bool
+forcedAt s p = highAt s p || names (s .«num_overrides») (s .overrides) 2 (addrBase s + p)
+
+unfoldable pub readingOf : StoredSlot → ChipSetType → Reading
+readingOf s set = record {
+  address = tab 5 (addressMap s set);
+  «data_lines» = tab 5 (dataMap s);
+  roms = tab 8 (λ bits. placeOf (pickedBy set (s .«num_roms») bits));
+  extents = tab 5 (extentOf s);
+  forced = maskOf (pinsOf s) (forcedAt s);
+  «forced_high» = maskOf (pinsOf s) (highAt s);
+  «word_bytes» = wordBytes s;
+  words = allWords s;
+}

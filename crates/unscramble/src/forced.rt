@@ -1,0 +1,93 @@
+// The bits that overrides force.
+use crate::stored::StoredSlot;
+use crate::window::addr_base;
+ghost use mathlib.Core.Path.{_≡_};
+ghost use mathlib.Core.Bool.{cond, _&&_};
+ghost use Prim.Native.Nat.{_+_, _%_, _/_, _^_, _<_};
+ghost use lib.Dec.{eqb};
+ghost use Rattle.unscramble.specs.Stored.{names, pinsOf};
+ghost use Rattle.unscramble.specs.Reading.{maskOf, forcedAt, highAt};
+
+// Whether one before an entry names a GPIO by a kind, or the entry does.
+fn names_it(entry: u8, kind: u8, gpio: u32, found: bool) -> bool
+    ensures { λ r. ⌜ r ≡ (found || (eqb (entry % 64) gpio && eqb (entry / 64) kind)) ⌝ }
+{
+    found | (((entry % 64) as u32 == gpio) & (entry / 64 == kind))
+}
+
+// Whether an override names a GPIO by a kind.
+fn names(overrides: &[u8], n: u8, kind: u8, gpio: u32) -> bool
+    ensures { λ r. ⌜ r ≡ names n (now (overrides .entry)) kind gpio ⌝ }
+{
+    let mut found = false;
+    let mut k: u8 = 0;
+    while k < n {
+        found = names_it(
+            domain::lists::entry(overrides, k as usize),
+            kind,
+            gpio,
+            found,
+        );
+        k += 1;
+    }
+    found
+}
+
+// Whether an override forces the bit at a position high.
+fn high_at(s: StoredSlot, p: u8) -> bool
+    ensures { λ r. ⌜ r ≡ highAt s p ⌝ }
+{
+    let overrides = s.overrides;
+    names(&overrides, s.num_overrides, 3, addr_base(s) + p as u32)
+}
+
+// Whether one forces it at all.
+fn forced_at(s: StoredSlot, p: u8) -> bool
+    ensures { λ r. ⌜ r ≡ forcedAt s p ⌝ }
+{
+    let overrides = s.overrides;
+    let high = high_at(s, p);
+    high | names(&overrides, s.num_overrides, 2, addr_base(s) + p as u32)
+}
+
+fn bit_if(b: bool, p: u8) -> u32
+    requires { ⌜ p < 32 ⌝ }
+    ensures { λ r. ⌜ r ≡ cond b (2 ^ p) 0 ⌝ }
+{
+    if b {
+        return 1u32 << p;
+    }
+    0
+}
+
+// The index bits that are forced high.
+pub fn forced_high(s: StoredSlot) -> u32
+    requires { ⌜ pinsOf s < 32 ⌝ }
+    ensures { λ r. ⌜ r ≡ maskOf (pinsOf s) (highAt s) ⌝ }
+{
+    let addr = s.alg_addr;
+    let n = addr.num_addr_pins;
+    let mut mask: u32 = 0;
+    let mut p: u8 = 0;
+    while p < n {
+        mask = mask + bit_if(high_at(s, p), p);
+        p += 1;
+    }
+    mask
+}
+
+// The index bits that are forced, low or high.
+pub fn forced(s: StoredSlot) -> u32
+    requires { ⌜ pinsOf s < 32 ⌝ }
+    ensures { λ r. ⌜ r ≡ maskOf (pinsOf s) (forcedAt s) ⌝ }
+{
+    let addr = s.alg_addr;
+    let n = addr.num_addr_pins;
+    let mut mask: u32 = 0;
+    let mut p: u8 = 0;
+    while p < n {
+        mask = mask + bit_if(forced_at(s, p), p);
+        p += 1;
+    }
+    mask
+}

@@ -1,0 +1,67 @@
+// A word's ROM and address, of words counted through all ROMs.
+use crate::roms::words_before;
+use crate::stored::StoredSlot;
+use kept::Outcome;
+use listing::FirstFault;
+use slot::refusal::Refusal;
+ghost use mathlib.Core.Path.{_≡_};
+ghost use mathlib.Core.Bool.{cond};
+ghost use Prim.Native.Nat.{_≤_};
+ghost use Rattle.unscramble.specs.Walk.{romOf, addressOf, faultOf};
+
+// 1 where a test passes, 0 where it does not.
+fn one_if(b: bool) -> u8
+    ensures { λ r. ⌜ r ≡ cond b 1 0 ⌝ }
+    ensures { λ r. ⌜ r ≤ 1 ⌝ }
+{
+    if b {
+        return 1;
+    }
+    0
+}
+
+// The ROM of a word: as many ROMs end before it.
+fn rom_of(s: StoredSlot, f: u32) -> u8
+    ensures { λ r. ⌜ r ≡ romOf s f ⌝ }
+{
+    let n = s.num_roms;
+    let mut rom: u8 = 0;
+    let mut k: u8 = 0;
+    while k < n {
+        rom = rom + one_if(words_before(s, k + 1) <= f as u64);
+        k += 1;
+    }
+    rom
+}
+
+// A word's address in its ROM.
+fn address_of(s: StoredSlot, f: u32) -> u32
+    ensures { λ r. ⌜ r ≡ addressOf s f ⌝ }
+{
+    let before = words_before(s, rom_of(s, f));
+    if (f as u64) < before {
+        return 0;
+    }
+    (f as u64 - before) as u32
+}
+
+// What the outcome of all entries is refused for.
+pub fn fault_of(s: StoredSlot, outcome: Outcome) -> FirstFault
+    ensures { λ r. ⌜ r ≡ faultOf s outcome ⌝ }
+{
+    match outcome {
+        Outcome::Whole => FirstFault::None,
+        Outcome::Disagrees(f) => {
+            FirstFault::Of(Refusal::Inconsistent {
+                rom: rom_of(s, f),
+                addr: address_of(s, f),
+            })
+        }
+        Outcome::Missing(f) => {
+            FirstFault::Of(Refusal::Unserved {
+                rom: rom_of(s, f),
+                addr: address_of(s, f),
+            })
+        }
+    }
+}

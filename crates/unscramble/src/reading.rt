@@ -1,0 +1,212 @@
+// What the entries are read by.
+use crate::forced::forced;
+use crate::forced::forced_high;
+use crate::picks::pick_gpio;
+use crate::roms::listed;
+use crate::roms::rom_at;
+use crate::roms::rom_words;
+use crate::roms::words_before;
+use crate::stored::StoredSlot;
+use crate::window::addr_base;
+use crate::window::data_base;
+use crate::window::word_bytes;
+use kept::maps::Map;
+use kept::reading::Extent;
+use kept::reading::Reading;
+use rom_slot::picks::Picked;
+use rom_slot::picks::num_picks;
+use rom_slot::picks::picked_by;
+use rom_slot::positions::position;
+use slot::description::ChipSetType;
+ghost use mathlib.Core.Path.{_≡_};
+ghost use Prim.Native.Nat.{_-_, _^_, _≤_};
+ghost use mathlib.Core.Bool.{cond};
+ghost use lib.Dec.{ltb};
+ghost use lib.ListN.{getD};
+ghost use Rattle.gpio.specs.Tab.{tab};
+ghost use Rattle.rom_slot.specs.Picks.{pickedBy};
+ghost use Rattle.unscramble.specs.Stored.{addrBase, dataBase, romAt};
+ghost use Rattle.unscramble.specs.Words.{allWords, pickGpio, pickPosition};
+ghost use Rattle.unscramble.specs.Reading.{Readable, mapOf, pickMap, addressMap, dataMap, placeOf, extentOf, readingOf};
+
+// The positions of a list of GPIOs from a base.
+fn positions(gpios: [u8; 32], base: u8) -> [u8; 32]
+    ensures { λ r. ⌜ r ≡ tab 32 (λ k. getD gpios k 0 - base) ⌝ }
+{
+    let mut out = [0u8; 32];
+    let mut k: usize = 0;
+    while k < 32 {
+        out[k] = position(base, gpios[k]);
+        k += 1;
+    }
+    out
+}
+
+// A ROM's map from a base.
+fn map_of(gpios: [u8; 32], base: u8) -> Map
+    ensures { λ r. ⌜ r ≡ mapOf gpios base ⌝ }
+{
+    Map {
+        positions: positions(gpios, base),
+        lines: listed(gpios),
+    }
+}
+
+fn address_map(s: StoredSlot, k: u8) -> Map
+    requires { ⌜ addrBase s ≤ 255 ⌝ }
+    ensures { λ r. ⌜ r ≡ mapOf (romAt s k .addr) (addrBase s) ⌝ }
+{
+    let rom = rom_at(s, k);
+    let gpios = rom.addr;
+    map_of(gpios, addr_base(s) as u8)
+}
+
+// The data lines of a place; past the last ROM there are none.
+fn data_map(s: StoredSlot, k: u8) -> Map
+    requires { ⌜ dataBase s ≤ 255 ⌝ }
+    ensures { λ r. ⌜ r ≡ dataMap s k ⌝ }
+{
+    let rom = rom_at(s, k);
+    let gpios = rom.data_lines;
+    if k < s.num_roms {
+        return map_of(gpios, data_base(s) as u8);
+    }
+    Map {
+        positions: [0u8; 32],
+        lines: 0,
+    }
+}
+
+fn pick_position(s: StoredSlot, set_type: ChipSetType, k: u8) -> u8
+    requires { ⌜ (addrBase s ≤ 255) × (pickGpio s «set_type» k ≤ 255) ⌝ }
+    ensures { λ r. ⌜ r ≡ pickPosition s «set_type» k ⌝ }
+{
+    position(addr_base(s) as u8, pick_gpio(s, set_type, k) as u8)
+}
+
+// The position of the k-th line that picks; at most three do.
+fn pick_entry(s: StoredSlot, set_type: ChipSetType, k: u8) -> u8
+    requires { ⌜ Readable s «set_type» ⌝ }
+    ensures { λ r. ⌜ r ≡ cond (ltb k 3) (pickPosition s «set_type» k) 0 ⌝ }
+{
+    if k < 3 {
+        return pick_position(s, set_type, k);
+    }
+    0
+}
+
+fn pick_positions(s: StoredSlot, set_type: ChipSetType) -> [u8; 32]
+    requires { ⌜ Readable s «set_type» ⌝ }
+    ensures { λ r. ⌜ r ≡ tab 32 (λ k. cond (ltb k 3) (pickPosition s «set_type» k) 0) ⌝ }
+{
+    let mut out = [0u8; 32];
+    let mut k: usize = 0;
+    while k < 32 {
+        out[k] = pick_entry(s, set_type, k as u8);
+        k += 1;
+    }
+    out
+}
+
+// The lines that pick.
+fn pick_map(s: StoredSlot, set_type: ChipSetType) -> Map
+    requires { ⌜ Readable s «set_type» ⌝ }
+    ensures { λ r. ⌜ r ≡ pickMap s «set_type» ⌝ }
+{
+    Map {
+        positions: pick_positions(s, set_type),
+        lines: num_picks(set_type, s.num_roms),
+    }
+}
+
+fn address_maps(s: StoredSlot, set_type: ChipSetType) -> [Map; 5]
+    requires { ⌜ Readable s «set_type» ⌝ }
+    ensures { λ r. ⌜ r ≡ tab 5 (addressMap s «set_type») ⌝ }
+{
+    [
+        address_map(s, 0),
+        address_map(s, 1),
+        address_map(s, 2),
+        address_map(s, 3),
+        pick_map(s, set_type),
+    ]
+}
+
+fn data_maps(s: StoredSlot) -> [Map; 5]
+    requires { ⌜ dataBase s ≤ 255 ⌝ }
+    ensures { λ r. ⌜ r ≡ tab 5 (dataMap s) ⌝ }
+{
+    [
+        data_map(s, 0),
+        data_map(s, 1),
+        data_map(s, 2),
+        data_map(s, 3),
+        data_map(s, 4),
+    ]
+}
+
+// The place of a ROM; the fifth for none.
+fn place_of(picked: Picked) -> u8
+    ensures { λ r. ⌜ r ≡ placeOf picked ⌝ }
+{
+    match picked {
+        Picked::NoChip => 4,
+        Picked::Chip(k) => k,
+    }
+}
+
+fn places(set_type: ChipSetType, roms: u8) -> [u8; 8]
+    ensures { λ r. ⌜ r ≡ tab 8 (λ bits. placeOf (pickedBy «set_type» roms bits)) ⌝ }
+{
+    let mut out = [0u8; 8];
+    let mut bits: u8 = 0;
+    while bits < 8 {
+        out[bits as usize] = place_of(picked_by(set_type, roms, bits));
+        bits += 1;
+    }
+    out
+}
+
+// A ROM's words among all; past the last ROM there are none.
+fn extent(s: StoredSlot, k: u8) -> Extent
+    requires { ⌜ allWords s ≤ 2 ^ 26 ⌝ }
+    ensures { λ r. ⌜ r ≡ extentOf s k ⌝ }
+{
+    if k < s.num_roms {
+        return Extent {
+            start: words_before(s, k) as u32,
+            words: rom_words(s, k) as u32,
+        };
+    }
+    Extent { start: 0, words: 0 }
+}
+
+fn extents(s: StoredSlot) -> [Extent; 5]
+    requires { ⌜ allWords s ≤ 2 ^ 26 ⌝ }
+    ensures { λ r. ⌜ r ≡ tab 5 (extentOf s) ⌝ }
+{
+    [
+        extent(s, 0),
+        extent(s, 1),
+        extent(s, 2),
+        extent(s, 3),
+        extent(s, 4),
+    ]
+}
+
+// What the entries of a slot are read by.
+pub fn reading(s: StoredSlot, set_type: ChipSetType) -> Reading
+    requires { ⌜ Readable s «set_type» ⌝ }
+    ensures { λ r. ⌜ r ≡ readingOf s «set_type» ⌝ }
+{
+    Reading {
+        address: address_maps(s, set_type),
+        data_lines: data_maps(s),
+        roms: places(set_type, s.num_roms),
+        extents: extents(s),
+        forced: forced(s),
+        forced_high: forced_high(s),
+        word_bytes: word_bytes(s) as u8,
+        words: words_before(s, s.num_roms) as u32,
+    }
+}
