@@ -1,9 +1,9 @@
 /*
  * The calls of Tartankerb for C. docs/INTERFACE.md has the records byte by byte.
  *
- * A buffer is a pointer and its length in bytes. The pointer has to be good for that many bytes, and two buffers of one
- * call must not overlap. No alignment is asked, nothing is kept after the call, and calls on different buffers may run
- * side by side. The library is for x86-64.
+ * A buffer is a pointer and its length in bytes. The pointer has to be good for that many bytes. A buffer that a call writes
+ * to must not overlap any other of the same call; those that are only read may share bytes. No alignment is asked, nothing
+ * is kept after the call, and calls on different buffers may run side by side. The library is for x86-64.
  */
 #ifndef ONEROM_H
 #define ONEROM_H
@@ -20,7 +20,8 @@ enum {
     ONEROM_DESCRIPTION_SIZE = 424,
     ONEROM_ADDR_LAYOUT_SIZE = 36,
     ONEROM_CS_DATA_LAYOUT_SIZE = 100,
-    ONEROM_IMAGE_SPANS_SIZE = 48
+    ONEROM_IMAGE_SPANS_SIZE = 48,
+    ONEROM_STORED_SLOT_SIZE = 376
 };
 
 /* A GPIO byte of a record that names none. */
@@ -43,7 +44,7 @@ enum onerom_refusal {
     ONEROM_BAD_POSITION = 13,
     ONEROM_MISSING_IMAGE_DATA = 14,        /* the chip, from 0 */
     ONEROM_SHORT_IMAGE_DATA = 15,          /* the chip, from 0 */
-    ONEROM_SHORT_BUFFER = 16,              /* lend a longer buffer: the sizes above, or the table's */
+    ONEROM_SHORT_BUFFER = 16,              /* lend a longer buffer: the sizes above, the table's, or the words read back */
     ONEROM_WRONG_SIZE = 17,
     ONEROM_UNKNOWN_SLOT_TYPE = 18,
     ONEROM_MISSING_LAYOUT = 19,
@@ -121,6 +122,47 @@ uint64_t onerom_build_rom_image(const uint8_t *description, size_t description_l
                                 size_t addr_layout_len, const uint8_t *cs_data_layout, size_t cs_data_layout_len,
                                 const uint8_t *spans, size_t spans_len, const uint8_t *images, size_t images_len,
                                 uint8_t *table, size_t table_len);
+
+/*
+ * Reads back what a slot stores. slot is its record, ONEROM_STORED_SLOT_SIZE bytes, and stored has the bytes that are stored
+ * for it.
+ *
+ * A ROM has as many words as its size says, and no more than its address lines reach. output needs the bytes of all ROMs'
+ * words, and marks one byte a word; a plugin needs as many bytes of output as are stored, and no marks.
+ *
+ * Returns 0 if every word is read: the first bytes of output are then the ROMs' words, ROM after ROM, and the first bytes of
+ * marks, one a word, are 1. A plugin's bytes are copied to output, and marks is as before. Otherwise onerom_number of the
+ * result is one of:
+ *   ONEROM_OUT_OF_DOMAIN       correct the record;
+ *   ONEROM_WRONG_SIZE          stored has another length than the slot declares;
+ *   ONEROM_UNKNOWN_SLOT_TYPE   the slot's kind is none of those known;
+ *   ONEROM_MISSING_LAYOUT      the slot has no layout, or a ROM no pin map;
+ *   ONEROM_UNKNOWN_ALGORITHM   an algorithm or the bit mode is none of those known;
+ *   ONEROM_BAD_LAYOUT          bases, pins, length, lines or the number of ROMs contradict each other;
+ *   ONEROM_X_PIN               not exactly one GPIO of X1 or X2, as the place says, is among the address pins;
+ *   ONEROM_SHORT_BUFFER        everything else is well: lend longer output or marks;
+ *   ONEROM_INCONSISTENT        two entries differ in the word that the place names;
+ *   ONEROM_UNSERVED            no entry has the word that the place names.
+ * After the last two the bytes that a success would write are 0. The others write nothing. No call changes later bytes.
+ */
+uint64_t onerom_unscramble_slot(const uint8_t *slot, size_t slot_len, const uint8_t *stored, size_t stored_len,
+                                uint8_t *output, size_t output_len, uint8_t *marks, size_t marks_len);
+
+/*
+ * Makes the trip of a slot's bytes and back: both searches, the build and the read-back in turn, each on what those before it
+ * found. description, spans, images and table are as in onerom_build_rom_image, output and marks as in
+ * onerom_unscramble_slot; the slot that is read back is the one of the found layouts, and what is stored in it the table's
+ * bytes.
+ *
+ * Returns 0 if all four succeed. Otherwise the result is that of the first that refuses, with the numbers and places above;
+ * ONEROM_UNMAPPED_PIN can be the address search's or the select search's. Until the table is built nothing is written. From
+ * then on the first bytes of table are the table, and output and marks are what read-back leaves.
+ *
+ * Where the slot is well wired and the result is 0, each chip's words are those of images, byte for byte.
+ */
+uint64_t onerom_round_trip(const uint8_t *description, size_t description_len, const uint8_t *spans, size_t spans_len,
+                           const uint8_t *images, size_t images_len, uint8_t *table, size_t table_len, uint8_t *output,
+                           size_t output_len, uint8_t *marks, size_t marks_len);
 
 #ifdef __cplusplus
 }

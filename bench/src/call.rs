@@ -6,7 +6,7 @@ use crate::layout::cs_data::{self, CsDataLayout};
 use crate::refusal::{Call, Refusal};
 
 /// No description allows a larger table.
-const LARGEST_TABLE: u64 = 1 << 20;
+pub const LARGEST_TABLE: usize = 1 << 20;
 
 unsafe extern "C" {
     fn onerom_derive_addr_layout(
@@ -38,6 +38,32 @@ unsafe extern "C" {
         images_len: usize,
         table: *mut u8,
         table_len: usize,
+    ) -> u64;
+
+    fn onerom_unscramble_slot(
+        slot: *const u8,
+        slot_len: usize,
+        stored: *const u8,
+        stored_len: usize,
+        output: *mut u8,
+        output_len: usize,
+        marks: *mut u8,
+        marks_len: usize,
+    ) -> u64;
+
+    fn onerom_round_trip(
+        description: *const u8,
+        description_len: usize,
+        spans: *const u8,
+        spans_len: usize,
+        images: *const u8,
+        images_len: usize,
+        table: *mut u8,
+        table_len: usize,
+        output: *mut u8,
+        output_len: usize,
+        marks: *mut u8,
+        marks_len: usize,
     ) -> u64;
 }
 
@@ -162,6 +188,58 @@ pub fn table_length(description: &[u8], addr_layout: &[u8]) -> usize {
     };
     let length = addr::table_bytes(pins, word_bytes);
     length
-        .filter(|&length| length <= LARGEST_TABLE)
+        .filter(|&length| length <= LARGEST_TABLE as u64)
         .unwrap_or(0) as usize
+}
+
+/// The read-back in the same way: the ROMs' words at the front of the output, their marks at the
+/// front of the marks. Refusals 23 and 24 leave 0 there.
+pub fn unscramble_slot_into(
+    slot: &[u8],
+    stored: &[u8],
+    output: &mut [u8],
+    marks: &mut [u8],
+) -> u64 {
+    // SAFETY: as above. The two that are written overlap no other either, each being lent alone.
+    unsafe {
+        onerom_unscramble_slot(
+            slot.as_ptr(),
+            slot.len(),
+            stored.as_ptr(),
+            stored.len(),
+            output.as_mut_ptr(),
+            output.len(),
+            marks.as_mut_ptr(),
+            marks.len(),
+        )
+    }
+}
+
+/// Both searches, the build and the read-back in turn: the first that refuses answers. A table that
+/// is built stands at the front of its buffer, whatever the read-back answers then.
+pub fn round_trip_into(
+    description: &[u8],
+    spans: &[u8],
+    images: &[u8],
+    table: &mut [u8],
+    output: &mut [u8],
+    marks: &mut [u8],
+) -> u64 {
+    // SAFETY: as above.
+    unsafe {
+        onerom_round_trip(
+            description.as_ptr(),
+            description.len(),
+            spans.as_ptr(),
+            spans.len(),
+            images.as_ptr(),
+            images.len(),
+            table.as_mut_ptr(),
+            table.len(),
+            output.as_mut_ptr(),
+            output.len(),
+            marks.as_mut_ptr(),
+            marks.len(),
+        )
+    }
 }

@@ -2,6 +2,8 @@
 
 mod build;
 mod calls;
+mod guarded;
+mod read_back;
 mod records;
 
 use std::collections::BTreeMap;
@@ -16,12 +18,8 @@ use oracle::{SKIPPED, differences, generate};
 
 use build::Build;
 use calls::{AddressSearch, Answer, Call, SelectSearch};
-
-/// What the lent buffer holds before a call.
-const FILL: u8 = 0xA5;
-
-/// Bytes behind the lent ones, in which any write would show.
-const BEHIND: usize = 4;
+use guarded::Guarded;
+use read_back::ReadBack;
 
 const OUT_OF_DOMAIN: u64 = 1;
 const SHORT_BUFFER: u64 = 16;
@@ -49,17 +47,24 @@ struct Seen {
 pub fn compare(seed: u64, count: u64) -> ExitCode {
     judged(|both| {
         let good = [
-            compare_call::<AddressSearch>(both, seed, count, case_of::<AddressSearch>),
-            compare_call::<SelectSearch>(both, seed, count, case_of::<SelectSearch>),
-            compare_call::<Build>(both, seed, count, case_of::<Build>),
+            compare_call::<1, AddressSearch>(both, seed, count, case_of::<1, AddressSearch>),
+            compare_call::<1, SelectSearch>(both, seed, count, case_of::<1, SelectSearch>),
+            compare_call::<1, Build>(both, seed, count, case_of::<1, Build>),
+            compare_call::<2, ReadBack>(both, seed, count, case_of::<2, ReadBack>),
         ];
-        good == [true; 3]
+        good == [true; 4]
     })
 }
 
-/// The same with builds of 512 KiB.
+/// The same with builds and read-backs of 512 KiB.
 pub fn compare_large(seed: u64, count: u64) -> ExitCode {
-    judged(|both| compare_call::<Build>(both, seed, count, generate::large_build))
+    judged(|both| {
+        let good = [
+            compare_call::<1, Build>(both, seed, count, generate::large_build),
+            compare_call::<2, ReadBack>(both, seed, count, generate::large_read_back),
+        ];
+        good == [true; 2]
+    })
 }
 
 fn judged(is_good: impl FnOnce(Both) -> bool) -> ExitCode {
@@ -75,12 +80,17 @@ fn judged(is_good: impl FnOnce(Both) -> bool) -> ExitCode {
     }
 }
 
-fn case_of<C: Call>(seed: u64, number: u64) -> Case {
+fn case_of<const N: usize, C: Call<N>>(seed: u64, number: u64) -> Case {
     generate::case(seed, number, &[C::KIND])
 }
 
 /// Whether nothing differed.
-fn compare_call<C: Call>(both: Both, seed: u64, count: u64, cases: fn(u64, u64) -> Case) -> bool {
+fn compare_call<const N: usize, C: Call<N>>(
+    both: Both,
+    seed: u64,
+    count: u64,
+    cases: fn(u64, u64) -> Case,
+) -> bool {
     let (mut whole, mut changed) = (Seen::default(), Seen::default());
     for number in 0..count {
         let case = cases(seed, number);
@@ -102,7 +112,7 @@ fn compare_call<C: Call>(both: Both, seed: u64, count: u64, cases: fn(u64, u64) 
 impl Seen {
     /// Holds the library's answer against those of the original and the model to the same case;
     /// without a case, against 1.
-    fn add<C: Call>(&mut self, call: &C, case: Option<&Case>, both: Both) {
+    fn add<const N: usize, C: Call<N>>(&mut self, call: &C, case: Option<&Case>, both: Both) {
         let (result, ours) = ours(call);
         self.count += 1;
         self.tally.add(&ours.line);
@@ -111,8 +121,8 @@ impl Seen {
             None => {
                 self.unsaid += 1;
                 let line = line_of(&[C::KIND, OUT_OF_DOMAIN, 0]);
-                let table = Vec::new();
-                vec![("docs/INTERFACE.md", Answer { line, table })]
+                let bytes = Vec::new();
+                vec![("docs/INTERFACE.md", Answer { line, bytes })]
             }
         };
         let handed_in = || case.map_or_else(|| format!("{:?}", call.bytes()), Case::line);
@@ -121,7 +131,7 @@ impl Seen {
                 self.note(who, &handed_in(), &ours.line, &theirs.line);
             }
         }
-        if !refuses_short_buffer(call, result) {
+        if !refuses_short_buffers(call, result) {
             let (who, wanted) = ("01 on a buffer too short", "16, nothing written");
             self.note(who, &handed_in(), &ours.line, wanted);
         }
@@ -171,50 +181,73 @@ impl Seen {
 
 /// The library's result, and its answer. Where it wrote more or less than it says, the line says so
 /// and equals no other.
-fn ours<C: Call>(call: &C) -> (u64, Answer) {
-    let (result, buffer) = called(call, call.lent());
+fn ours<const N: usize, C: Call<N>>(call: &C) -> (u64, Answer) {
+    let (result, buffers) = called(call, call.lent());
     let success = result == 0;
-    let parts = buffer.split_at_checked(if success { call.length() } else { 0 });
-    let written = parts
-        .filter(|(_, past)| untouched(past))
-        .map(|parts| parts.0);
-    let fields = match written {
-        Some(written) if success => C::numbers(written),
-        refused => refused.map(|_| Vec::new()),
+    let reach = if success || C::clears(result >> PLACES) {
+        call.lengths()
+    } else {
+        [0; N]
+    };
+    let written: [&[u8]; N] = std::array::from_fn(|n| buffers[n].front(reach[n]));
+    let fields = if success {
+        call.numbers(written)
+    } else {
+        written.iter().all(|front| zeros(front)).then(Vec::new)
     };
     let mut numbers = vec![C::KIND, result >> PLACES, place(result)];
-    let line = match fields {
+    let line = match fields.filter(|_| kept_past(&buffers, reach)) {
         Some(fields) => {
             numbers.extend(fields);
             line_of(&numbers)
         }
-        None => line_of(&numbers) + " and the buffer is wrong",
+        None => line_of(&numbers) + " and a buffer is wrong",
     };
-    let table = written.map_or(Vec::new(), C::table);
-    (result, Answer { line, table })
+    let bytes = if success {
+        C::compared(written)
+    } else {
+        Vec::new()
+    };
+    (result, Answer { line, bytes })
 }
 
-/// The result with so many bytes lent, and these with the ones behind them.
-fn called<C: Call>(call: &C, lent: usize) -> (u64, Vec<u8>) {
-    let mut buffer = vec![FILL; lent + BEHIND];
-    let result = call.call(&mut buffer[..lent]);
-    (result, buffer)
+/// The result with so many bytes lent, and these with the ones around them.
+fn called<const N: usize, C: Call<N>>(call: &C, lent: [usize; N]) -> (u64, [Guarded; N]) {
+    let mut buffers = lent.map(Guarded::of);
+    let result = call.call(buffers.each_mut().map(Guarded::lent));
+    (result, buffers)
 }
 
 fn place(result: u64) -> u64 {
     result & ((1 << PLACES) - 1)
 }
 
-fn untouched(lent: &[u8]) -> bool {
-    lent.iter().all(|&byte| byte == FILL)
+fn zeros(bytes: &[u8]) -> bool {
+    bytes.iter().all(|&byte| byte == 0)
 }
 
-/// A buffer one byte short: 16 where the call succeeded, else the same refusal, nothing written.
-fn refuses_short_buffer<C: Call>(call: &C, result: u64) -> bool {
-    let wanted = match result {
-        0 => SHORT_BUFFER << PLACES,
-        refused => refused,
+/// Whether each buffer is as it was, but for so many bytes at its front.
+fn kept_past<const N: usize>(buffers: &[Guarded; N], reach: [usize; N]) -> bool {
+    let mut pairs = buffers.iter().zip(reach);
+    pairs.all(|(buffer, reach)| buffer.is_kept_past(reach))
+}
+
+/// Each buffer in turn one byte short: 16 where nothing else is refused before it, else the same
+/// refusal; nothing written. A buffer that a success leaves as it was can lack none.
+fn refuses_short_buffers<const N: usize, C: Call<N>>(call: &C, result: u64) -> bool {
+    let lengths = call.lengths();
+    let number = result >> PLACES;
+    let looks_at_room = number == 0 || number == SHORT_BUFFER || C::clears(number);
+    let wanted = if looks_at_room {
+        SHORT_BUFFER << PLACES
+    } else {
+        result
     };
-    let (short, buffer) = called(call, call.length().saturating_sub(1));
-    short == wanted && untouched(&buffer)
+    let mut shorts = (0..N).filter(|&short| lengths[short] > 0 || !looks_at_room);
+    shorts.all(|short| {
+        let mut lent = lengths;
+        lent[short] = lent[short].saturating_sub(1);
+        let (told, buffers) = called(call, lent);
+        told == wanted && kept_past(&buffers, [0; N])
+    })
 }

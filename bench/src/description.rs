@@ -125,7 +125,7 @@ impl Description {
     }
 }
 
-fn pair(candidates: Candidates) -> [u8; 2] {
+pub(crate) fn pair(candidates: Candidates) -> [u8; 2] {
     match candidates {
         Candidates::Absent => [NONE, NONE],
         Candidates::One(one) => [gpio(one), NONE],

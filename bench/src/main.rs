@@ -1,17 +1,22 @@
-//! The bench program: lays out the sample or a described board, builds its table, compares and
-//! measures.
+//! The bench program: lays out the sample or a described board, builds its table, tries whether
+//! that reads back, compares and measures.
 
 mod compare;
+mod files;
 mod make;
 mod plain;
 mod speed;
+mod verify;
 
 use std::ffi::OsString;
 use std::io::Write;
 use std::path::Path;
 use std::process::ExitCode;
 
-use onerom_bench::{Description, Refusal, derive_addr_layout, derive_cs_data_layout, show, text};
+use onerom_bench::{
+    AddrLayout, CsDataLayout, Description, Refusal, derive_addr_layout, derive_cs_data_layout,
+    show, text,
+};
 
 const SAMPLE: &str = include_str!("../sample/2764.txt");
 
@@ -19,16 +24,18 @@ const USAGE: &str = "bench            lay out the sample, a 2764 on a 28-pin boa
 bench FILE       lay out the slot that the file describes
 bench build FILE TABLE CHIP..
                  build the slot's table from a file for each chip, - for none
+bench verify FILE CHIP..
+                 try whether the slot's table reads back as the chips
 bench compare SEED COUNT
                  hold the library against the original and the model
 bench compare-large SEED COUNT
-                 the same with builds of 512 KiB
+                 the same with builds and read-backs of 512 KiB
 bench speed      measure the library and the original";
 
 /// A file that cannot be used, or words that are no command.
 const UNREAD: u8 = 2;
 
-const COMMANDS: [&str; 3] = ["build", "compare", "compare-large"];
+const COMMANDS: [&str; 4] = ["build", "verify", "compare", "compare-large"];
 
 fn main() -> ExitCode {
     let given: Vec<OsString> = std::env::args_os().skip(1).collect();
@@ -40,6 +47,7 @@ fn main() -> ExitCode {
         [] => lay_out(sample()),
         ["speed"] => speed::speed(),
         ["build", _, _, _, ..] => make::make(&given[1], &given[2], &given[3..]),
+        ["verify", _, _, ..] => verify::verify(&given[1], &given[2..]),
         ["compare", seed, count] => on_cases(seed, count, compare::compare),
         ["compare-large", seed, count] => on_cases(seed, count, compare::compare_large),
         [word] if !COMMANDS.contains(&word) && !word.starts_with('-') => {
@@ -80,6 +88,13 @@ fn described(file: &Path) -> Result<Description, String> {
     let name = file.display();
     let bytes = std::fs::read(file).map_err(|why| format!("{name}: {why}"))?;
     text::read_bytes(&bytes).map_err(|why| format!("{name}, {why}"))
+}
+
+/// Both layouts of the slot that a record describes.
+fn laid_out(record: &[u8]) -> Result<(AddrLayout, CsDataLayout), Refusal> {
+    let addr = derive_addr_layout(record)?;
+    let cs_data = derive_cs_data_layout(record, &addr.to_bytes())?;
+    Ok((addr, cs_data))
 }
 
 fn lay_out(slot: Result<Description, String>) -> ExitCode {

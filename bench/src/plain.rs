@@ -1,9 +1,13 @@
 //! The library's values as the oracle has them, and back.
 
+use onerom_bench::description::Candidates;
 use onerom_bench::layout::cs_data::{Line, Qualifiers, Role};
-use onerom_bench::{AddrLayout, CsDataLayout, Refusal};
+use onerom_bench::slot::{Layout, Map, Rom, SlotKind};
+use onerom_bench::{AddrLayout, CsDataLayout, Refusal, StoredSlot};
+use oracle::description::{NONE, Pin};
 use oracle::engine::Failure;
 use oracle::layout::{AddressLayout, Qualifier, SelectLayout};
+use oracle::slot::Slot;
 
 pub fn address(layout: AddrLayout) -> AddressLayout {
     AddressLayout {
@@ -77,6 +81,51 @@ fn to_lines(lines: &[oracle::layout::Line]) -> Vec<Line> {
 fn lines(lines: &[Line]) -> Vec<oracle::layout::Line> {
     let plain = |line: &Line| (line.role.number(), line.gpio);
     lines.iter().map(plain).collect()
+}
+
+/// The oracle's slot as the library takes it. What stands behind a flag that says no is left out.
+pub fn to_stored(slot: &Slot) -> StoredSlot {
+    let layout = Layout {
+        addr_algorithm: slot.address_algorithm,
+        addr_base: slot.address_base,
+        base_addr_pin: slot.base_address_pin,
+        addr_pins: slot.pins,
+        data_algorithm: slot.data_algorithm,
+        data_base: slot.data_base,
+        base_data_pin: slot.base_data_pin,
+        dma_algorithm: slot.dma_algorithm,
+        bit_mode: slot.bit_mode,
+        cs_algorithm: slot.select_algorithm,
+        cs_base: slot.select_base,
+        first_cs_pin: slot.first_select_pin,
+    };
+    StoredSlot {
+        size: slot.size,
+        kind: SlotKind::of(slot.kind),
+        layout: slot.has_layout.then_some(layout),
+        overrides: slot.overrides.clone(),
+        x: slot.x.map(candidates),
+        roms: slot.roms.iter().map(to_rom).collect(),
+    }
+}
+
+fn to_rom(rom: &oracle::slot::Rom) -> Rom {
+    let map = Map {
+        address: rom.address,
+        data: rom.data,
+    };
+    Rom {
+        size: rom.size,
+        map: rom.has_map.then_some(map),
+    }
+}
+
+fn candidates(pin: Pin) -> Candidates {
+    match pin {
+        [NONE, NONE] => Candidates::Absent,
+        [one, NONE] => Candidates::One(one),
+        [one, two] => Candidates::Two(one, two),
+    }
 }
 
 pub fn failure(refusal: Refusal) -> Failure {

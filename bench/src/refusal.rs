@@ -8,6 +8,9 @@ pub enum Call {
     Address,
     Select,
     Build,
+    ReadBack,
+    /// The four above in turn.
+    RoundTrip,
 }
 
 impl fmt::Display for Call {
@@ -16,11 +19,13 @@ impl fmt::Display for Call {
             Self::Address => "address search",
             Self::Select => "select search",
             Self::Build => "build",
+            Self::ReadBack => "read-back",
+            Self::RoundTrip => "round trip",
         })
     }
 }
 
-/// Why a call gave no layout or table.
+/// Why a call gave no layout, table or ROM.
 #[derive(Debug, Clone, Copy, PartialEq, Eq)]
 pub struct Refusal {
     /// Who refused: a number can mean one thing in one search and another in the other.
@@ -36,6 +41,8 @@ enum Place {
     Nothing,
     SocketPin,
     ChipPin,
+    /// Of the socket or of the chip, as the search has it that refused.
+    Pin,
     XPin,
     GpioSet,
     Gpio,
@@ -162,9 +169,10 @@ const ROWS: [Row; 25] = [
     ),
 ];
 
-/// What the select search means otherwise.
-const SELECT_ROWS: [(u16, Row); 2] = [
+/// What a call means otherwise: the select search, and the round trip that is either search's.
+const OWN_ROWS: [(Call, u16, Row); 4] = [
     (
+        Call::Select,
         3,
         row(
             "UnmappedPin",
@@ -173,12 +181,27 @@ const SELECT_ROWS: [(u16, Row); 2] = [
         ),
     ),
     (
+        Call::Select,
         9,
         row(
             "NoValidLayout",
             Place::Nothing,
             "no choice of GPIOs has data and selects without gaps in one PIO window",
         ),
+    ),
+    (
+        Call::RoundTrip,
+        3,
+        row(
+            "UnmappedPin",
+            Place::Pin,
+            "a needed pin is off the socket or has no GPIO",
+        ),
+    ),
+    (
+        Call::RoundTrip,
+        9,
+        row("NoValidLayout", Place::Nothing, "no choice of GPIOs fits"),
     ),
 ];
 
@@ -214,6 +237,7 @@ impl Refusal {
             Place::Nothing => String::new(),
             Place::SocketPin => format!("socket pin {place}"),
             Place::ChipPin => format!("chip pin {place}"),
+            Place::Pin => format!("pin {place}"),
             Place::XPin => format!("X{place}"),
             Place::GpioSet => format!("GPIOs {}", members(place)),
             Place::Gpio => format!("GPIO {place}"),
@@ -224,8 +248,8 @@ impl Refusal {
 }
 
 fn row_of(call: Call, number: u16) -> &'static Row {
-    let own = SELECT_ROWS.iter().find(|row| row.0 == number);
-    if let (Call::Select, Some((_, row))) = (call, own) {
+    let own = OWN_ROWS.iter().find(|row| (row.0, row.1) == (call, number));
+    if let Some((_, _, row)) = own {
         return row;
     }
     let place = usize::from(number).checked_sub(1);

@@ -9,13 +9,15 @@ use std::time::{Duration, Instant};
 
 use onerom_bench::description::LENGTH;
 use onerom_bench::{
-    Description, Refusal, build_rom_image, derive_addr_layout, derive_cs_data_layout,
+    Description, Refusal, StoredSlot, build_rom_image, derive_addr_layout, derive_cs_data_layout,
+    unscramble_slot,
 };
 use oracle::SKIPPED;
+use oracle::answer::fitted;
 use oracle::engine::{Job, Told};
 use oracle::slot::ChipBytes;
 
-use crate::plain;
+use crate::{laid_out, plain};
 
 /// How often each input is measured; the best counts, since other work only ever adds time.
 const REPEATS: usize = 25;
@@ -23,9 +25,9 @@ const REPEATS: usize = 25;
 /// A repeat goes on for this long at least, so that the clock's grain does not matter.
 const REPEAT: Duration = Duration::from_millis(20);
 
-/// What a search's work goes by, and a build's.
+/// What a search's work goes by, and that on a table.
 const SEARCHED: [&str; 2] = ["two-candidate pins", "choices"];
-const BUILT: [&str; 2] = ["entries", "bytes"];
+const TABLE: [&str; 2] = ["entries", "bytes"];
 
 /// A slot, and the two numbers that the work on it goes by.
 struct Input {
@@ -61,7 +63,9 @@ pub fn speed() -> ExitCode {
     println!();
     good &= print_table("select search", SEARCHED, select, select_pair);
     println!();
-    good &= print_table("build", BUILT, tables::of_build(), build_pair);
+    good &= print_table("build", TABLE, tables::of_build(), build_pair);
+    println!();
+    good &= print_table("read-back", TABLE, tables::of_read_back(), read_back_pair);
     if good {
         ExitCode::SUCCESS
     } else {
@@ -111,8 +115,7 @@ fn select_pair(slot: &Description) -> Option<Pair> {
 /// The same of the build, which is given both found layouts and bytes for each chip.
 fn build_pair(slot: &Description) -> Option<Pair> {
     let record = slot.to_bytes();
-    let addr = derive_addr_layout(&record).ok()?;
-    let cs_data = derive_cs_data_layout(&record, &addr.to_bytes()).ok()?;
+    let (addr, cs_data) = laid_out(&record).ok()?;
     let (addr_record, cs_data_record) = (addr.to_bytes(), cs_data.to_bytes());
     let images = chip_bytes(slot);
     let job = Job {
@@ -133,6 +136,21 @@ fn build_pair(slot: &Description) -> Option<Pair> {
         )
     };
     agreeing("table", original, ours, |table| table)
+}
+
+/// The same of the read-back, which is given that table and the slot of those layouts.
+fn read_back_pair(slot: &Description) -> Option<Pair> {
+    let record = slot.to_bytes();
+    let (addr, cs_data) = laid_out(&record).ok()?;
+    let stored = StoredSlot::of_layouts(slot, &addr, &cs_data);
+    let images = chip_bytes(slot).map(|image| image.bytes());
+    let images = images.each_ref().map(|image| Some(&image[..]));
+    let table = build_rom_image(&record, &addr.to_bytes(), &cs_data.to_bytes(), &images).ok()?;
+    let (address, select) = (plain::address(addr), plain::select(cs_data));
+    let theirs = fitted(&described(&record)?, &address, &select, table.len());
+    let original = oracle::prepared_read_back(&theirs, &table)?;
+    let ours = move || unscramble_slot(black_box(&stored), black_box(&table));
+    agreeing("ROMs", original, ours, |roms| roms)
 }
 
 /// As many bytes as each chip has, each chip's own.

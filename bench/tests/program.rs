@@ -129,7 +129,7 @@ fn no_description() {
 #[test]
 fn no_file_and_no_command() {
     assert_eq!(bench(&["no/such/file"]).status.code(), Some(2));
-    for command in ["build", "compare", "compare-large"] {
+    for command in ["build", "verify", "compare", "compare-large"] {
         assert_eq!(bench(&[command]).status.code(), Some(2));
     }
     assert_eq!(bench(&["compare-large", "1", "x"]).status.code(), Some(2));

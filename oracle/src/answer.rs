@@ -41,7 +41,7 @@ fn fields(engine: &dyn Engine, case: &Case) -> Told<Vec<u64>> {
             Ok(select_search(engine, &described(record)?, address.as_ref())?.fields())
         }
         Case::Build(case) => Ok(table_fields(&build(engine, case)?)),
-        Case::ReadBack(case) => read_back(engine, case),
+        Case::ReadBack(case) => Ok(recovered_fields(&read_back(engine, case)?)),
         Case::Chain(..) => unreachable!("a chain's answer has a line of its own"),
     }
 }
@@ -121,7 +121,8 @@ pub fn table_fields(table: &[u8]) -> Vec<u64> {
     vec![table.len() as u64, checksum(table)]
 }
 
-fn read_back(engine: &dyn Engine, case: &ReadBack) -> Told<Vec<u64>> {
+/// The ROMs' bytes themselves, of which an answer has the lengths and the checksum.
+pub fn read_back(engine: &dyn Engine, case: &ReadBack) -> Told<Recovered> {
     if !domain::slot(&case.slot) {
         return refused(1, 0);
     }
@@ -129,12 +130,10 @@ fn read_back(engine: &dyn Engine, case: &ReadBack) -> Told<Vec<u64>> {
         output: case.output_length as usize,
         marks: case.mark_length as usize,
     };
-    Ok(recovered_fields(
-        &engine.read_back(&case.slot, &case.data, lent)?,
-    ))
+    engine.read_back(&case.slot, &case.data, lent)
 }
 
-fn recovered_fields(recovered: &Recovered) -> Vec<u64> {
+pub fn recovered_fields(recovered: &Recovered) -> Vec<u64> {
     let mut fields = vec![recovered.roms.len() as u64];
     for n in 0..4 {
         fields.push(recovered.roms.get(n).map_or(0, |rom| rom.len() as u64));

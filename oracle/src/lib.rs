@@ -41,14 +41,16 @@ include!(concat!(env!("OUT_DIR"), "/original.rs"));
 use description::Description;
 use engine::{Engine, Job, Told};
 use layout::{AddressLayout, SelectLayout};
+use slot::Slot;
 
 /// What is said where the original cannot answer.
 pub const SKIPPED: &str = "original sources not found: skipped";
 
-/// A search or build of the original on one description, to be run any number of times.
+/// A search, build or read-back of the original on one slot, to be run any number of times.
 pub type AddressSearch = Box<dyn Fn() -> Told<AddressLayout>>;
 pub type SelectSearch = Box<dyn Fn() -> Told<SelectLayout>>;
 pub type Build = Box<dyn Fn() -> Told<Vec<u8>>>;
+pub type ReadBack = Box<dyn Fn() -> Told<Vec<Vec<u8>>>>;
 
 /// The original, if its files were there at the build.
 #[cfg(original)]
@@ -98,6 +100,17 @@ pub fn prepared_build(slot: &Description, job: &Job) -> Option<Build> {
 
 #[cfg(not(original))]
 pub fn prepared_build(_slot: &Description, _job: &Job) -> Option<Build> {
+    None
+}
+
+/// The original's read-back of these bytes in the same way.
+#[cfg(original)]
+pub fn prepared_read_back(slot: &Slot, data: &[u8]) -> Option<ReadBack> {
+    Some(original::prepared_read_back(slot, data))
+}
+
+#[cfg(not(original))]
+pub fn prepared_read_back(_slot: &Slot, _data: &[u8]) -> Option<ReadBack> {
     None
 }
 

@@ -212,6 +212,17 @@ pub fn prepared_build(slot: &Description, job: &Job) -> crate::Build {
     })
 }
 
+/// The read-back in the same way.
+pub fn prepared_read_back(slot: &Slot, data: &[u8]) -> crate::ReadBack {
+    let hardware = OneromHardwareInfo {
+        gpio_x1: slot.x[0],
+        gpio_x2: slot.x[1],
+    };
+    let record = rom_slot(slot);
+    let data = data.to_vec();
+    Box::new(move || told(|| unscramble_slot(&hardware, &record, &data).map_err(read_back_refusal)))
+}
+
 fn layout_refusal(error: LayoutError) -> Failure {
     match error {
         LayoutError::NoSelectLine { .. } => refusal(2, 0),
@@ -509,12 +520,7 @@ impl Engine for Original {
     }
 
     fn read_back(&self, slot: &Slot, data: &[u8], _lent: Lent) -> Told<Recovered> {
-        let hardware = OneromHardwareInfo {
-            gpio_x1: slot.x[0],
-            gpio_x2: slot.x[1],
-        };
-        let record = rom_slot(slot);
-        let roms = told(|| unscramble_slot(&hardware, &record, data).map_err(read_back_refusal))?;
+        let roms = prepared_read_back(slot, data)()?;
         let marks = marks(slot, &roms);
         Ok(Recovered { roms, marks })
     }

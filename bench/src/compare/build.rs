@@ -7,8 +7,8 @@ use oracle::case::{self, Case};
 use oracle::random::Random;
 use oracle::slot::ChipBytes;
 
-use super::FILL;
 use super::calls::Call;
+use super::guarded::FILL;
 use super::records::{address_layout, chip_bytes, damage_byte, damage_record, select_layout};
 use crate::plain;
 
@@ -51,7 +51,7 @@ impl Build {
     }
 }
 
-impl Call for Build {
+impl Call<1> for Build {
     const NAME: &'static str = "build";
     const KIND: u64 = 7;
 
@@ -97,31 +97,31 @@ impl Call for Build {
         (self, case)
     }
 
-    fn length(&self) -> usize {
-        table_length(&self.description, &self.addr_layout)
+    fn lengths(&self) -> [usize; 1] {
+        [table_length(&self.description, &self.addr_layout)]
     }
 
     /// As the case says: some cases lend too few.
-    fn lent(&self) -> usize {
-        self.table_length as usize
+    fn lent(&self) -> [usize; 1] {
+        [self.table_length as usize]
     }
 
-    fn call(&self, lent: &mut [u8]) -> u64 {
+    fn call(&self, [table]: [&mut [u8]; 1]) -> u64 {
         build_rom_image_into(
             &self.description,
             &self.addr_layout,
             &self.cs_data_layout,
             &self.spans,
             &self.images,
-            lent,
+            table,
         )
     }
 
-    fn numbers(table: &[u8]) -> Option<Vec<u64>> {
+    fn numbers(&self, [table]: [&[u8]; 1]) -> Option<Vec<u64>> {
         Some(table_fields(table))
     }
 
-    fn table(table: &[u8]) -> Vec<u8> {
+    fn compared([table]: [&[u8]; 1]) -> Vec<u8> {
         table.to_vec()
     }
 

@@ -2,41 +2,56 @@
 
 use onerom_bench::layout::{addr, cs_data};
 use onerom_bench::{AddrLayout, CsDataLayout, derive_addr_layout_into, derive_cs_data_layout_into};
-use oracle::answer::{answer, build, line, table_fields};
+use oracle::answer::{answer, build, line, read_back, recovered_fields, table_fields};
 use oracle::case::{Case, Record};
-use oracle::engine::Engine;
+use oracle::engine::{Engine, Told};
 use oracle::random::Random;
 
 use super::records::{ADDR_KEPT, address_layout, damage_description, damage_record, in_turn};
 use crate::plain;
 
-/// An answer as a line of docs/CASES.md, and the table behind a build's checksum; no bytes where
-/// there is none.
+/// An answer as a line of docs/CASES.md, and the bytes behind a checksum in it: a table's, or those
+/// of all ROMs. None where there are no such bytes.
 #[derive(PartialEq, Eq)]
 pub struct Answer {
     pub line: String,
-    pub table: Vec<u8>,
+    pub bytes: Vec<u8>,
 }
 
 impl Answer {
     /// What an engine says to a case.
     pub fn of(engine: &dyn Engine, case: &Case) -> Self {
-        let Case::Build(built) = case else {
-            return Self {
+        match case {
+            Case::Build(built) => {
+                let table = build(engine, built);
+                Self::with_bytes(case, table.map(|table| (table_fields(&table), table)))
+            }
+            Case::ReadBack(stored) => {
+                let found = read_back(engine, stored);
+                let told = found.map(|found| (recovered_fields(&found), found.roms.concat()));
+                Self::with_bytes(case, told)
+            }
+            _ => Self {
                 line: answer(engine, case),
-                table: Vec::new(),
-            };
+                bytes: Vec::new(),
+            },
+        }
+    }
+
+    fn with_bytes(case: &Case, told: Told<(Vec<u64>, Vec<u8>)>) -> Self {
+        let (fields, bytes) = match told {
+            Ok((fields, bytes)) => (Ok(fields), bytes),
+            Err(failure) => (Err(failure), Vec::new()),
         };
-        let told = build(engine, built);
-        let fields = told.as_deref().map(table_fields);
         Self {
-            line: line(case.kind(), fields.map_err(|&failure| failure)),
-            table: told.unwrap_or_default(),
+            line: line(case.kind(), fields),
+            bytes,
         }
     }
 }
 
-pub trait Call: Sized {
+/// A call that is lent so many buffers.
+pub trait Call<const BUFFERS: usize>: Sized {
     const NAME: &'static str;
     /// Among the kinds of cases.
     const KIND: u64;
@@ -48,21 +63,26 @@ pub trait Call: Sized {
     /// docs/INTERFACE.md says 1.
     fn damaged(self, random: &mut Random) -> (Self, Option<Case>);
 
-    /// How many bytes a success writes.
-    fn length(&self) -> usize;
+    /// How many bytes a success writes to each buffer.
+    fn lengths(&self) -> [usize; BUFFERS];
 
     /// How many are lent for them: more, so that the others show what else is written.
-    fn lent(&self) -> usize {
-        self.length() + 4
+    fn lent(&self) -> [usize; BUFFERS] {
+        self.lengths().map(|length| length + 4)
     }
 
-    fn call(&self, lent: &mut [u8]) -> u64;
+    /// Whether a refusal of this number leaves 0 where a success writes; the others write nothing.
+    fn clears(_number: u64) -> bool {
+        false
+    }
+
+    fn call(&self, lent: [&mut [u8]; BUFFERS]) -> u64;
 
     /// What a success wrote in the order of docs/CASES.md; none if anything else stands in it.
-    fn numbers(written: &[u8]) -> Option<Vec<u64>>;
+    fn numbers(&self, written: [&[u8]; BUFFERS]) -> Option<Vec<u64>>;
 
-    /// What a success wrote, if it is a table.
-    fn table(_written: &[u8]) -> Vec<u8> {
+    /// What a success wrote, if the numbers have no more of it than a checksum.
+    fn compared(_written: [&[u8]; BUFFERS]) -> Vec<u8> {
         Vec::new()
     }
 
@@ -74,7 +94,7 @@ pub struct AddressSearch {
     description: Record,
 }
 
-impl Call for AddressSearch {
+impl Call<1> for AddressSearch {
     const NAME: &'static str = "address search";
     const KIND: u64 = 5;
 
@@ -93,15 +113,15 @@ impl Call for AddressSearch {
         (self, Some(case))
     }
 
-    fn length(&self) -> usize {
-        addr::LENGTH
+    fn lengths(&self) -> [usize; 1] {
+        [addr::LENGTH]
     }
 
-    fn call(&self, lent: &mut [u8]) -> u64 {
-        derive_addr_layout_into(&self.description[..], lent)
+    fn call(&self, [layout]: [&mut [u8]; 1]) -> u64 {
+        derive_addr_layout_into(&self.description[..], layout)
     }
 
-    fn numbers(record: &[u8]) -> Option<Vec<u64>> {
+    fn numbers(&self, [record]: [&[u8]; 1]) -> Option<Vec<u64>> {
         let layout = AddrLayout::read(record.try_into().ok()?);
         let numbers = plain::address(layout).fields();
         let kept = ADDR_KEPT.iter().all(|&place| record[place] == 0);
@@ -131,7 +151,7 @@ impl SelectSearch {
     }
 }
 
-impl Call for SelectSearch {
+impl Call<1> for SelectSearch {
     const NAME: &'static str = "select search";
     const KIND: u64 = 6;
 
@@ -156,15 +176,15 @@ impl Call for SelectSearch {
         (self, case)
     }
 
-    fn length(&self) -> usize {
-        cs_data::LENGTH
+    fn lengths(&self) -> [usize; 1] {
+        [cs_data::LENGTH]
     }
 
-    fn call(&self, lent: &mut [u8]) -> u64 {
-        derive_cs_data_layout_into(&self.description[..], &self.addr_layout, lent)
+    fn call(&self, [layout]: [&mut [u8]; 1]) -> u64 {
+        derive_cs_data_layout_into(&self.description[..], &self.addr_layout, layout)
     }
 
-    fn numbers(record: &[u8]) -> Option<Vec<u64>> {
+    fn numbers(&self, [record]: [&[u8]; 1]) -> Option<Vec<u64>> {
         let layout = CsDataLayout::read(record.try_into().ok()?);
         let numbers = plain::select(layout).fields();
         let parts = [&record[..6], &record[8..12], &record[6..8], &record[12..]];

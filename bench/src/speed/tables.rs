@@ -67,18 +67,36 @@ fn chip_16_bit() -> Pinout {
 }
 
 pub fn of_build() -> Vec<Input> {
-    let single = |chip: Pinout| board(&chip, SetType::Single, 1);
-    let four = board(&chip_32(&ADDRESS_27C040[..17]), SetType::Banked, 4);
-    let three = board(&chip_28(15), SetType::Multi, 3);
+    let [plain, banked, multi, wide] = of_512_kib();
     vec![
         input("2764, the sample", sample()),
         input("27C512", single(chip_28(16))),
-        input("27C040", single(chip_32(&ADDRESS_27C040))),
+        plain,
         input("27C080", single(chip_32(&ADDRESS_27C080))),
+        banked,
+        multi,
+        wide,
+    ]
+}
+
+pub fn of_read_back() -> Vec<Input> {
+    of_512_kib().into()
+}
+
+/// The boards whose tables have 512 KiB.
+fn of_512_kib() -> [Input; 4] {
+    let four = board(&chip_32(&ADDRESS_27C040[..17]), SetType::Banked, 4);
+    let three = board(&chip_28(15), SetType::Multi, 3);
+    [
+        input("27C040", single(chip_32(&ADDRESS_27C040))),
         input("four 27C010, Banked", four),
         input("three 27C256, Multi", three),
         input("27C400, 16-bit", single(chip_16_bit())),
     ]
+}
+
+fn single(chip: Pinout) -> Description {
+    board(&chip, SetType::Single, 1)
 }
 
 /// Entries and bytes of the table are those of the layout that is found; 0 if none is.

@@ -30,3 +30,8 @@ pub fn case(seed: u64, number: u64, kinds: &[u64]) -> Case {
 pub fn large_build(seed: u64, number: u64) -> Case {
     slots::large_build(&mut Random::of_case(seed, number))
 }
+
+/// A read-back of as much.
+pub fn large_read_back(seed: u64, number: u64) -> Case {
+    tables::large_read_back(&mut Random::of_case(seed, number))
+}

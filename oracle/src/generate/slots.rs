@@ -96,8 +96,7 @@ pub fn build(random: &mut Random) -> Case {
 pub fn large_build(random: &mut Random) -> Case {
     let mut slot = wiring::description(random);
     slot.largest_table = 1 << 19;
-    let pins = 20 - usize::from(slot.word_bytes);
-    let (address, select) = tables::full_layouts(random, &slot, pins);
+    let (address, select) = tables::large_layouts(random, &slot);
     tables::words_fit(random, &mut slot, address.lines.len());
     within_qualifiers(&mut slot, &address);
     build_case(random, slot, address, select)

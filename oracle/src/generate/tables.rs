@@ -33,13 +33,10 @@ pub fn layouts(random: &mut Random, slot: &Description) -> (AddressLayout, Selec
     (address, select_layout(random, slot, first))
 }
 
-/// Layouts over a window of this many pins: what picks the chip, and address lines on the rest, now
-/// and then but for one or two.
-pub fn full_layouts(
-    random: &mut Random,
-    slot: &Description,
-    pins: usize,
-) -> (AddressLayout, SelectLayout) {
+/// Layouts of a table of 512 KiB: what picks the chip, and address lines on the rest of the window,
+/// now and then but for one or two.
+pub fn large_layouts(random: &mut Random, slot: &Description) -> (AddressLayout, SelectLayout) {
+    let pins = 20 - usize::from(slot.word_bytes);
     let base = random.between(0, 48 - pins);
     let mut window: Vec<u8> = (base..base + pins).map(|gpio| gpio as u8).collect();
     random.shuffle(&mut window);
@@ -149,7 +146,22 @@ pub fn words_fit(random: &mut Random, slot: &mut Description, lines: usize) {
 }
 
 pub fn read_back(random: &mut Random) -> Case {
-    let mut case = good_read_back(random);
+    let slot = wiring::description(random);
+    let layouts = layouts(random, &slot);
+    let good = good_read_back(random, slot, layouts);
+    read_back_case(random, good)
+}
+
+/// The same of a table of 512 KiB.
+pub fn large_read_back(random: &mut Random) -> Case {
+    let slot = wiring::description(random);
+    let layouts = large_layouts(random, &slot);
+    let good = good_read_back(random, slot, layouts);
+    read_back_case(random, good)
+}
+
+/// The case as it is or with faults.
+fn read_back_case(random: &mut Random, mut case: ReadBack) -> Case {
     match random.below(10) {
         0..=3 => {}
         4 | 5 => faults::any(random, &mut case),
@@ -164,9 +176,11 @@ pub fn read_back(random: &mut Random) -> Case {
 }
 
 /// A table as the build makes it, or any bytes where the build refuses, and the record to read it.
-fn good_read_back(random: &mut Random) -> ReadBack {
-    let mut slot = wiring::description(random);
-    let (address, select) = layouts(random, &slot);
+fn good_read_back(
+    random: &mut Random,
+    mut slot: Description,
+    (address, select): (AddressLayout, SelectLayout),
+) -> ReadBack {
     words_fit(random, &mut slot, address.lines.len());
     slot.largest_table = 1 << 20;
     let images = slots::images(random, &slot);
