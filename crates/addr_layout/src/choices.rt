@@ -69,7 +69,7 @@ fn one_if(b: bool) -> u8
 }
 
 // Lines in use: those that a table has an index for.
-fn in_range(d: Description) -> u8
+pub fn in_range(d: Description) -> u8
     ensures { λ r. ⌜ r ≡ inRange d ⌝ }
 {
     let all = num_lines(d);

@@ -1,8 +1,8 @@
 // The address search: which GPIOs the address lines of a slot take, so that one PIO window holds them and the table that
 // they index is the smallest.
 pub mod layout; // the layout, and the search's answer
-mod lines; // the pins that the search lists, in order
-mod choices; // the score of a choice, and the best
+pub mod lines; // the pins that the search lists, in order
+pub mod choices; // the score of a choice, and the best
 
 use domain::description::description_in;
 use layout::AddrAnswer;

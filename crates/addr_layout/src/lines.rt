@@ -15,7 +15,7 @@ ghost use Rattle.listing.specs.Listing.{listOf, count};
 ghost use Rattle.addr_layout.specs.Lines.{firstPin, lines, lineSocket, isOff, offBefore, flyLead, overhanging, lineListed, addrListed};
 
 // The address pin of line 0: in 16-bit mode the data side serves address pin 0.
-fn first_pin(d: Description) -> u8
+pub fn first_pin(d: Description) -> u8
     ensures { λ r. ⌜ r ≡ firstPin d ⌝ }
     ensures { λ r. ⌜ r ≤ 1 ⌝ }
 {

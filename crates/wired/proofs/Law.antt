@@ -1,0 +1,215 @@
+-- The test passes only a description and a layout that are well wired. Assumes nothing.
+use mathlib.Core.Path.{_≡_, refl, sym, _∙_, ap, subst}
+use mathlib.Core.Logic.{inl, inr}
+use mathlib.Core.Bool.{Bool, true, false, _&&_, _||_, not, cond}
+use Prim.Native.Nat.{ℕ, _+_, _-_, _≤_, _<_}
+use native.Mathlib.Omega.{arith}
+use lib.Dec.{leb, ltb, eqb}
+use lib.ListN.{length, getD, List·getD-eq-default}
+use borrow.Author.Tests.{ltb-true, ltb-false, leb-true, eqb-true, eqb-false, not-true, lt-ltb, le-ltb, le-leb, eq-eqb, ne-eqb}
+use Rattle.gpio.specs.Each.{each}
+use Rattle.gpio.specs.declared.candidates.Candidates.{Candidates}
+use Rattle.gpio.specs.declared.candidates.Candidates.the-variants.{Absent, One, Two}
+use Rattle.gpio.specs.declared.candidates.Pin.{Pin}
+use Rattle.gpio.proofs.Bools.{and-left, and-right, asked}
+use Rattle.gpio.proofs.Each.{each-at}
+use Rattle.slot.specs.Description.{isSingle, isMulti, noPin}
+use Rattle.slot.specs.declared.description.Board.{Board}
+use Rattle.slot.specs.declared.description.Description.{Description}
+use Rattle.listing.specs.Choice.{CandidateOf}
+use Rattle.addr_layout.specs.Choices.{inRange}
+use Rattle.addr_layout.specs.Law.{InWindow}
+use Rattle.addr_layout.specs.declared.layout.AddrLayout.{AddrLayout}
+use Rattle.cs_data_layout.specs.Choices.{numData}
+use Rattle.round_trip.specs.WellWired.{BoardPin, candidatesOf, Unshared, addressPin, dataPin, selectPin, OneInside, WellWired}
+use Rattle.round_trip.specs.WellWired.BoardPin.{socket, x1, x2}
+use Rattle.wired.specs.Wired.{
+  pinNumbered,
+  boardPin,
+  holds,
+  disjoint,
+  aloneAt,
+  unsharedAmong,
+  unshared,
+  apartFrom,
+  apart,
+  noneOn,
+  linesApart,
+  selectApart,
+  dataApart,
+  dataLines,
+  selectOne,
+  noQualifiers,
+  inWindow,
+  oneOf,
+  oneInside,
+  wired,
+}
+
+-- a candidate is held
+holds-of : (c : Candidates) (g : ℕ) → CandidateOf c g → holds c g ≡ true
+holds-of Absent g h = absurd h
+holds-of (One a) g h = eq-eqb g a h
+holds-of (Two a b) g h = elim h [ inl q ↦ rw (eq-eqb g a q) | inr q ↦ or-right (eqb g a) (eqb g b) (eq-eqb g b q) ]
+  where
+  or-right : (t u : Bool) → u ≡ true → t || u ≡ true
+  or-right true u e = refl
+  or-right false u e = e
+
+clash : (t : Bool) → t ≡ true → t ≡ false → ⊥
+clash t e f = let z : _≡_ {A = ℕ} 0 1 = ap (λ (x : Bool). cond x 0 1) (sym e ∙ f) in omega (arith, z)
+
+neither : (t : Bool) → not t ≡ true → t ≡ true → ⊥
+neither t e f = clash t f (not-true t e)
+
+-- pins with no candidate in common share none
+not-shared : (c e : Candidates) (g : ℕ) → disjoint c e ≡ true → CandidateOf c g → CandidateOf e g → ⊥
+not-shared Absent e g t h k = h
+not-shared (One a) e g t h k = neither (holds e a) t (subst (λ (x : ℕ). holds e x ≡ true) h (holds-of e g k))
+not-shared (Two a b) e g t h k = elim h [
+    inl q ↦ neither (holds e a) (and-left (not (holds e a)) (not (holds e b)) t) (subst (λ (x : ℕ). holds e x ≡ true) q (holds-of e g k))
+  | inr q ↦ neither (holds e b) (and-right (not (holds e a)) (not (holds e b)) t) (subst (λ (x : ℕ). holds e x ≡ true) q (holds-of e g k)) ]
+
+-- a pin that has a candidate has a number
+record Numbered (n : ℕ) (p : BoardPin) : Type 0 where
+  pub number : ℕ
+  pub below : number < n + 2
+  pub same : pinNumbered n number ≡ p
+
+socket-in : (b : Board) (s g : ℕ) (t u : Bool) → leb 1 s ≡ t → ltb (s - 1) (length (b .socket)) ≡ u
+    → CandidateOf (cond t (getD (b .socket) (s - 1) noPin .gpios) Absent) g → (1 ≤ s) × (s - 1 < length (b .socket))
+socket-in b s g false u e f h = absurd h
+socket-in b s g true true e f h = (leb-true 1 s e, ltb-true _ _ f)
+socket-in b s g true false e f h =
+    let end = List·getD-eq-default (b .socket) noPin {n = s - 1} (ltb-false _ _ f) in
+    let none : ⊥ = subst (λ (p : Pin). CandidateOf (p .gpios) g) end h in
+    absurd none
+
+numbered : (b : Board) (p : BoardPin) (g : ℕ) → CandidateOf (candidatesOf b p) g → Numbered (length (b .socket)) p
+numbered b (socket s) g h =
+    let i = socket-in b s g (leb 1 s) (ltb (s - 1) (length (b .socket))) refl refl h in
+    let e : s - 1 + 1 ≡ s = omega (arith, i .0) in
+    record { number = s - 1; below = omega (arith, i .1); same = rw (lt-ltb _ _ (i .1), e) }
+numbered b x1 g h =
+    let n = length (b .socket) in
+    record { number = n; below = omega arith; same = rw (le-ltb n n (omega arith), eq-eqb n n refl) }
+numbered b x2 g h =
+    let n = length (b .socket) in
+    record { number = n + 1; below = omega arith; same = rw (le-ltb (n + 1) n (omega arith), ne-eqb (n + 1) n (λ e. omega arith)) }
+
+-- pins that share a candidate have one number
+one-number : (n : ℕ) (b : Board) (i j g : ℕ) (t : Bool) → eqb i j ≡ t → t || disjoint (boardPin n b i) (boardPin n b j) ≡ true
+    → CandidateOf (boardPin n b i) g → CandidateOf (boardPin n b j) g → i ≡ j
+one-number n b i j g true e f h k = eqb-true i j e
+one-number n b i j g false e f h k = absurd (not-shared (boardPin n b i) (boardPin n b j) g f h k)
+
+unshared-is : (b : Board) → unshared b ≡ true → Unshared b
+unfolding unsharedAmong aloneAt
+unshared-is b e p q g h k =
+    let n = length (b .socket) in
+    let u = numbered b p g h in
+    let v = numbered b q g k in
+    let i = u .number in
+    let j = v .number in
+    let t = each-at _ (n + 2) (each-at _ (n + 2) e i (u .below)) j (v .below) in
+    let hi = subst (λ (r : BoardPin). CandidateOf (candidatesOf b r) g) (sym (u .same)) h in
+    let kj = subst (λ (r : BoardPin). CandidateOf (candidatesOf b r) g) (sym (v .same)) k in
+    let same : i ≡ j = one-number n b i j g (eqb i j) refl t hi kj in
+    sym (u .same) ∙ ap (λ (x : ℕ). pinNumbered n x) same ∙ v .same
+
+-- lines on one pin are one line
+one-line : (pin : ℕ → ℕ) (j k : ℕ) (t : Bool) → eqb j k ≡ t → t || not (eqb (pin j) (pin k)) ≡ true → pin j ≡ pin k → j ≡ k
+one-line pin j k true e f p = eqb-true j k e
+one-line pin j k false e f p = absurd (eqb-false (pin j) (pin k) (not-true _ f) p)
+
+apart-is : (n : ℕ) (pin : ℕ → ℕ) → apart n pin ≡ true → (j k : ℕ) → j < n → k < n → pin j ≡ pin k → j ≡ k
+unfolding apart apartFrom
+apart-is n pin e j k l m p = one-line pin j k (eqb j k) refl (each-at _ n (each-at _ n e j l) k m) p
+
+none-is : (n : ℕ) (pin : ℕ → ℕ) (p : ℕ) → noneOn n pin p ≡ true → (k : ℕ) → k < n → pin k ≡ p → ⊥
+unfolding noneOn
+none-is n pin p e k l q = eqb-false (pin k) p (not-true _ (each-at _ n e k l)) q
+
+-- the window's test
+window-is : (a : AddrLayout) (g : ℕ) → inWindow a g ≡ true → InWindow a g
+window-is a g e =
+    let low = leb (a .«gpio_base») g in
+    let high = ltb g (a .«gpio_base» + a .«num_addr_pins») in
+    (leb-true _ _ (and-left low high e), ltb-true _ _ (and-right low high e))
+
+window-of : (a : AddrLayout) (g : ℕ) → InWindow a g → inWindow a g ≡ true
+window-of a g w = rw (le-leb _ _ (w .0), lt-ltb _ _ (w .1))
+
+-- a GPIO in the window is not the candidate outside
+outside : (a : AddrLayout) (g x : ℕ) → inWindow a g ≡ false → x ≡ g → InWindow a x → ⊥
+outside a g x e q w = clash (inWindow a g) (window-of a g (subst (λ (y : ℕ). InWindow a y) q w)) e
+
+two-inside : (a : AddrLayout) (g h : ℕ) (t u : Bool) → inWindow a g ≡ t → inWindow a h ≡ u → oneOf t u (eqb g h) ≡ true → OneInside a (Two g h)
+two-inside a g h true true e f o = record {
+  gpio = g;
+  candidate = inl refl;
+  inside = window-is a g e;
+  only = λ x k w. elim k [ inl q ↦ q | inr q ↦ q ∙ sym (eqb-true g h o) ];
+}
+two-inside a g h true false e f o = record {
+  gpio = g;
+  candidate = inl refl;
+  inside = window-is a g e;
+  only = λ x k w. elim k [ inl q ↦ q | inr q ↦ absurd (outside a h x f q w) ];
+}
+two-inside a g h false true e f o = record {
+  gpio = h;
+  candidate = inr refl;
+  inside = window-is a h f;
+  only = λ x k w. elim k [ inl q ↦ absurd (outside a g x e q w) | inr q ↦ q ];
+}
+two-inside a g h false false e f o = absurd (clash false o refl)
+
+one-inside : (a : AddrLayout) (c : Candidates) → oneInside a c ≡ true → OneInside a c
+one-inside a Absent e = absurd (clash false e refl)
+one-inside a (One g) e = record { gpio = g; candidate = refl; inside = window-is a g e; only = λ x k w. k }
+one-inside a (Two g h) e = two-inside a g h (inWindow a g) (inWindow a h) refl refl e
+
+-- a rule that is asked only where t does not hold
+unless : (t b : Bool) → t || b ≡ true → t ≡ false → b ≡ true
+unless true b e f = cc
+unless false b e f = e
+
+pub wired-is : (d : Description) (a : AddrLayout) → wired d a ≡ true → WellWired d a
+unfolding wired
+wired-is d a e =
+    let single = isSingle (d .«set_type») in
+    let multi = isMulti (d .«set_type») in
+    let third = leb 3 (d .«num_chips») in
+    let select = not multi || selectApart d in
+    let one = not multi || selectOne d in
+    let none = not multi || noQualifiers d in
+    let in1 = oneInside a (d .board .x1) in
+    let in2 = oneInside a (d .board .x2) in
+    let upTo1 = unshared (d .board) && linesApart d in
+    let upTo2 = upTo1 && select in
+    let upTo3 = upTo2 && dataApart d in
+    let upTo4 = upTo3 && dataLines d in
+    let upTo5 = upTo4 && one in
+    let upTo6 = upTo5 && none in
+    let upTo7 = upTo6 && (single || in1) in
+    let e7 = and-left upTo7 (single || (not third || in2)) e in
+    let e6 = and-left upTo6 (single || in1) e7 in
+    let e5 = and-left upTo5 none e6 in
+    let e4 = and-left upTo4 one e5 in
+    let e3 = and-left upTo3 (dataLines d) e4 in
+    let e2 = and-left upTo2 (dataApart d) e3 in
+    let e1 = and-left upTo1 select e2 in
+    let last = and-right upTo7 (single || (not third || in2)) e in
+    record {
+      unshared = unshared-is (d .board) (and-left (unshared (d .board)) (linesApart d) e1);
+      lines-apart = apart-is (inRange d) (λ n. addressPin d n) (and-right (unshared (d .board)) (linesApart d) e1);
+      select-apart = λ m.
+          none-is (inRange d) (λ n. addressPin d n) (selectPin d) (asked multi (selectApart d) (and-right upTo1 select e2) m);
+      data-apart = apart-is (numData d) (λ n. dataPin d n) (and-right upTo2 (dataApart d) e3);
+      data-lines = eqb-true _ _ (and-right upTo3 (dataLines d) e4);
+      select-one = λ m. not-true _ (asked multi (selectOne d) (and-right upTo4 one e5) m);
+      no-qualifiers = λ m. eqb-true _ _ (asked multi (noQualifiers d) (and-right upTo5 none e6) m);
+      x1-inside = λ s. one-inside a (d .board .x1) (unless single in1 (and-right upTo6 (single || in1) e7) s);
+      x2-inside = λ s l. one-inside a (d .board .x2) (asked third in2 (unless single (not third || in2) last s) (le-leb 3 _ l));
+    }

@@ -1,0 +1,104 @@
+-- Document 01, "Well wired", as a test of a description and of the address layout found. Assumes nothing.
+use Prim.Native.Nat.{ℕ, _+_, _*_}
+use mathlib.Core.Bool.{Bool, true, false, _&&_, _||_, not, cond}
+use lib.Dec.{leb, ltb, eqb}
+use lib.ListN.{length}
+use Rattle.gpio.specs.Each.{each}
+use Rattle.gpio.specs.Candidates.{two}
+use Rattle.gpio.specs.declared.candidates.Candidates.{Candidates}
+use Rattle.gpio.specs.declared.candidates.Candidates.the-variants.{Absent, One, Two}
+use Rattle.slot.specs.Description.{isSingle, isMulti}
+use Rattle.slot.specs.declared.description.Board.{Board}
+use Rattle.slot.specs.declared.description.Description.{Description}
+use Rattle.listing.specs.Lines.{pinCandidates}
+use Rattle.addr_layout.specs.Choices.{inRange}
+use Rattle.addr_layout.specs.declared.layout.AddrLayout.{AddrLayout}
+use Rattle.cs_data_layout.specs.Choices.{numData}
+use Rattle.round_trip.specs.WellWired.{BoardPin, candidatesOf, addressPin, dataPin, selectPin}
+use Rattle.round_trip.specs.WellWired.BoardPin.{socket, x1, x2}
+
+-- the pins of a board by number, its socket having n places: the socket's from 0, then X1, then X2
+abbrev pub pinNumbered : ℕ → ℕ → BoardPin
+pinNumbered n i = cond (ltb i n) (socket (i + 1)) (cond (eqb i n) x1 x2)
+
+abbrev pub boardPin : ℕ → Board → ℕ → Candidates
+boardPin n b i = candidatesOf b (pinNumbered n i)
+
+-- whether a GPIO is one of a pin's candidates
+abbrev pub holds : Candidates → ℕ → Bool
+holds Absent g = false
+holds (One a) g = eqb g a
+holds (Two a b) g = eqb g a || eqb g b
+
+-- whether two pins have no candidate in common
+abbrev pub disjoint : Candidates → Candidates → Bool
+disjoint Absent e = true
+disjoint (One a) e = not (holds e a)
+disjoint (Two a b) e = not (holds e a) && not (holds e b)
+
+-- "No GPIO is a candidate for two pins, X pins included."
+unfoldable pub aloneAt : ℕ → Board → ℕ → Bool
+aloneAt n b i = each (n + 2) (λ j. eqb i j || disjoint (boardPin n b i) (boardPin n b j))
+
+unfoldable pub unsharedAmong : ℕ → Board → Bool
+unsharedAmong n b = each (n + 2) (λ i. aloneAt n b i)
+
+abbrev pub unshared : Board → Bool
+unshared b = unsharedAmong (length (b .socket)) b
+
+-- whether no other of n lines lies on the pin of line j, and whether no two of them lie on one pin
+unfoldable pub apartFrom : ℕ → (ℕ → ℕ) → ℕ → Bool
+apartFrom n pin j = each n (λ k. eqb j k || not (eqb (pin j) (pin k)))
+
+unfoldable pub apart : ℕ → (ℕ → ℕ) → Bool
+apart n pin = each n (λ j. apartFrom n pin j)
+
+-- whether none of n lines lies on a pin
+unfoldable pub noneOn : ℕ → (ℕ → ℕ) → ℕ → Bool
+noneOn n pin p = each n (λ k. not (eqb (pin k) p))
+
+-- "The address lines in use, and in Multi the per-chip select, lie on different chip pins."
+abbrev pub linesApart : Description → Bool
+linesApart d = apart (inRange d) (λ n. addressPin d n)
+
+abbrev pub selectApart : Description → Bool
+selectApart d = noneOn (inRange d) (λ n. addressPin d n) (selectPin d)
+
+-- "The data lines too, 8w of them."
+abbrev pub dataApart : Description → Bool
+dataApart d = apart (numData d) (λ n. dataPin d n)
+
+abbrev pub dataLines : Description → Bool
+dataLines d = eqb (numData d) (8 * d .«word_bytes»)
+
+-- "In Multi the select pin has one candidate. A Multi chip has no qualifiers."
+abbrev pub selectOne : Description → Bool
+selectOne d = not (two (pinCandidates d (selectPin d)))
+
+abbrev pub noQualifiers : Description → Bool
+noQualifiers d = eqb (d .«num_qualifiers») 0
+
+-- "has one candidate in the found address window"
+abbrev pub inWindow : AddrLayout → ℕ → Bool
+inWindow a g = leb (a .«gpio_base») g && ltb g (a .«gpio_base» + a .«num_addr_pins»)
+
+abbrev pub oneOf : Bool → Bool → Bool → Bool
+oneOf first second same = (first || second) && (not first || not second || same)
+
+abbrev pub oneInside : AddrLayout → Candidates → Bool
+oneInside a Absent = false
+oneInside a (One g) = inWindow a g
+oneInside a (Two g h) = oneOf (inWindow a g) (inWindow a h) (eqb g h)
+
+-- the sentences in their order; "X1 in Banked and Multi, and X2 with 3 chips or more"
+unfoldable pub wired : Description → AddrLayout → Bool
+wired d a =
+    unshared (d .board)
+    && linesApart d
+    && (not (isMulti (d .«set_type»)) || selectApart d)
+    && dataApart d
+    && dataLines d
+    && (not (isMulti (d .«set_type»)) || selectOne d)
+    && (not (isMulti (d .«set_type»)) || noQualifiers d)
+    && (isSingle (d .«set_type») || oneInside a (d .board .x1))
+    && (isSingle (d .«set_type») || (not (leb 3 (d .«num_chips»)) || oneInside a (d .board .x2)))
