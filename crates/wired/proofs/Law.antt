@@ -52,9 +52,9 @@ holds-of Absent g h = absurd h
 holds-of (One a) g h = eq-eqb g a h
 holds-of (Two a b) g h = elim h [ inl q ↦ rw (eq-eqb g a q) | inr q ↦ or-right (eqb g a) (eqb g b) (eq-eqb g b q) ]
   where
-  or-right : (t u : Bool) → u ≡ true → t || u ≡ true
-  or-right true u e = refl
-  or-right false u e = e
+    or-right : (t u : Bool) → u ≡ true → t || u ≡ true
+    or-right true u e = refl
+    or-right false u e = e
 
 clash : (t : Bool) → t ≡ true → t ≡ false → ⊥
 clash t e f = let z : _≡_ {A = ℕ} 0 1 = ap (λ (x : Bool). cond x 0 1) (sym e ∙ f) in omega (arith, z)
@@ -67,8 +67,9 @@ not-shared : (c e : Candidates) (g : ℕ) → disjoint c e ≡ true → Candidat
 not-shared Absent e g t h k = h
 not-shared (One a) e g t h k = neither (holds e a) t (subst (λ (x : ℕ). holds e x ≡ true) h (holds-of e g k))
 not-shared (Two a b) e g t h k = elim h [
-    inl q ↦ neither (holds e a) (and-left (not (holds e a)) (not (holds e b)) t) (subst (λ (x : ℕ). holds e x ≡ true) q (holds-of e g k))
-  | inr q ↦ neither (holds e b) (and-right (not (holds e a)) (not (holds e b)) t) (subst (λ (x : ℕ). holds e x ≡ true) q (holds-of e g k)) ]
+  | inl q ↦ neither (holds e a) (and-left (not (holds e a)) (not (holds e b)) t) (subst (λ (x : ℕ). holds e x ≡ true) q (holds-of e g k))
+  | inr q ↦ neither (holds e b) (and-right (not (holds e a)) (not (holds e b)) t) (subst (λ (x : ℕ). holds e x ≡ true) q (holds-of e g k))
+]
 
 -- a pin that has a candidate has a number
 record Numbered (n : ℕ) (p : BoardPin) : Type 0 where

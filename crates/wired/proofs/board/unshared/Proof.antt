@@ -1,0 +1,45 @@
+-- `unshared` meets its contract. The invariant: `ok` says whether the pins passed share no candidate. Assumes nothing.
+use mathlib.Core.Path.{_≡_, sym, _∙_, ap}
+use Prim.Native.Nat.{ℕ, _≤_, _-_}
+use native.Mathlib.Omega.{arith}
+use lib.ListN.{length}
+use borrow.Author.Needs.{needs}
+use Rattle.gpio.specs.Each.{each}
+use Rattle.gpio.proofs.Each.{each-none, each-turn, each-done}
+use Rattle.gpio.proofs.Lists.{mapped-length}
+use Rattle.slot.specs.declared.description.Board.{Board}
+use Rattle.wired.specs.Wired.{aloneAt, unsharedAmong, unshared}
+use Rattle.wired.proofs.board.unshared.Statement.{statement}
+use Rattle.wired.proofs.board.unshared.Tie as tie
+
+abbrev Inv-loop : tie.InvT-loop
+Inv-loop b ok₀ i₀ ok i = (i ≤ 42) × (ok ≡ each i (λ k. aloneAt 40 b k))
+
+abbrev μ-loop : tie.MeasureT-loop
+μ-loop b ok₀ i₀ ok i = 42 - i
+
+loop-holds : tie.Need-loop-holds Inv-loop μ-loop
+loop-holds c = (omega arith, each-none _)
+
+loop-again : tie.Need-loop-again Inv-loop μ-loop
+loop-again c = (omega arith, rw (c .alone-at .ensures) (each-turn _ _ _ (c .before .before .loop .inv .1)))
+
+returns : tie.Need-returns Inv-loop μ-loop
+unfolding unsharedAmong
+returns c =
+    let b = c .before .before .args .b in
+    let e : length (b .socket) ≡ 40 = search (mapped-length, needs) in
+    each-done _ _ _ _ (omega arith) (c .before .loop .inv .1) ∙ ap (λ (n : ℕ). unsharedAmong n b) (sym e)
+
+pub unshared-spec : {M : Type 1} → statement M
+unshared-spec =
+    tie.close
+    (tie.spec
+    Inv-loop
+    μ-loop
+    loop-holds
+    (λ c κs. search needs)
+    (λ c. search needs)
+    (λ c. search needs)
+    loop-again
+    returns)
