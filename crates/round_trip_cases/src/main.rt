@@ -1,5 +1,7 @@
 // Slots through both searches, the build and read-back: that well wired slots which nothing refuses are there, of each set kind and
-// number of chips, in 8 and in 16-bit mode. Each pin has one GPIO and no GPIO two pins. The lent buffers hold JUNK before.
+// number of chips, in 8 and in 16-bit mode. That each is well wired is tested by `well_wired`, whose law gives the premise of demand 3.
+// Each pin has one GPIO and no GPIO two pins. The lent buffers hold JUNK before.
+use addr_layout::derive_addr_layout;
 use domain::lists::entry;
 use gpio::candidates::Candidates;
 use gpio::candidates::Pin;
@@ -19,6 +21,7 @@ use slot::description::MultiCsConfig;
 use slot::description::Setting;
 use slot::refusal::Refusal;
 use std::num::wrapping_add_u8;
+use wired::well_wired;
 ghost use Prim.Native.Nat.{_≤_};
 
 const JUNK: u8 = 195;
@@ -295,29 +298,41 @@ fn marked(case: Case, marks: &[u8]) -> bool {
 
 fn say_verdict(case: Case, ok: bool) {
     if ok {
-        say(b": reads back, ");
+        say(b", reads back, ");
         say_number(all_words(case) as u64);
         say(b" words\n");
     } else {
-        say(b": DIFFERS\n");
+        say(b", DIFFERS\n");
     }
 }
 
 fn say_refusal(why: Refusal) {
-    say(b": REFUSED ");
+    say(b", REFUSED ");
     say_number(why.number() as u64);
     say(b"\n");
 }
 
+// Whether demand 3's premise holds of the slot and of its address layout.
+fn say_wiring(d: Description) {
+    let found = derive_addr_layout(d);
+    if well_wired(d, found.layout) {
+        say(b": well wired");
+    } else {
+        say(b": NOT WELL WIRED");
+    }
+}
+
 fn run(name: &[u8], case: Case) {
+    let slot = description(case);
     say(name);
+    say_wiring(slot);
     let mut images = [0u8; 2048];
     fill(&mut images);
     let mut table = [JUNK; 4096];
     let mut output = [JUNK; 2048];
     let mut marks = [JUNK; 1024];
     match round_trip(
-        description(case),
+        slot,
         &images,
         spans(case),
         &mut table,

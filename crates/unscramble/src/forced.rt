@@ -2,7 +2,7 @@
 use crate::stored::StoredSlot;
 use crate::window::addr_base;
 ghost use mathlib.Core.Path.{_≡_};
-ghost use mathlib.Core.Bool.{cond, _&&_};
+ghost use mathlib.Core.Bool.{cond, _&&_, _||_};
 ghost use Prim.Native.Nat.{_+_, _%_, _/_, _^_, _<_};
 ghost use lib.Dec.{eqb};
 ghost use Rattle.unscramble.specs.Stored.{names, pinsOf};
