@@ -7,7 +7,6 @@ use native.Mathlib.Omega.{arith}
 use lib.Dec.{leb, ltb, eqb}
 use lib.ListN.{length, getD, List·getD-eq-default}
 use borrow.Author.Tests.{ltb-true, ltb-false, leb-true, eqb-true, eqb-false, not-true, lt-ltb, le-ltb, le-leb, eq-eqb, ne-eqb}
-use Rattle.gpio.specs.Each.{each}
 use Rattle.gpio.specs.declared.candidates.Candidates.{Candidates}
 use Rattle.gpio.specs.declared.candidates.Candidates.the-variants.{Absent, One, Two}
 use Rattle.gpio.specs.declared.candidates.Pin.{Pin}
@@ -56,7 +55,7 @@ holds-of (Two a b) g h = elim h [ inl q ↦ rw (eq-eqb g a q) | inr q ↦ or-rig
     or-right true u e = refl
     or-right false u e = e
 
-clash : (t : Bool) → t ≡ true → t ≡ false → ⊥
+pub clash : (t : Bool) → t ≡ true → t ≡ false → ⊥
 clash t e f = let z : _≡_ {A = ℕ} 0 1 = ap (λ (x : Bool). cond x 0 1) (sym e ∙ f) in omega (arith, z)
 
 neither : (t : Bool) → not t ≡ true → t ≡ true → ⊥
@@ -132,13 +131,13 @@ unfolding noneOn
 none-is n pin p e k l q = eqb-false (pin k) p (not-true _ (each-at _ n e k l)) q
 
 -- the window's test
-window-is : (a : AddrLayout) (g : ℕ) → inWindow a g ≡ true → InWindow a g
+pub window-is : (a : AddrLayout) (g : ℕ) → inWindow a g ≡ true → InWindow a g
 window-is a g e =
     let low = leb (a .«gpio_base») g in
     let high = ltb g (a .«gpio_base» + a .«num_addr_pins») in
     (leb-true _ _ (and-left low high e), ltb-true _ _ (and-right low high e))
 
-window-of : (a : AddrLayout) (g : ℕ) → InWindow a g → inWindow a g ≡ true
+pub window-of : (a : AddrLayout) (g : ℕ) → InWindow a g → inWindow a g ≡ true
 window-of a g w = rw (le-leb _ _ (w .0), lt-ltb _ _ (w .1))
 
 -- a GPIO in the window is not the candidate outside

@@ -1,10 +1,9 @@
 -- `alone_at` meets its contract. The invariant: `ok` says whether the pin shares no candidate with the pins passed. Assumes nothing.
 use mathlib.Core.Path.{_≡_}
-use mathlib.Core.Bool.{_||_, not}
-use Prim.Native.Nat.{ℕ, _+_, _≤_, _-_}
+use mathlib.Core.Bool.{_||_}
+use Prim.Native.Nat.{_≤_, _-_}
 use native.Mathlib.Omega.{arith}
 use lib.Dec.{eqb}
-use lib.ListN.{getD}
 use borrow.Author.Needs.{needs}
 use Rattle.gpio.specs.Each.{each}
 use Rattle.gpio.proofs.Each.{each-none, each-turn, each-done}
