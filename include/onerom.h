@@ -154,8 +154,9 @@ uint64_t onerom_unscramble_slot(const uint8_t *slot, size_t slot_len, const uint
  * onerom_unscramble_slot; the slot that is read back is the one of the found layouts, and what is stored in it the table's
  * bytes.
  *
- * Returns 0 if all four succeed. Otherwise the result is that of the first that refuses, with the numbers and places above;
- * ONEROM_UNMAPPED_PIN can be the address search's or the select search's. Until the table is built nothing is written. From
+ * Returns 0 if all four succeed. Otherwise it is ONEROM_OUT_OF_DOMAIN where description or spans is no record, and then the
+ * result of the first call that refuses, with the numbers and places above; ONEROM_UNMAPPED_PIN can be the address search's
+ * or the select search's. Until the table is built nothing is written. From
  * then on the first bytes of table are the table, and output and marks are what read-back leaves.
  *
  * Where the slot is well wired and the result is 0, each chip's words are those of images, byte for byte.
