@@ -60,20 +60,37 @@ fn bit_if(b: bool, p: u8) -> u32
     0
 }
 
-// The index bits that are forced high.
-pub fn forced_high(s: StoredSlot) -> u32
+// Whether an override forces the bit at a position: high, or low too.
+fn forces(s: StoredSlot, low_too: bool, p: u8) -> bool
+    ensures { λ r. ⌜ r ≡ cond «low_too» (forcedAt s p) (highAt s p) ⌝ }
+{
+    if low_too {
+        return forced_at(s, p);
+    }
+    high_at(s, p)
+}
+
+fn mask(s: StoredSlot, low_too: bool) -> u32
     requires { ⌜ pinsOf s < 32 ⌝ }
-    ensures { λ r. ⌜ r ≡ maskOf (pinsOf s) (highAt s) ⌝ }
+    ensures { λ r. ⌜ r ≡ maskOf (pinsOf s) (λ p. cond «low_too» (forcedAt s p) (highAt s p)) ⌝ }
 {
     let addr = s.alg_addr;
     let n = addr.num_addr_pins;
     let mut mask: u32 = 0;
     let mut p: u8 = 0;
     while p < n {
-        mask = mask + bit_if(high_at(s, p), p);
+        mask = mask + bit_if(forces(s, low_too, p), p);
         p += 1;
     }
     mask
+}
+
+// The index bits that are forced high.
+pub fn forced_high(s: StoredSlot) -> u32
+    requires { ⌜ pinsOf s < 32 ⌝ }
+    ensures { λ r. ⌜ r ≡ maskOf (pinsOf s) (highAt s) ⌝ }
+{
+    mask(s, false)
 }
 
 // The index bits that are forced, low or high.
@@ -81,13 +98,5 @@ pub fn forced(s: StoredSlot) -> u32
     requires { ⌜ pinsOf s < 32 ⌝ }
     ensures { λ r. ⌜ r ≡ maskOf (pinsOf s) (forcedAt s) ⌝ }
 {
-    let addr = s.alg_addr;
-    let n = addr.num_addr_pins;
-    let mut mask: u32 = 0;
-    let mut p: u8 = 0;
-    while p < n {
-        mask = mask + bit_if(forced_at(s, p), p);
-        p += 1;
-    }
-    mask
+    mask(s, true)
 }

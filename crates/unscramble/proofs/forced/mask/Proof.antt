@@ -1,26 +1,33 @@
--- `forced` meets its contract. The loop's invariant: the mask of the positions passed. Assumes nothing.
+-- `mask` meets its contract. The loop's invariant: the mask of the positions passed. Assumes nothing.
 use mathlib.Core.Path.{_≡_, _∙_, ap}
 use mathlib.Core.Bool.{Bool, cond}
-use Prim.Native.Nat.{_-_, _^_, _≤_}
+use Prim.Native.Nat.{ℕ, _-_, _^_, _≤_}
 use native.Mathlib.Omega.{arith}
-use Rattle.unscramble.specs.Reading.{maskOf, forcedAt}
+use Rattle.unscramble.specs.Reading.{maskOf, highAt, forcedAt}
 use Rattle.unscramble.proofs.Loops.{mask-none, mask-turn, mask-done, mask-fits}
 use borrow.Author.Needs.{needs}
-use Rattle.unscramble.proofs.forced.forced.Statement.{statement}
-use Rattle.unscramble.proofs.forced.forced.Tie as tie
+use Rattle.unscramble.proofs.forced.mask.Statement.{statement}
+use Rattle.unscramble.proofs.forced.mask.Tie as tie
 
 abbrev Inv-loop : tie.InvT-loop
-Inv-loop s n mask₀ p₀ mask p = (p ≤ n) × (mask ≡ maskOf p (forcedAt s))
+Inv-loop s low-too n mask₀ p₀ mask p = (p ≤ n) × (mask ≡ maskOf p (λ q. cond low-too (forcedAt s q) (highAt s q)))
 
 abbrev μ-loop : tie.MeasureT-loop
-μ-loop s n mask₀ p₀ mask p = n - p
+μ-loop s low-too n mask₀ p₀ mask p = n - p
 
 loop-holds : tie.Need-loop-holds Inv-loop μ-loop
 loop-holds c = (omega arith, mask-none _)
 
 -- the bit that a turn adds
-bit : (c : tie.After-bit-if Inv-loop μ-loop) → c .bit-if .result ≡ cond (forcedAt (c .before .before .before .before .before .args .s) (c .before .before .before .loop .p)) (2 ^ (c .before .before .before .loop .p)) 0
-bit c = c .bit-if .ensures ∙ ap (λ (b : Bool). cond b (2 ^ (c .before .before .before .loop .p)) 0) (c .before .forced-at .ensures)
+module _ (c : tie.After-bit-if Inv-loop μ-loop) where
+  abbrev start : tie.Start Inv-loop μ-loop
+  start = c .before .before .before .before .before
+
+  abbrev at : ℕ
+  at = c .before .before .before .loop .p
+
+  bit : c .bit-if .result ≡ cond (cond (start .args .low-too) (forcedAt (start .args .s) at) (highAt (start .args .s) at)) (2 ^ at) 0
+  bit = c .bit-if .ensures ∙ ap (λ (b : Bool). cond b (2 ^ at) 0) (c .before .forces .ensures)
 
 add-mask : tie.Need-add-mask Inv-loop μ-loop
 add-mask c = omega (arith, mask-fits _ _ _ _ (c .before .before .before .loop .inv .1) (bit c) (omega (arith, c .before .before .before .before .before .pre)))
@@ -31,8 +38,8 @@ loop-again c = (omega arith, mask-turn _ _ _ _ (c .before .before .before .loop 
 returns : tie.Need-returns Inv-loop μ-loop
 returns c = mask-done _ _ _ _ (omega arith) (c .before .loop .inv .1)
 
-pub forced-spec : {M : Type 1} → statement M
-forced-spec =
+pub mask-spec : {M : Type 1} → statement M
+mask-spec =
     tie.close
     (tie.spec
     Inv-loop
