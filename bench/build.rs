@@ -21,6 +21,8 @@ fn main() {
     keep(&root, &out);
     println!("cargo:rustc-link-search=native={}", out.display());
     println!("cargo:rustc-link-lib=static={LIBRARY}");
+    // The tests link the example in C with it.
+    println!("cargo:rustc-env=ONEROM_FOLDER={}", out.display());
 }
 
 /// Where crates.txt stands: the repository around this package, if nothing else is said.

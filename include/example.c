@@ -1,9 +1,4 @@
-/*
- * A slot through the four calls: a chip of 256 bytes on a 24-pin board is laid out, its table is built and read back.
- *
- *     rt staticlib onerom
- *     cc -Iinclude include/example.c target/staticlib/libonerom.a -o example && ./example
- */
+/* A slot through the four calls: a chip of 256 bytes on a 24-pin board is laid out, its table is built and read back. */
 #include "onerom.h"
 
 #include <inttypes.h>
@@ -12,33 +7,41 @@
 
 enum { LINES = 8, BYTES = 1 << LINES };
 
+/* Where the candidates of a socket pin stand. */
+static uint8_t *socket_pin(uint8_t *description, int pin)
+{
+    return description + ONEROM_DESCRIPTION_SOCKET + 2 * (pin - 1);
+}
+
 /* Socket pins 1 to 8 are the address lines, on GPIOs 0 to 7; 9 to 16 the data lines, on 16 to 23; 20 is cs1, on 8. */
 static void describe(uint8_t d[ONEROM_DESCRIPTION_SIZE])
 {
-    uint8_t *chip = d + 136;
+    uint8_t *chip = d + ONEROM_DESCRIPTION_CHIPS;
     int k;
 
     memset(d, 0, ONEROM_DESCRIPTION_SIZE);
-    d[0] = 24;                                     /* pins of the socket */
-    d[3] = 1;                                      /* word bytes */
-    d[5] = 1;                                      /* chips */
-    d[9] = 1;                                      /* largest table: 256 bytes */
-    memset(d + 17, ONEROM_GPIO_NONE, 6);           /* settings that are not given */
-    d[19] = 0;                                     /* cs1 is active low */
-    memset(d + 52, ONEROM_GPIO_NONE, 2 * 42);      /* no candidates yet */
-    chip[1] = 1;                                   /* size: 256 bytes */
-    chip[4] = LINES;
-    chip[5] = 8;                                   /* data pins */
-    chip[6] = 1;                                   /* control lines */
+    d[ONEROM_DESCRIPTION_BOARD_PINS] = 24;
+    d[ONEROM_DESCRIPTION_SET_TYPE] = ONEROM_SET_SINGLE;
+    d[ONEROM_DESCRIPTION_WORD_BYTES] = 1;
+    d[ONEROM_DESCRIPTION_CHIP_COUNT] = 1;
+    d[ONEROM_DESCRIPTION_LARGEST_TABLE + 1] = 1;   /* 256 bytes, low byte first */
+    d[ONEROM_DESCRIPTION_FORM] = ONEROM_FORM_CHIP_SELECTS;
+    memset(d + ONEROM_DESCRIPTION_CE_SETTING, ONEROM_NOT_GIVEN, 6);
+    d[ONEROM_DESCRIPTION_CS1_SETTING] = ONEROM_ACTIVE_LOW;
+    memset(d + ONEROM_DESCRIPTION_SOCKET, ONEROM_GPIO_NONE, 2 * 42);
+    chip[ONEROM_CHIP_BYTES + 1] = 1;               /* 256 bytes */
+    chip[ONEROM_CHIP_ADDRESS_COUNT] = LINES;
+    chip[ONEROM_CHIP_DATA_COUNT] = 8;
+    chip[ONEROM_CHIP_CONTROL_COUNT] = 1;
     for (k = 0; k < LINES; k++) {
-        chip[8 + k] = (uint8_t)(1 + k);            /* address pin */
-        chip[32 + k] = (uint8_t)(9 + k);           /* data pin */
-        d[52 + 2 * k] = (uint8_t)k;                /* GPIO of socket pin 1 + k */
-        d[52 + 2 * (8 + k)] = (uint8_t)(16 + k);   /* GPIO of socket pin 9 + k */
+        chip[ONEROM_CHIP_ADDRESS + k] = (uint8_t)(1 + k);
+        chip[ONEROM_CHIP_DATA + k] = (uint8_t)(9 + k);
+        *socket_pin(d, 1 + k) = (uint8_t)k;
+        *socket_pin(d, 9 + k) = (uint8_t)(16 + k);
     }
-    chip[48] = 2;                                  /* kind cs1 */
-    chip[49] = 20;
-    d[52 + 2 * 19] = 8;
+    chip[ONEROM_CHIP_CONTROL] = ONEROM_KIND_CS1;
+    chip[ONEROM_CHIP_CONTROL + 1] = 20;
+    *socket_pin(d, 20) = 8;
 }
 
 static int refused(const char *call, uint64_t result)
@@ -58,12 +61,12 @@ int main(void)
     describe(description);
     if (refused("address search", onerom_derive_addr_layout(description, sizeof description, layout, sizeof layout)))
         return 1;
-    printf("address lines on %u GPIOs from GPIO %u\n", layout[1], layout[0]);
+    printf("address lines on %u GPIOs from GPIO %u\n", layout[ONEROM_ADDR_LAYOUT_PINS], layout[ONEROM_ADDR_LAYOUT_BASE]);
 
     for (k = 0; k < BYTES; k++)
         rom[k] = (uint8_t)(37 * k);
-    spans[0] = 1;                                  /* chip 0 has bytes, from 0 on */
-    spans[9] = 1;                                  /* 256 of them */
+    spans[ONEROM_IMAGE_SPAN_GIVEN] = 1;            /* chip 0 has bytes, from 0 on */
+    spans[ONEROM_IMAGE_SPAN_LENGTH + 1] = 1;       /* 256 of them */
     if (refused("round trip", onerom_round_trip(description, sizeof description, spans, sizeof spans, rom, sizeof rom, table,
                                                 sizeof table, output, sizeof output, marks, sizeof marks)))
         return 1;

@@ -1,7 +1,6 @@
 //! The bytes of records.
 
-/// A record's word for no GPIO, for no index, and for a setting that nobody gave.
-pub const NONE: u8 = 255;
+use crate::interface::values::GPIO_NONE;
 
 /// A list's length, cut at 255.
 pub fn count<T>(list: &[T]) -> u8 {
@@ -18,5 +17,9 @@ pub fn put(places: &mut [u8], bytes: impl IntoIterator<Item = u8>) {
 /// 255 would read as no GPIO. As a GPIO it has to be refused, and so it goes as another number
 /// that is none.
 pub fn gpio(gpio: u8) -> u8 {
-    if gpio == NONE { NONE - 1 } else { gpio }
+    if gpio == GPIO_NONE {
+        GPIO_NONE - 1
+    } else {
+        gpio
+    }
 }

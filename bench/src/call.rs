@@ -1,71 +1,17 @@
 //! The calls over the C interface.
 
 use crate::images;
+use crate::interface::{
+    addr_layout as layout_at, description as described, onerom_build_rom_image,
+    onerom_derive_addr_layout, onerom_derive_cs_data_layout, onerom_round_trip,
+    onerom_unscramble_slot,
+};
 use crate::layout::addr::{self, AddrLayout};
 use crate::layout::cs_data::{self, CsDataLayout};
 use crate::refusal::{Call, Refusal};
 
 /// No description allows a larger table.
 pub const LARGEST_TABLE: usize = 1 << 20;
-
-unsafe extern "C" {
-    fn onerom_derive_addr_layout(
-        description: *const u8,
-        description_len: usize,
-        layout: *mut u8,
-        layout_len: usize,
-    ) -> u64;
-
-    fn onerom_derive_cs_data_layout(
-        description: *const u8,
-        description_len: usize,
-        addr_layout: *const u8,
-        addr_layout_len: usize,
-        layout: *mut u8,
-        layout_len: usize,
-    ) -> u64;
-
-    fn onerom_build_rom_image(
-        description: *const u8,
-        description_len: usize,
-        addr_layout: *const u8,
-        addr_layout_len: usize,
-        cs_data_layout: *const u8,
-        cs_data_layout_len: usize,
-        spans: *const u8,
-        spans_len: usize,
-        images: *const u8,
-        images_len: usize,
-        table: *mut u8,
-        table_len: usize,
-    ) -> u64;
-
-    fn onerom_unscramble_slot(
-        slot: *const u8,
-        slot_len: usize,
-        stored: *const u8,
-        stored_len: usize,
-        output: *mut u8,
-        output_len: usize,
-        marks: *mut u8,
-        marks_len: usize,
-    ) -> u64;
-
-    fn onerom_round_trip(
-        description: *const u8,
-        description_len: usize,
-        spans: *const u8,
-        spans_len: usize,
-        images: *const u8,
-        images_len: usize,
-        table: *mut u8,
-        table_len: usize,
-        output: *mut u8,
-        output_len: usize,
-        marks: *mut u8,
-        marks_len: usize,
-    ) -> u64;
-}
 
 /// The address search as the library makes it: 0 and the layout record in the lent buffer, or a
 /// refusal's number times 2^48 plus its place and the buffer as it was.
@@ -183,7 +129,8 @@ pub fn build_rom_image(
 /// How long the table is that these records ask for; 0 where no limit allows it, since such a table
 /// is refused before the buffer is looked at.
 pub fn table_length(description: &[u8], addr_layout: &[u8]) -> usize {
-    let (Some(&word_bytes), Some(&pins)) = (description.get(3), addr_layout.get(1)) else {
+    let word_bytes = description.get(described::WORD_BYTES);
+    let (Some(&word_bytes), Some(&pins)) = (word_bytes, addr_layout.get(layout_at::PINS)) else {
         return 0;
     };
     let length = addr::table_bytes(pins, word_bytes);

@@ -2,12 +2,13 @@
 
 use crate::bytes::put;
 use crate::description::MOST_CHIPS;
+use crate::interface::{image_span as at, image_spans};
 
 /// Bytes of the image spans record.
-pub const LENGTH: usize = 48;
+pub const LENGTH: usize = image_spans::SIZE;
 
 /// Bytes of the record for one chip.
-pub const SPAN: usize = 12;
+pub const SPAN: usize = at::SIZE;
 
 /// No chip has more bytes.
 pub const LARGEST_CHIP: usize = 1 << 24;
@@ -15,18 +16,21 @@ pub const LARGEST_CHIP: usize = 1 << 24;
 /// Where a chip's bytes stand in the slice.
 #[derive(Debug, Clone, Copy, PartialEq, Eq)]
 pub struct Span {
-    /// Whether the chip has bytes.
+    /// Whether the chip has bytes; if not, the other two count for nothing.
     pub present: bool,
+    /// Place of its first byte in the slice.
     pub start: u32,
+    /// How many bytes it has; those past the slice's end are none.
     pub length: u32,
 }
 
 impl Span {
+    /// The chip's part of the record.
     pub fn to_bytes(self) -> [u8; SPAN] {
         let mut bytes = [0; SPAN];
-        bytes[0] = u8::from(self.present);
-        put(&mut bytes[4..8], self.start.to_le_bytes());
-        put(&mut bytes[8..12], self.length.to_le_bytes());
+        bytes[at::GIVEN] = u8::from(self.present);
+        put(&mut bytes[at::START], self.start.to_le_bytes());
+        put(&mut bytes[at::LENGTH], self.length.to_le_bytes());
         bytes
     }
 }

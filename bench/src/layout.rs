@@ -3,9 +3,7 @@
 pub mod addr;
 pub mod cs_data;
 
-use crate::bytes::NONE;
-
-/// A GPIO or an index of a record, if one is there.
-fn given(byte: u8) -> Option<u8> {
-    (byte != NONE).then_some(byte)
+/// A GPIO or an index of a record, if it is not the byte for none.
+fn given(byte: u8, none: u8) -> Option<u8> {
+    (byte != none).then_some(byte)
 }

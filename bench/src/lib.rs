@@ -5,10 +5,13 @@
 //! Nothing here judges a description or a slot: whatever is handed in goes to the library, which
 //! answers with a layout, a table, the ROMs' bytes or a numbered refusal.
 
+#![warn(missing_docs)]
+
 mod bytes;
 mod call;
 pub mod description;
 pub mod images;
+pub mod interface;
 pub mod layout;
 mod read_back;
 pub mod refusal;

@@ -5,9 +5,13 @@ use std::fmt;
 /// A call of the library.
 #[derive(Debug, Clone, Copy, PartialEq, Eq)]
 pub enum Call {
+    /// `derive_addr_layout`.
     Address,
+    /// `derive_cs_data_layout`.
     Select,
+    /// `build_rom_image`.
     Build,
+    /// `unscramble_slot`.
     ReadBack,
     /// The four above in turn.
     RoundTrip,
@@ -30,8 +34,11 @@ impl fmt::Display for Call {
 pub struct Refusal {
     /// Who refused: a number can mean one thing in one search and another in the other.
     pub call: Call,
+    /// As docs/INTERFACE.md lists them; `interface::refusals` has a name for each.
     pub number: u16,
+    /// The refusal's name in that list.
     pub name: &'static str,
+    /// The pin, GPIO, chip or word that it is about, as `place_words` says it; 0 where there is none.
     pub place: u64,
 }
 
@@ -69,7 +76,7 @@ const ROWS: [Row; 25] = [
     row(
         "OutOfDomain",
         Place::Nothing,
-        "a number is outside what any board or chip can have",
+        "a record of another length, or a number in it that no board or chip can have",
     ),
     row(
         "NoSelectLine",

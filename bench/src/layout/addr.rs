@@ -1,15 +1,15 @@
 //! The address layout and its record.
 
 use super::given;
-use crate::bytes::{NONE, count, gpio, put};
+use crate::bytes::{count, gpio, put};
+use crate::interface::addr_layout as at;
+use crate::interface::values::GPIO_NONE;
 
 /// Bytes of the address layout record.
-pub const LENGTH: usize = 36;
+pub const LENGTH: usize = at::SIZE;
 
-const GPIOS: usize = 8;
-
-/// How many lines the record has places for.
-pub const MOST_LINES: usize = 24;
+/// How many lines the record has places for, excess lines among them.
+pub const MOST_LINES: usize = at::LINES.end - at::LINES.start;
 
 /// Which GPIOs the address PIO reads, and which line each serves.
 #[derive(Debug, Clone, PartialEq, Eq)]
@@ -18,8 +18,9 @@ pub struct AddrLayout {
     pub base: u8,
     /// How many GPIOs are read: the bits of the table's index.
     pub pins: u8,
-    /// The X pins that pick a bank or a chip.
+    /// The GPIO of X1, where it picks a bank or a chip.
     pub x1: Option<u8>,
+    /// The GPIO of X2, where it picks a bank or a chip.
     pub x2: Option<u8>,
     /// GPIOs of the address lines in use, lowest line first.
     pub lines: Vec<u8>,
@@ -28,31 +29,33 @@ pub struct AddrLayout {
 }
 
 impl AddrLayout {
+    /// The layout that a record has. Counts past the record's places are cut.
     pub fn read(record: &[u8; LENGTH]) -> Self {
-        let (used, excess) = (usize::from(record[4]), usize::from(record[5]));
-        let gpios = &record[GPIOS..GPIOS + MOST_LINES];
+        let used = usize::from(record[at::LINE_COUNT]);
+        let excess = usize::from(record[at::EXCESS_COUNT]);
+        let gpios = &record[at::LINES];
         Self {
-            base: record[0],
-            pins: record[1],
-            x1: given(record[2]),
-            x2: given(record[3]),
+            base: record[at::BASE],
+            pins: record[at::PINS],
+            x1: given(record[at::X1], GPIO_NONE),
+            x2: given(record[at::X2], GPIO_NONE),
             lines: gpios.iter().copied().take(used).collect(),
             excess: gpios.iter().copied().skip(used).take(excess).collect(),
         }
     }
 
-    /// The record, to be handed on to the select search and the build. Lists that are too long for its places
-    /// keep their counts, cut at 255, so that the library refuses them.
+    /// The record, to be handed on to the select search and the build. Lists that are too long for
+    /// its places keep their counts, cut at 255, so that the library refuses them.
     pub fn to_bytes(&self) -> [u8; LENGTH] {
         let mut record = [0; LENGTH];
-        record[0] = self.base;
-        record[1] = self.pins;
-        record[2] = self.x1.map_or(NONE, gpio);
-        record[3] = self.x2.map_or(NONE, gpio);
-        record[4] = count(&self.lines);
-        record[5] = count(&self.excess);
+        record[at::BASE] = self.base;
+        record[at::PINS] = self.pins;
+        record[at::X1] = self.x1.map_or(GPIO_NONE, gpio);
+        record[at::X2] = self.x2.map_or(GPIO_NONE, gpio);
+        record[at::LINE_COUNT] = count(&self.lines);
+        record[at::EXCESS_COUNT] = count(&self.excess);
         let gpios = self.lines.iter().chain(&self.excess).copied();
-        put(&mut record[GPIOS..GPIOS + MOST_LINES], gpios);
+        put(&mut record[at::LINES], gpios);
         record
     }
 

@@ -3,25 +3,31 @@
 use std::fmt;
 
 use super::given;
-use crate::bytes::{NONE, count, put};
+use crate::bytes::{count, put};
+use crate::interface::cs_data_layout as at;
+use crate::interface::values::{self, NO_IGNORE_INDEX};
 
 /// Bytes of the select layout record.
-pub const LENGTH: usize = 100;
-
-const DATA: usize = 12;
-const SELECT: usize = 28;
-const COMMONED: usize = 88;
+pub const LENGTH: usize = at::SIZE;
 
 /// What a select or commoned line is.
 #[derive(Debug, Clone, Copy, PartialEq, Eq)]
 pub enum Role {
+    /// Chip enable.
     Ce,
+    /// Output enable.
     Oe,
+    /// Chip select 1.
     Cs1,
+    /// Chip select 2.
     Cs2,
+    /// Chip select 3.
     Cs3,
+    /// Chip select 4.
     Cs4,
+    /// X1, which selects the second chip of a Multi set.
     X1,
+    /// X2, which selects the third chip of a Multi set.
     X2,
     /// An excess address line.
     HalfSelect,
@@ -29,55 +35,54 @@ pub enum Role {
     Unknown(u8),
 }
 
-/// Role n of the record at place n.
-const ROLES: [(Role, &str); 9] = [
-    (Role::Ce, "ce"),
-    (Role::Oe, "oe"),
-    (Role::Cs1, "cs1"),
-    (Role::Cs2, "cs2"),
-    (Role::Cs3, "cs3"),
-    (Role::Cs4, "cs4"),
-    (Role::X1, "X1"),
-    (Role::X2, "X2"),
-    (Role::HalfSelect, "half select"),
+/// Each role with its number in the record and its name.
+const ROLES: [(Role, u8, &str); 9] = [
+    (Role::Ce, values::ROLE_CE, "ce"),
+    (Role::Oe, values::ROLE_OE, "oe"),
+    (Role::Cs1, values::ROLE_CS1, "cs1"),
+    (Role::Cs2, values::ROLE_CS2, "cs2"),
+    (Role::Cs3, values::ROLE_CS3, "cs3"),
+    (Role::Cs4, values::ROLE_CS4, "cs4"),
+    (Role::X1, values::ROLE_X1, "X1"),
+    (Role::X2, values::ROLE_X2, "X2"),
+    (Role::HalfSelect, values::ROLE_HALF_SELECT, "half select"),
 ];
 
 impl Role {
     /// The role that has this number in the record.
     pub fn of(number: u8) -> Self {
-        let row = ROLES.get(usize::from(number));
-        row.map_or(Self::Unknown(number), |&(role, _)| role)
+        let row = ROLES.iter().find(|row| row.1 == number);
+        row.map_or(Self::Unknown(number), |row| row.0)
     }
 
     /// Its number in the record.
     pub fn number(self) -> u8 {
         match self {
-            Self::Ce => 0,
-            Self::Oe => 1,
-            Self::Cs1 => 2,
-            Self::Cs2 => 3,
-            Self::Cs3 => 4,
-            Self::Cs4 => 5,
-            Self::X1 => 6,
-            Self::X2 => 7,
-            Self::HalfSelect => 8,
             Self::Unknown(number) => number,
+            known => known.row().map_or(u8::MAX, |row| row.1),
         }
+    }
+
+    fn row(self) -> Option<&'static (Self, u8, &'static str)> {
+        ROLES.iter().find(|row| row.0 == self)
     }
 }
 
 impl fmt::Display for Role {
     fn fmt(&self, f: &mut fmt::Formatter<'_>) -> fmt::Result {
-        match ROLES.get(usize::from(self.number())) {
-            Some((_, name)) => f.write_str(name),
+        match self.row() {
+            Some((_, _, name)) => f.write_str(name),
             None => write!(f, "role {}", self.number()),
         }
     }
 }
 
+/// A select or commoned line.
 #[derive(Debug, Clone, Copy, PartialEq, Eq)]
 pub struct Line {
+    /// Which line it is.
     pub role: Role,
+    /// The GPIO that serves it.
     pub gpio: u8,
 }
 
@@ -108,6 +113,7 @@ pub struct CsDataLayout {
     pub cs_pins: u8,
     /// Which of them is no select line, from 0.
     pub ignore_index: Option<u8>,
+    /// The address lines that qualify the select, if the description names some.
     pub qualifiers: Option<Qualifiers>,
     /// The lines that select, excess address lines last.
     pub select: Vec<Line>,
@@ -116,22 +122,23 @@ pub struct CsDataLayout {
 }
 
 impl CsDataLayout {
+    /// The layout that a record has. Counts past the record's places are cut.
     pub fn read(record: &[u8; LENGTH]) -> Self {
-        let data = record[DATA..SELECT].iter().copied();
+        let data = record[at::DATA].iter().copied();
         Self {
-            base: record[0],
-            base_data_pin: record[1],
-            data: data.take(usize::from(record[2])).collect(),
-            base_cs_pin: record[3],
-            cs_pins: record[4],
-            ignore_index: given(record[5]),
-            qualifiers: (record[8] != 0).then_some(Qualifiers {
-                base_pin: record[9],
-                pins: record[10],
-                pattern: record[11],
+            base: record[at::BASE],
+            base_data_pin: record[at::BASE_DATA_PIN],
+            data: data.take(usize::from(record[at::DATA_COUNT])).collect(),
+            base_cs_pin: record[at::BASE_CS_PIN],
+            cs_pins: record[at::CS_PINS],
+            ignore_index: given(record[at::IGNORE_INDEX], NO_IGNORE_INDEX),
+            qualifiers: (record[at::QUALIFIED] != 0).then_some(Qualifiers {
+                base_pin: record[at::BASE_QUALIFIER_PIN],
+                pins: record[at::QUALIFIER_PINS],
+                pattern: record[at::QUALIFIER_PATTERN],
             }),
-            select: lines(&record[SELECT..COMMONED], record[6]),
-            commoned: lines(&record[COMMONED..], record[7]),
+            select: lines(&record[at::SELECT], record[at::SELECT_COUNT]),
+            commoned: lines(&record[at::COMMONED], record[at::COMMONED_COUNT]),
         }
     }
 
@@ -139,21 +146,23 @@ impl CsDataLayout {
     /// counts, cut at 255, so that the library refuses them.
     pub fn to_bytes(&self) -> [u8; LENGTH] {
         let mut record = [0; LENGTH];
-        record[0] = self.base;
-        record[1] = self.base_data_pin;
-        record[2] = count(&self.data);
-        record[3] = self.base_cs_pin;
-        record[4] = self.cs_pins;
-        record[5] = self.ignore_index.unwrap_or(NONE);
-        record[6] = count(&self.select);
-        record[7] = count(&self.commoned);
+        record[at::BASE] = self.base;
+        record[at::BASE_DATA_PIN] = self.base_data_pin;
+        record[at::DATA_COUNT] = count(&self.data);
+        record[at::BASE_CS_PIN] = self.base_cs_pin;
+        record[at::CS_PINS] = self.cs_pins;
+        record[at::IGNORE_INDEX] = self.ignore_index.unwrap_or(NO_IGNORE_INDEX);
+        record[at::SELECT_COUNT] = count(&self.select);
+        record[at::COMMONED_COUNT] = count(&self.commoned);
         if let Some(given) = self.qualifiers {
-            let numbers = [1, given.base_pin, given.pins, given.pattern];
-            put(&mut record[8..12], numbers);
+            record[at::QUALIFIED] = 1;
+            record[at::BASE_QUALIFIER_PIN] = given.base_pin;
+            record[at::QUALIFIER_PINS] = given.pins;
+            record[at::QUALIFIER_PATTERN] = given.pattern;
         }
-        put(&mut record[DATA..SELECT], self.data.iter().copied());
-        put(&mut record[SELECT..COMMONED], pairs(&self.select));
-        put(&mut record[COMMONED..], pairs(&self.commoned));
+        put(&mut record[at::DATA], self.data.iter().copied());
+        put(&mut record[at::SELECT], pairs(&self.select));
+        put(&mut record[at::COMMONED], pairs(&self.commoned));
         record
     }
 

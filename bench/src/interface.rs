@@ -1,0 +1,487 @@
+//! The numbers and calls of docs/INTERFACE.md. Rendered from that page: edit it, and see README.md.
+
+/// Numbers of the refusals.
+pub mod refusals {
+    /// A record of another length, or a number in it that no board or chip can have.
+    pub const OUT_OF_DOMAIN: u16 = 1;
+    /// No line selects the chip, or a line of the Multi set is not on it.
+    pub const NO_SELECT_LINE: u16 = 2;
+    /// A needed pin has no GPIO. Place: the pin: socket pin in the address search, chip pin in the
+    /// select search.
+    pub const UNMAPPED_PIN: u16 = 3;
+    /// A needed X pin has no GPIO. Place: 1 or 2, for X1 or X2.
+    pub const MISSING_X_PIN: u16 = 4;
+    /// Qualifiers are given without an address layout.
+    pub const MISSING_ADDR_PIN_GPIOS: u16 = 5;
+    /// Excess address lines need cs1, which is ignored.
+    pub const ROM_TOO_LARGE_NO_CS_CONFIG: u16 = 6;
+    /// The select GPIOs leave a gap that cannot be served. Place: the set of GPIOs, bit g for GPIO
+    /// g.
+    pub const NON_CONTIGUOUS_SELECT: u16 = 7;
+    /// An ignored line lies between the select lines. Place: its GPIO.
+    pub const INTERIOR_IGNORED_LINE: u16 = 8;
+    /// No choice of GPIOs fits one PIO window.
+    pub const NO_VALID_LAYOUT: u16 = 9;
+    /// The chip does not go into this socket.
+    pub const INCOMPATIBLE_PIN_COUNT: u16 = 10;
+    /// The table is larger than the limit.
+    pub const ROM_TABLE_TOO_LARGE: u16 = 11;
+    /// The set type does not take this number of chips.
+    pub const INVALID_CONFIG: u16 = 12;
+    /// A line's position is not 0 to 31, or a needed X pin or select line is absent.
+    pub const BAD_POSITION: u16 = 13;
+    /// A chip has no bytes. Place: the chip, from 0.
+    pub const MISSING_IMAGE_DATA: u16 = 14;
+    /// A chip has fewer bytes than its size. Place: the chip, from 0.
+    pub const SHORT_IMAGE_DATA: u16 = 15;
+    /// A lent buffer is too short.
+    pub const SHORT_BUFFER: u16 = 16;
+    /// The data's length is not the declared size.
+    pub const WRONG_SIZE: u16 = 17;
+    /// The slot's kind is unknown.
+    pub const UNKNOWN_SLOT_TYPE: u16 = 18;
+    /// There is no layout, or a ROM has no pin map.
+    pub const MISSING_LAYOUT: u16 = 19;
+    /// An algorithm or bit mode is unknown.
+    pub const UNKNOWN_ALGORITHM: u16 = 20;
+    /// The layout contradicts itself.
+    pub const BAD_LAYOUT: u16 = 21;
+    /// Not exactly one GPIO of an X pin is in the table's window. Place: 1 or 2, for X1 or X2.
+    pub const X_PIN: u16 = 22;
+    /// Two entries give different values for one word. Place: ROM * 2^32 + address, the address
+    /// counting words.
+    pub const INCONSISTENT: u16 = 23;
+    /// No entry gives a word. Place: ROM * 2^32 + address, the address counting words.
+    pub const UNSERVED: u16 = 24;
+    /// The Multi set has no active line.
+    pub const NO_ACTIVE_LINE: u16 = 25;
+}
+
+/// What single bytes of the records say.
+pub mod values {
+    /// A byte that names no GPIO.
+    pub const GPIO_NONE: u8 = 255;
+    /// A setting that is not given, or that its form does not use.
+    pub const NOT_GIVEN: u8 = 255;
+    /// A select layout without an ignore index.
+    pub const NO_IGNORE_INDEX: u8 = 255;
+    /// One chip.
+    pub const SET_SINGLE: u8 = 0;
+    /// 2 to 4 chips, picked by X1 and X2 as the bits of a bank.
+    pub const SET_BANKED: u8 = 1;
+    /// 2 or 3 chips, each with a select line of its own.
+    pub const SET_MULTI: u8 = 2;
+    /// Settings of cs1 to cs4.
+    pub const FORM_CHIP_SELECTS: u8 = 0;
+    /// Ce and oe, both active low.
+    pub const FORM_CE_OE: u8 = 1;
+    /// Settings of ce and oe.
+    pub const FORM_EXPLICIT: u8 = 2;
+    /// Asserted when low.
+    pub const ACTIVE_LOW: u8 = 0;
+    /// Asserted when high.
+    pub const ACTIVE_HIGH: u8 = 1;
+    /// No select line.
+    pub const IGNORED: u8 = 2;
+    /// Chip enable.
+    pub const KIND_CE: u8 = 0;
+    /// Output enable.
+    pub const KIND_OE: u8 = 1;
+    /// Chip select 1.
+    pub const KIND_CS1: u8 = 2;
+    /// Chip select 2.
+    pub const KIND_CS2: u8 = 3;
+    /// Chip select 3.
+    pub const KIND_CS3: u8 = 4;
+    /// Chip select 4.
+    pub const KIND_CS4: u8 = 5;
+    /// Any other, never a select.
+    pub const KIND_OTHER: u8 = 6;
+    /// Chip enable.
+    pub const ROLE_CE: u8 = 0;
+    /// Output enable.
+    pub const ROLE_OE: u8 = 1;
+    /// Chip select 1.
+    pub const ROLE_CS1: u8 = 2;
+    /// Chip select 2.
+    pub const ROLE_CS2: u8 = 3;
+    /// Chip select 3.
+    pub const ROLE_CS3: u8 = 4;
+    /// Chip select 4.
+    pub const ROLE_CS4: u8 = 5;
+    /// X1, the second chip's select.
+    pub const ROLE_X1: u8 = 6;
+    /// X2, the third chip's select.
+    pub const ROLE_X2: u8 = 7;
+    /// An excess address line.
+    pub const ROLE_HALF_SELECT: u8 = 8;
+    /// A table of one ROM.
+    pub const SLOT_SINGLE_ROM: u8 = 0;
+    /// Read as a Single ROM.
+    pub const SLOT_SINGLE_RAM: u8 = 1;
+    /// A table of 2 to 4 ROMs.
+    pub const SLOT_BANKED: u8 = 2;
+    /// A table of 2 or 3 ROMs.
+    pub const SLOT_MULTI: u8 = 3;
+    /// Bytes that are copied as they are.
+    pub const SLOT_SYSTEM_PLUGIN: u8 = 4;
+    /// Bytes that are copied as they are.
+    pub const SLOT_USER_PLUGIN: u8 = 5;
+    /// Bytes that are copied as they are.
+    pub const SLOT_PIO_PLUGIN: u8 = 6;
+    /// Words of one byte.
+    pub const BIT_MODE_8: u8 = 0;
+    /// Words of two bytes.
+    pub const BIT_MODE_16: u8 = 1;
+    /// The GPIO as it is.
+    pub const OVERRIDE_NORMAL: u8 = 0;
+    /// Inverted; counts for nothing in a read-back.
+    pub const OVERRIDE_INVERT: u8 = 1;
+    /// Forced low.
+    pub const OVERRIDE_LOW: u8 = 2;
+    /// Forced high, which beats low.
+    pub const OVERRIDE_HIGH: u8 = 3;
+}
+
+/// The description record: A board's socket, the chips of one slot on it, and which GPIOs can serve
+/// each pin. Another length is refusal 1, and so is a byte that is none of the values named here.
+/// What is outside of document 01's domain only in the whole, such as more than 16 two-candidate
+/// pins, is refusal 1 too.
+pub mod description {
+    use std::ops::Range;
+
+    /// Bytes of the record.
+    pub const SIZE: usize = 424;
+    /// Pins of the board's socket. Values: 24, 28, 32 or 40.
+    pub const BOARD_PINS: usize = 0;
+    /// Package. Values: 0 (kept for the package's name).
+    pub const PACKAGE: usize = 1;
+    /// Set type. Values: 0 Single, 1 Banked, 2 Multi.
+    pub const SET_TYPE: usize = 2;
+    /// Bytes in a word. Values: 1 or 2.
+    pub const WORD_BYTES: usize = 3;
+    /// Socket pin less chip pin. Values: 0 to 4, or 252 to 255 for -4 to -1.
+    pub const PIN_OFFSET: usize = 4;
+    /// Number of chips. Values: 1 to 4.
+    pub const CHIP_COUNT: usize = 5;
+    /// Number of qualifiers. Values: 0 for no list, or 1 to 8.
+    pub const QUALIFIER_COUNT: usize = 6;
+    /// Multi configuration present; if not, its places count for nothing. Values: 0 no, 1 yes; in a
+    /// Multi set yes.
+    pub const MULTI_GIVEN: usize = 7;
+    /// 4 bytes: largest table in bytes. Values: 256 to 2^20.
+    pub const LARGEST_TABLE: Range<usize> = 8..12;
+    /// 4 bytes: marks of inverted address lines, a bit a line. Values: 0 (kept).
+    pub const INVERTED: Range<usize> = 12..16;
+    /// Form of chip 0's select settings. Values: 0 chip selects, 1 ce and oe, 2 explicit ce and oe.
+    pub const FORM: usize = 16;
+    /// Setting of ce. Values: form 2: 0 active low, 1 active high, 2 ignored; other forms: 255.
+    pub const CE_SETTING: usize = 17;
+    /// Setting of oe. Values: as above.
+    pub const OE_SETTING: usize = 18;
+    /// Setting of cs1. Values: form 0: 0, 1, 2 as above; other forms: 255.
+    pub const CS1_SETTING: usize = 19;
+    /// 3 bytes: settings of cs2, cs3, cs4. Values: form 0: 0, 1, 2 as above, or 255 for not given;
+    /// other forms: 255.
+    pub const CS_SETTINGS: Range<usize> = 20..23;
+    /// Multi: kind of the select line. Values: 0 to 5.
+    pub const MULTI_SELECT: usize = 23;
+    /// Multi: number of commoned lines. Values: 0 to 6.
+    pub const MULTI_COMMONED_COUNT: usize = 24;
+    /// Multi: number of ignored lines. Values: 0 to 6.
+    pub const MULTI_IGNORED_COUNT: usize = 25;
+    /// 2 bytes: nothing. Values: 0 (kept).
+    pub const SPARE: Range<usize> = 26..28;
+    /// 8 bytes: Multi: kinds of the commoned lines. Values: 0 to 5.
+    pub const MULTI_COMMONED: Range<usize> = 28..36;
+    /// 8 bytes: Multi: kinds of the ignored lines. Values: 0 to 5.
+    pub const MULTI_IGNORED: Range<usize> = 36..44;
+    /// 8 bytes: qualifiers: indices of address lines in use. Values: below the lines in use.
+    pub const QUALIFIERS: Range<usize> = 44..52;
+    /// 80 bytes: candidates of socket pins 1 to 40, two bytes a pin. Values: 255 255 none; g 255
+    /// one; g h two; GPIOs 0 to 47 that differ.
+    pub const SOCKET: Range<usize> = 52..132;
+    /// 2 bytes: candidates of X1. Values: as above.
+    pub const X1: Range<usize> = 132..134;
+    /// 2 bytes: candidates of X2. Values: as above.
+    pub const X2: Range<usize> = 134..136;
+    /// 288 bytes: chips 0 to 3, 72 bytes a chip. Values: a chip record each.
+    pub const CHIPS: Range<usize> = 136..424;
+}
+
+/// The chip record: A chip of a description, at place 136 + 72 * n for chip n.
+pub mod chip {
+    use std::ops::Range;
+
+    /// Bytes of the record.
+    pub const SIZE: usize = 72;
+    /// 4 bytes: size in bytes. Values: 0 to 2^24.
+    pub const BYTES: Range<usize> = 0..4;
+    /// Number of address pins. Values: 1 to 24, in 16-bit mode 2 to 24.
+    pub const ADDRESS_COUNT: usize = 4;
+    /// Number of data pins. Values: 1 to 16.
+    pub const DATA_COUNT: usize = 5;
+    /// Number of control lines. Values: 0 to 8.
+    pub const CONTROL_COUNT: usize = 6;
+    /// Nothing. Values: 0 (kept).
+    pub const SPARE: usize = 7;
+    /// 24 bytes: address pins, lowest line first; in 16-bit mode the first is not used. Values: 1
+    /// to 40.
+    pub const ADDRESS: Range<usize> = 8..32;
+    /// 16 bytes: data pins, lowest line first. Values: 1 to 40.
+    pub const DATA: Range<usize> = 32..48;
+    /// 24 bytes: control lines, three bytes a line: kind, pin, fixed level. Values: kind 0 to 6,
+    /// each of 0 to 5 at most once; pin 1 to 40; level: 0 (kept for the fixed level).
+    pub const CONTROL: Range<usize> = 48..72;
+}
+
+/// The address layout record: Which GPIOs the address PIO reads. A line is an address line of chip
+/// 0; in 16-bit mode the first of them is at address pin 1. A record that is handed in has just
+/// this length, and 0 at the places kept; anything else is refusal 1.
+pub mod addr_layout {
+    use std::ops::Range;
+
+    /// Bytes of the record.
+    pub const SIZE: usize = 36;
+    /// Lowest GPIO of the window, bit 0 of the table's index. Values: 0 to 47.
+    pub const BASE: usize = 0;
+    /// Number of GPIOs that the address PIO reads, the bits of the table's index. Values: 0 to 48.
+    pub const PINS: usize = 1;
+    /// GPIO of X1 where it picks a bank or a chip. Values: 0 to 47, or 255 for none.
+    pub const X1: usize = 2;
+    /// GPIO of X2 where it picks a bank or a chip. Values: 0 to 47, or 255 for none.
+    pub const X2: usize = 3;
+    /// Number of lines in use. Values: 0 to 24, with the excess lines.
+    pub const LINE_COUNT: usize = 4;
+    /// Number of excess lines. Values: 0 to 24, with the lines in use.
+    pub const EXCESS_COUNT: usize = 5;
+    /// 2 bytes: nothing. Values: 0 (kept).
+    pub const SPARE: Range<usize> = 6..8;
+    /// 24 bytes: GPIOs of the lines in use, then of the excess lines; 0 past them where the library
+    /// writes it. Values: 0 to 47.
+    pub const LINES: Range<usize> = 8..32;
+    /// 4 bytes: marks of inverted address lines, a bit a line. Values: 0 (kept).
+    pub const INVERTED: Range<usize> = 32..36;
+}
+
+/// The select layout record: Which GPIOs select the chip and carry its data. Base pins are counted
+/// from the base. A record that is handed in has just this length, and 0 or 1 at place 8; anything
+/// else is refusal 1. The three places after it count for nothing where it is 0.
+pub mod cs_data_layout {
+    use std::ops::Range;
+
+    /// Bytes of the record.
+    pub const SIZE: usize = 100;
+    /// First GPIO of the PIO window. Values: 0 or 16 if found; 0 to 47 if handed in.
+    pub const BASE: usize = 0;
+    /// Lowest data GPIO less the base. Values: 0 to 47.
+    pub const BASE_DATA_PIN: usize = 1;
+    /// Number of data lines. Values: 1 to 16.
+    pub const DATA_COUNT: usize = 2;
+    /// Lowest GPIO of select and commoned lines less the base. Values: 0 to 47.
+    pub const BASE_CS_PIN: usize = 3;
+    /// Number of GPIOs from the lowest of these to the highest. Values: any.
+    pub const CS_PINS: usize = 4;
+    /// Which of these GPIOs is no select line, from 0. Values: 255 none.
+    pub const IGNORE_INDEX: usize = 5;
+    /// Number of select lines. Values: 0 to 30.
+    pub const SELECT_COUNT: usize = 6;
+    /// Number of commoned lines. Values: 0 to 6.
+    pub const COMMONED_COUNT: usize = 7;
+    /// Whether there are qualifiers. Values: 1 with qualifiers, else 0.
+    pub const QUALIFIED: usize = 8;
+    /// Lowest qualifier GPIO less the base. Values: 0 to 47; 0 without qualifiers.
+    pub const BASE_QUALIFIER_PIN: usize = 9;
+    /// Number of GPIOs from the lowest qualifier to the highest. Values: any; 0 without qualifiers.
+    pub const QUALIFIER_PINS: usize = 10;
+    /// A bit for each qualifier GPIO, bit 0 the lowest. Values: any; 0 without qualifiers.
+    pub const QUALIFIER_PATTERN: usize = 11;
+    /// 16 bytes: GPIOs of the data lines, lowest line first; 0 past them where the library writes
+    /// it. Values: 0 to 47.
+    pub const DATA: Range<usize> = 12..28;
+    /// 60 bytes: select lines, two bytes a line: role, GPIO; excess address lines last; 0 past them
+    /// where the library writes it. Values: role 0 to 8, GPIO 0 to 47.
+    pub const SELECT: Range<usize> = 28..88;
+    /// 12 bytes: commoned lines in the same way. Values: role 0 to 8, GPIO 0 to 47.
+    pub const COMMONED: Range<usize> = 88..100;
+}
+
+/// The image spans record: Where in the bytes that are lent for all chips each chip's stand: chips
+/// 0 to 3, an image span each. Another length is refusal 1.
+pub mod image_spans {
+    use std::ops::Range;
+
+    /// Bytes of the record.
+    pub const SIZE: usize = 48;
+    /// 48 bytes: chips 0 to 3, 12 bytes a chip. Values: an image span each.
+    pub const CHIPS: Range<usize> = 0..48;
+}
+
+/// The image span: A chip of an image spans record, at place 12 * n for chip n. A value that is not
+/// named here is refusal 1, in a chip past the number of chips too. Of a span that reaches past the
+/// end of the lent bytes the chip has the bytes that are there. Spans may overlap.
+pub mod image_span {
+    use std::ops::Range;
+
+    /// Bytes of the record.
+    pub const SIZE: usize = 12;
+    /// Whether the chip has bytes; if not, start and length count for nothing. Values: 0 no, 1 yes.
+    pub const GIVEN: usize = 0;
+    /// 3 bytes: nothing. Values: 0 (kept).
+    pub const SPARE: Range<usize> = 1..4;
+    /// 4 bytes: place of the chip's first byte in the lent bytes. Values: any.
+    pub const START: Range<usize> = 4..8;
+    /// 4 bytes: number of bytes. Values: any.
+    pub const LENGTH: Range<usize> = 8..12;
+}
+
+/// The stored slot record: A slot as it is stored, with the board's X pins. Another length is
+/// refusal 1, and so is another value than named here at place 5, at the candidates, at a count, or
+/// at the places kept of a ROM, in a ROM past the number of ROMs too.
+pub mod stored_slot {
+    use std::ops::Range;
+
+    /// Bytes of the record.
+    pub const SIZE: usize = 376;
+    /// 4 bytes: declared size in bytes. Values: any.
+    pub const BYTES: Range<usize> = 0..4;
+    /// Slot kind. Values: 0 Single ROM, 1 Single RAM, 2 Banked, 3 Multi, 4 to 6 plugin, any other:
+    /// unknown.
+    pub const KIND: usize = 4;
+    /// Layout present. Values: 0 no, 1 yes.
+    pub const LAYOUT_GIVEN: usize = 5;
+    /// Address algorithm. Values: 0, any other: unknown.
+    pub const ADDR_ALGORITHM: usize = 6;
+    /// Base of the address window. Values: any.
+    pub const ADDR_BASE: usize = 7;
+    /// First address pin, counted from that base. Values: any.
+    pub const BASE_ADDR_PIN: usize = 8;
+    /// Number of address pins. Values: any.
+    pub const ADDR_PINS: usize = 9;
+    /// Data algorithm. Values: 0 or 1, any other: unknown.
+    pub const DATA_ALGORITHM: usize = 10;
+    /// Base of the data window. Values: any.
+    pub const DATA_BASE: usize = 11;
+    /// First data pin, counted from that base. Values: any.
+    pub const BASE_DATA_PIN: usize = 12;
+    /// DMA algorithm. Values: 0, any other: unknown.
+    pub const DMA_ALGORITHM: usize = 13;
+    /// Bit mode. Values: 0 or 1, any other: unknown.
+    pub const BIT_MODE: usize = 14;
+    /// Select algorithm, looked at in Multi only. Values: 0, any other: refused there.
+    pub const CS_ALGORITHM: usize = 15;
+    /// Base of the select window, looked at in Multi only. Values: any.
+    pub const CS_BASE: usize = 16;
+    /// Pin of the first ROM's select, counted from that base. Values: any.
+    pub const FIRST_CS_PIN: usize = 17;
+    /// Number of overrides. Values: 0 to 64.
+    pub const OVERRIDE_COUNT: usize = 18;
+    /// 64 bytes: overrides, a byte each: GPIO in the low six bits, kind in the top two. Values:
+    /// any.
+    pub const OVERRIDES: Range<usize> = 19..83;
+    /// 2 bytes: candidates of X1. Values: 255 255 none; g 255 one; g h two; GPIOs 0 to 47 that
+    /// differ.
+    pub const X1: Range<usize> = 83..85;
+    /// 2 bytes: candidates of X2. Values: as above.
+    pub const X2: Range<usize> = 85..87;
+    /// Number of ROMs. Values: 0 to 4.
+    pub const ROM_COUNT: usize = 87;
+    /// 288 bytes: ROMs 0 to 3, 72 bytes a ROM. Values: a stored ROM each.
+    pub const ROMS: Range<usize> = 88..376;
+}
+
+/// The stored ROM: A ROM of a stored slot, at place 88 + 72 * n for ROM n. GPIOs behind a 255 count
+/// for nothing; a list that fills its 32 places has no 255.
+pub mod stored_rom {
+    use std::ops::Range;
+
+    /// Bytes of the record.
+    pub const SIZE: usize = 72;
+    /// Whether the ROM has a pin map. Values: 0 no, 1 yes.
+    pub const MAP_GIVEN: usize = 0;
+    /// 3 bytes: nothing. Values: 0 (kept).
+    pub const SPARE: Range<usize> = 1..4;
+    /// 4 bytes: size in bytes. Values: 0 to 2^24.
+    pub const BYTES: Range<usize> = 4..8;
+    /// 32 bytes: GPIOs of the address lines, lowest line first, ended by 255. Values: any.
+    pub const ADDRESS: Range<usize> = 8..40;
+    /// 32 bytes: GPIOs of the data lines, lowest line first, ended by 255. Values: any.
+    pub const DATA: Range<usize> = 40..72;
+}
+
+unsafe extern "C" {
+    /// Finds the address layout of the slot that a description record describes: the one with the
+    /// lowest score, of equals the earliest choice.
+    pub(crate) fn onerom_derive_addr_layout(
+        description: *const u8,
+        description_len: usize,
+        layout: *mut u8,
+        layout_len: usize,
+    ) -> u64;
+
+    /// Finds the select and data layout of the slot that a description record describes: the one
+    /// with the lowest preference, of equals the lowest span, of equals the earliest choice.
+    pub(crate) fn onerom_derive_cs_data_layout(
+        description: *const u8,
+        description_len: usize,
+        addr_layout: *const u8,
+        addr_layout_len: usize,
+        layout: *mut u8,
+        layout_len: usize,
+    ) -> u64;
+
+    /// Builds the table of a slot: for each index the word of the chip that it picks, each bit
+    /// where the data lines read it. It has 2^pins entries, pins being byte 1 of the address layout
+    /// record, and an entry has as many bytes as a word, byte 3 of the description record.
+    pub(crate) fn onerom_build_rom_image(
+        description: *const u8,
+        description_len: usize,
+        addr_layout: *const u8,
+        addr_layout_len: usize,
+        cs_data_layout: *const u8,
+        cs_data_layout_len: usize,
+        spans: *const u8,
+        spans_len: usize,
+        images: *const u8,
+        images_len: usize,
+        table: *mut u8,
+        table_len: usize,
+    ) -> u64;
+
+    /// Reads back what a slot stores: the words of its ROMs, ROM after ROM, and a mark for each. A
+    /// ROM has as many words as its size has, rounded down, and at most 2^lines, lines being the
+    /// GPIOs of its address map. A word has w bytes, 1 in bit mode 0 and 2 in bit mode 1. The words
+    /// of all ROMs together are those counted below.
+    pub(crate) fn onerom_unscramble_slot(
+        slot: *const u8,
+        slot_len: usize,
+        stored: *const u8,
+        stored_len: usize,
+        output: *mut u8,
+        output_len: usize,
+        marks: *mut u8,
+        marks_len: usize,
+    ) -> u64;
+
+    /// Runs both searches, the build and the read-back in turn. The select search is given the
+    /// found address layout, and the build both layouts. Read-back is given the table's own bytes,
+    /// and a slot of the found layouts: the table's length as its size, the kind of the set type,
+    /// base and pins of the address layout, base and base data pin of the select layout, algorithms
+    /// 0, the bit mode of the word bytes, the first select line's GPIO as select base, base pins 0
+    /// for address and select, no overrides, the description's X candidates, and for each chip its
+    /// size and the maps of the address lines in use and of the data lines.
+    pub(crate) fn onerom_round_trip(
+        description: *const u8,
+        description_len: usize,
+        spans: *const u8,
+        spans_len: usize,
+        images: *const u8,
+        images_len: usize,
+        table: *mut u8,
+        table_len: usize,
+        output: *mut u8,
+        output_len: usize,
+        marks: *mut u8,
+        marks_len: usize,
+    ) -> u64;
+}

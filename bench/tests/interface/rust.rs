@@ -1,0 +1,104 @@
+//! The numbers and calls for Rust, in rustfmt's layout.
+
+use super::page::{Call, Page, Place, Record};
+use super::words::{plain, sentence, told, upper, wrapped};
+
+const WIDTH: usize = 100;
+
+const HEAD: &str = "//! The numbers and calls of docs/INTERFACE.md. Rendered from that page: edit it, and see README.md.
+";
+
+pub fn module(page: &Page) -> String {
+    let mut text = HEAD.to_string();
+    text += &refusals(page);
+    text += &values(page);
+    text.extend(page.records.iter().map(record));
+    text + &declarations(page)
+}
+
+/// A comment on what follows, behind so many blanks.
+fn comment(about: &str, indent: usize) -> String {
+    let begin = format!("{}/// ", " ".repeat(indent));
+    let lines = wrapped(about, WIDTH - begin.len(), "");
+    lines
+        .iter()
+        .map(|line| format!("{begin}{line}\n"))
+        .collect()
+}
+
+fn block(about: &str, name: &str, items: &str) -> String {
+    format!("\n{}pub mod {name} {{\n{items}}}\n", comment(about, 0))
+}
+
+fn constant(about: &str, name: &str, kind: &str, value: &str) -> String {
+    format!(
+        "{}    pub const {name}: {kind} = {value};\n",
+        comment(about, 4)
+    )
+}
+
+fn refusals(page: &Page) -> String {
+    let items = page.refusals.iter().map(|refusal| {
+        let mut about = sentence(&refusal.meaning);
+        if !refusal.place.is_empty() {
+            about += &format!(" Place: {}.", refusal.place);
+        }
+        let number = refusal.number.to_string();
+        constant(&about, &upper(&refusal.name), "u16", &number)
+    });
+    let items: String = items.collect();
+    block("Numbers of the refusals.", "refusals", &items)
+}
+
+fn values(page: &Page) -> String {
+    let values = page.groups.iter().flat_map(|group| &group.values);
+    let items = values.map(|value| {
+        let about = plain(&sentence(&value.what));
+        constant(&about, &value.name, "u8", &value.value.to_string())
+    });
+    let items: String = items.collect();
+    block("What single bytes of the records say.", "values", &items)
+}
+
+fn record(record: &Record) -> String {
+    let size = constant(
+        "Bytes of the record.",
+        "SIZE",
+        "usize",
+        &record.size.to_string(),
+    );
+    let mut items = String::new();
+    if record.places.iter().any(|place| place.to > place.from) {
+        items += "    use std::ops::Range;\n\n";
+    }
+    items += &size;
+    items.extend(record.places.iter().map(place));
+    let about = format!("{}: {}", record.title, plain(&record.about));
+    block(&about, &record.name.to_lowercase(), &items)
+}
+
+fn place(place: &Place) -> String {
+    let (from, past) = (place.from, place.to + 1);
+    let (kind, value) = if past == from + 1 {
+        ("usize", from.to_string())
+    } else {
+        ("Range<usize>", format!("{from}..{past}"))
+    };
+    constant(&told(place), &place.name, kind, &value)
+}
+
+fn declarations(page: &Page) -> String {
+    let calls: Vec<String> = page.calls.iter().map(call).collect();
+    format!("\nunsafe extern \"C\" {{\n{}}}\n", calls.join("\n"))
+}
+
+fn call(call: &Call) -> String {
+    let mut text = comment(&plain(&call.about.join(" ")), 4);
+    text += &format!("    pub(crate) fn {}(\n", call.name);
+    for parameter in &call.parameters {
+        let name = &parameter.name;
+        let pointer = if parameter.lent { "*mut" } else { "*const" };
+        text += &format!("        {name}: {pointer} u8,\n        {name}_len: usize,\n");
+    }
+    text + "    ) -> u64;\n"
+}
