@@ -45,7 +45,8 @@ fn main() -> ExitCode {
         .collect();
     match words[..] {
         [] => lay_out(sample()),
-        ["speed"] => speed::speed(),
+        ["speed"] => speed::speed(None),
+        ["speed", _] => speed::speed(Some(Path::new(&given[1]))),
         ["build", _, _, _, ..] => make::make(&given[1], &given[2], &given[3..]),
         ["verify", _, _, ..] => verify::verify(&given[1], &given[2..]),
         ["compare", seed, count] => on_cases(seed, count, compare::compare),

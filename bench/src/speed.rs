@@ -1,9 +1,11 @@
 //! The library and the original on the same inputs, by the clock.
 
 mod boards;
+mod report;
 mod tables;
 
 use std::hint::black_box;
+use std::path::Path;
 use std::process::ExitCode;
 use std::time::{Duration, Instant};
 
@@ -17,10 +19,12 @@ use oracle::answer::fitted;
 use oracle::engine::{Job, Told};
 use oracle::slot::ChipBytes;
 
-use crate::{laid_out, plain};
+use crate::{laid_out, plain, say, unread};
 
-/// How often each input is measured; the best counts, since other work only ever adds time.
-const REPEATS: usize = 25;
+/// How often all inputs are gone through, and how often each is measured then. The best counts,
+/// since other work only ever adds time, and it seldom lasts for all rounds.
+const ROUNDS: usize = 7;
+const REPEATS: usize = 4;
 
 /// A repeat goes on for this long at least, so that the clock's grain does not matter.
 const REPEAT: Duration = Duration::from_millis(20);
@@ -49,48 +53,83 @@ struct Times {
     ours: Duration,
 }
 
-pub fn speed() -> ExitCode {
-    if cfg!(debug_assertions) {
-        eprintln!("bench speed measures release builds: cargo run --release -- speed");
-        return ExitCode::FAILURE;
-    }
-    if oracle::original().is_none() {
-        println!("{SKIPPED}");
-        return ExitCode::SUCCESS;
-    }
-    let (address, select) = (boards::of_address_search(), boards::of_select_search());
-    let mut good = print_table("address search", SEARCHED, address, address_pair);
-    println!();
-    good &= print_table("select search", SEARCHED, select, select_pair);
-    println!();
-    good &= print_table("build", TABLE, tables::of_build(), build_pair);
-    println!();
-    good &= print_table("read-back", TABLE, tables::of_read_back(), read_back_pair);
-    if good {
-        ExitCode::SUCCESS
-    } else {
-        ExitCode::FAILURE
+impl Times {
+    fn ratio(&self) -> f64 {
+        self.original.as_secs_f64() / self.ours.as_secs_f64()
     }
 }
 
-/// Whether the two agree on all inputs.
-fn print_table(
-    call: &str,
-    size: [&str; 2],
+/// An input under the clock, with the best times of each round.
+struct Row {
+    input: Input,
+    pair: Pair,
+    rounds: Vec<Times>,
+}
+
+/// The inputs of one call.
+struct Table {
+    call: &'static str,
+    size: [&'static str; 2],
+    rows: Vec<Row>,
+}
+
+/// Measures every call on every input, prints the tables and, if a file is named, puts them into
+/// it between the lines that say where they go.
+pub fn speed(file: Option<&Path>) -> ExitCode {
+    if cfg!(debug_assertions) {
+        return unread("bench speed measures release builds: cargo run --release -- speed");
+    }
+    if oracle::original().is_none() {
+        say(&format!("{SKIPPED}\n"));
+        return ExitCode::SUCCESS;
+    }
+    let mut tables = match tables() {
+        Ok(tables) => tables,
+        Err(name) => {
+            say(&format!("{name}: the answers differ\n"));
+            return ExitCode::FAILURE;
+        }
+    };
+    for _ in 0..ROUNDS {
+        let rows = tables.iter_mut().flat_map(|table| &mut table.rows);
+        rows.for_each(|row| row.rounds.push(measured(&row.pair)));
+    }
+    let told = report::tables(&tables);
+    say(&told);
+    match file.map(|file| report::put(file, &told)) {
+        Some(Err(why)) => unread(&why),
+        _ => ExitCode::SUCCESS,
+    }
+}
+
+/// The name of an input on which the two do not agree, if there is one.
+fn tables() -> Result<Vec<Table>, &'static str> {
+    let (address, select) = (boards::of_address_search(), boards::of_select_search());
+    Ok(vec![
+        table("address search", SEARCHED, address, address_pair)?,
+        table("select search", SEARCHED, select, select_pair)?,
+        table("build", TABLE, tables::of_build(), build_pair)?,
+        table("read-back", TABLE, tables::of_read_back(), read_back_pair)?,
+    ])
+}
+
+fn table(
+    call: &'static str,
+    size: [&'static str; 2],
     inputs: Vec<Input>,
     pair: fn(&Description) -> Option<Pair>,
-) -> bool {
-    let [one, other] = size;
-    println!("| {call} | answer | {one} | {other} | original | ours | ratio |");
-    println!("|---|---|---|---|---|---|---|");
-    for input in inputs {
-        let Some(pair) = pair(&input.slot) else {
-            eprintln!("{}: the answers differ", input.name);
-            return false;
-        };
-        print(&input, &pair.answer, &measured(&pair));
-    }
-    true
+) -> Result<Table, &'static str> {
+    let row = |input: Input| {
+        let pair = pair(&input.slot).ok_or(input.name)?;
+        let rounds = Vec::new();
+        Ok(Row {
+            input,
+            pair,
+            rounds,
+        })
+    };
+    let rows = inputs.into_iter().map(row).collect::<Result<_, _>>()?;
+    Ok(Table { call, size, rows })
 }
 
 /// The original with its records made; ours decodes its record in every call.
@@ -220,24 +259,4 @@ fn time(call: &dyn Fn(), calls: u32) -> Duration {
 
 fn time_of_a_call(call: &dyn Fn(), calls: u32) -> Duration {
     time(call, calls) / calls
-}
-
-fn print(input: &Input, answer: &str, times: &Times) {
-    let ratio = times.original.as_secs_f64() / times.ours.as_secs_f64();
-    let [one, other] = input.size;
-    println!(
-        "| {} | {answer} | {one} | {other} | {} | {} | {ratio:.1} |",
-        input.name,
-        microseconds(times.original),
-        microseconds(times.ours),
-    );
-}
-
-fn microseconds(time: Duration) -> String {
-    let microseconds = time.as_secs_f64() * 1e6;
-    if microseconds < 1000.0 {
-        format!("{microseconds:.2} µs")
-    } else {
-        format!("{:.2} ms", microseconds / 1000.0)
-    }
 }
