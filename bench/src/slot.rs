@@ -20,6 +20,9 @@ pub const ROM: usize = rom_at::SIZE;
 /// How many GPIOs each list of a map has places for.
 pub const MOST_LINES: usize = rom_at::ADDRESS.end - rom_at::ADDRESS.start;
 
+/// How many overrides the record has places for.
+pub const MOST_OVERRIDES: usize = 64;
+
 /// What a slot holds.
 #[derive(Debug, Clone, Copy, PartialEq, Eq)]
 pub enum SlotKind {

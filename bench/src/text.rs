@@ -1,20 +1,28 @@
-//! Descriptions as a person writes them: a line a fact, `#` before a remark. README.md has the
-//! list of lines.
+//! Descriptions and stored slots as a person writes them: a line a fact, `#` before a remark.
+//! README.md has the lists of lines.
 
-mod draft;
+mod described;
+mod facts;
+mod stored;
 mod words;
+mod write;
 
 use std::fmt;
 
 use crate::description::Description;
-use draft::Draft;
+use crate::slot::StoredSlot;
+use described::DescriptionDraft;
+use facts::grown;
+use stored::StoredDraft;
 use words::Words;
 
-/// Why a text is no description.
+/// Why a text is no description or no stored slot. Displayed it reads `line 3: expected ..`; put
+/// the file's name before it.
 #[derive(Debug, Clone, PartialEq, Eq)]
 pub struct TextError {
-    /// From 1; the last line where something is missing.
+    /// Where it shows, from 1; the last line where something is missing in the whole.
     pub line: usize,
+    /// What was expected there and what was found.
     pub what: String,
 }
 
@@ -26,26 +34,46 @@ impl fmt::Display for TextError {
 
 impl std::error::Error for TextError {}
 
-/// Reads a file's bytes.
-pub fn read_bytes(bytes: &[u8]) -> Result<Description, TextError> {
-    let text = std::str::from_utf8(bytes).map_err(|why| {
+/// A file's bytes as text. Where they are none the error names the line.
+pub fn of_bytes(bytes: &[u8]) -> Result<&str, TextError> {
+    std::str::from_utf8(bytes).map_err(|why| {
         let good = &bytes[..why.valid_up_to()];
         TextError {
             line: 1 + good.iter().filter(|&&byte| byte == b'\n').count(),
             what: "expected text, found bytes that are none".into(),
         }
-    })?;
-    read(text)
+    })
 }
 
+/// Reads the bytes of a description's file.
+pub fn read_bytes(bytes: &[u8]) -> Result<Description, TextError> {
+    read(of_bytes(bytes)?)
+}
+
+/// Reads a description. Facts that are not told are as usual; a number that no board or chip has
+/// is an error, and so is a line that is missing or stands twice. What only shows in the whole is
+/// left to the library, which refuses it.
 pub fn read(text: &str) -> Result<Description, TextError> {
-    let mut draft = Draft::default();
-    for (number, line) in (1..).zip(text.lines()) {
-        let mut words = Words::of(number, line);
-        if let Some(head) = words.head() {
-            draft.line(head, &mut words)?;
-            words.end()?;
-        }
-    }
-    draft.finished(text.lines().count().max(1))
+    grown::<DescriptionDraft>(text)
+}
+
+/// Whether a text is to be read as a stored slot: only those begin with a `slot` line. Empty lines
+/// and remarks may stand before it.
+pub fn is_slot(text: &str) -> bool {
+    let mut heads = text.lines().filter_map(|line| Words::of(1, line).head());
+    heads.next() == Some("slot")
+}
+
+/// Reads a stored slot, as [`write_slot`] writes it or as a person does.
+pub fn read_slot(text: &str) -> Result<StoredSlot, TextError> {
+    grown::<StoredDraft>(text)
+}
+
+/// Writes a stored slot, a line a fact. [`read_slot`] reads the same slot from it if the slot's
+/// numbers are in the domain: at most 64 overrides and 4 ROMs, ROMs of at most 2^24 bytes, and two
+/// different GPIOs of 0 to 47 at most for an X pin.
+pub fn write_slot(slot: &StoredSlot) -> String {
+    let mut text = write::lines(slot).join("\n");
+    text.push('\n');
+    text
 }

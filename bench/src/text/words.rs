@@ -5,6 +5,7 @@ use std::str::SplitWhitespace;
 
 use super::TextError;
 use crate::description::{Candidates, Kind, Setting};
+use crate::slot::SlotKind;
 
 pub const KINDS: [(&str, Kind); 7] = [
     ("ce", Kind::Ce),
@@ -21,6 +22,27 @@ const SETTINGS: [(&str, Setting); 3] = [
     ("high", Setting::ActiveHigh),
     ("ignored", Setting::Ignored),
 ];
+
+pub const SLOT_KINDS: [(&str, SlotKind); 7] = [
+    ("single-rom", SlotKind::SingleRom),
+    ("single-ram", SlotKind::SingleRam),
+    ("banked", SlotKind::Banked),
+    ("multi", SlotKind::Multi),
+    ("system-plugin", SlotKind::SystemPlugin),
+    ("user-plugin", SlotKind::UserPlugin),
+    ("pio-plugin", SlotKind::PioPlugin),
+];
+
+/// Kinds of overrides, each in the top two bits.
+pub const OVERRIDES: [(&str, u8); 4] = [
+    ("normal", 0 << 6),
+    ("invert", 1 << 6),
+    ("low", 2 << 6),
+    ("high", 3 << 6),
+];
+
+/// In place of a list that has no numbers.
+pub const NO_NUMBERS: &str = "none";
 
 pub struct Words<'a> {
     pub line: usize,
@@ -115,6 +137,12 @@ impl<'a> Words<'a> {
     pub fn byte(&mut self, what: &str, range: RangeInclusive<u8>) -> Result<u8, TextError> {
         let wide = i64::from(*range.start())..=i64::from(*range.end());
         Ok(self.number(what, wide)? as u8)
+    }
+
+    /// Whether a number comes next.
+    pub fn is_number(&self) -> bool {
+        let digit = |word: &str| word.starts_with(|first: char| first.is_ascii_digit());
+        self.peek().is_some_and(digit)
     }
 
     pub fn setting(&mut self) -> Result<Setting, TextError> {

@@ -1,11 +1,10 @@
 //! A description that grows line by line.
 
-use std::collections::BTreeMap;
-
 use super::TextError;
+use super::facts::{Draft, Told, add_part, missing};
 use super::words::{KINDS, Words};
 use crate::description::{
-    Candidates, Chip, Description, Kind, MOST_CHIPS, Multi, SOCKET_PINS, SetType, Setting, Settings,
+    Candidates, Chip, Description, Kind, Multi, SOCKET_PINS, SetType, Setting, Settings,
 };
 
 const LINES: &str = "socket, pin, x1, x2, set, word, offset, limit, chip, address, data, control, \
@@ -36,15 +35,14 @@ const FORMS: [(&str, Form); 3] = [
 /// How many kinds of lines a Multi set can name: all but the other lines. A list has no more.
 const NAMED: usize = 6;
 
-pub struct Draft {
+pub struct DescriptionDraft {
     slot: Description,
-    /// Where each fact that can stand only once was told.
-    told: BTreeMap<String, usize>,
+    told: Told,
     /// The line on which each chip begins.
     chip_lines: Vec<usize>,
 }
 
-impl Default for Draft {
+impl Default for DescriptionDraft {
     fn default() -> Self {
         let slot = Description {
             board_pins: 0,
@@ -61,22 +59,23 @@ impl Default for Draft {
         };
         Self {
             slot,
-            told: BTreeMap::new(),
+            told: Told::default(),
             chip_lines: Vec::new(),
         }
     }
 }
 
-impl Draft {
-    /// Takes in a line by its first word.
-    pub fn line(&mut self, head: &str, words: &mut Words) -> Result<(), TextError> {
+impl Draft for DescriptionDraft {
+    type Whole = Description;
+
+    fn line(&mut self, head: &str, words: &mut Words) -> Result<(), TextError> {
         match head {
             "pin" => return self.pin(words),
             "chip" => return self.chip(words),
             "address" | "data" | "control" => return self.chip_pins(head, words),
             _ => {}
         }
-        self.once(head.into(), words)?;
+        self.told.once(head.into(), words)?;
         let slot = &mut self.slot;
         match head {
             "socket" => slot.board_pins = socket_pins(words)?,
@@ -94,74 +93,8 @@ impl Draft {
         Ok(())
     }
 
-    fn once(&mut self, fact: String, words: &Words) -> Result<(), TextError> {
-        match self.told.get(&fact) {
-            Some(line) => Err(words.error(format!("`{fact}` stands on line {line} already"))),
-            None => {
-                self.told.insert(fact, words.line);
-                Ok(())
-            }
-        }
-    }
-
-    fn pin(&mut self, words: &mut Words) -> Result<(), TextError> {
-        let pin = words.byte("a socket pin", 1..=SOCKET_PINS as u8)?;
-        self.once(format!("pin {pin}"), words)?;
-        self.slot.socket[usize::from(pin) - 1] = words.candidates()?;
-        Ok(())
-    }
-
-    fn chip(&mut self, words: &mut Words) -> Result<(), TextError> {
-        let chips = &mut self.slot.chips;
-        if chips.len() == MOST_CHIPS {
-            return Err(words.error(format!("expected at most {MOST_CHIPS} chips")));
-        }
-        let chip = if words.takes("again") {
-            let before = chips.last().cloned();
-            before.ok_or_else(|| words.error("expected a chip before `chip again`"))?
-        } else {
-            words.word("size")?;
-            let size = words.number("bytes", 0..=1 << 24)? as u32;
-            Chip {
-                size,
-                ..Chip::default()
-            }
-        };
-        chips.push(chip);
-        self.chip_lines.push(words.line);
-        Ok(())
-    }
-
-    /// The pins of the last chip.
-    fn chip_pins(&mut self, head: &str, words: &mut Words) -> Result<(), TextError> {
-        let Some(last) = self.slot.chips.len().checked_sub(1) else {
-            return Err(words.error(format!("expected a `chip` line before `{head}`")));
-        };
-        if head != "control" {
-            self.once(format!("{head} of chip {last}"), words)?;
-        }
-        let chip = &mut self.slot.chips[last];
-        match head {
-            "address" => chip.address_pins = words.bytes("a chip pin", 1..=40, 24)?,
-            "data" => chip.data_pins = words.bytes("a chip pin", 1..=40, 16)?,
-            _ if chip.control.len() == 8 => {
-                return Err(words.error("expected at most 8 control lines on a chip"));
-            }
-            _ => {
-                let kind = words.one_of("a control line", &KINDS)?;
-                chip.control.push((kind, words.byte("a chip pin", 1..=40)?));
-            }
-        }
-        Ok(())
-    }
-
-    /// The description, if nothing is missing.
-    pub fn finished(self, last: usize) -> Result<Description, TextError> {
+    fn finished(self, last: usize) -> Result<Description, TextError> {
         let slot = &self.slot;
-        let missing = |line: usize, what: &str| {
-            let what = format!("expected {what}, found none");
-            Err(TextError { line, what })
-        };
         if slot.board_pins == 0 {
             return missing(last, "a `socket` line");
         }
@@ -177,10 +110,52 @@ impl Draft {
             }
         }
         if slot.set_type == SetType::Multi && slot.multi.is_none() {
-            let set = self.told.get("set").copied();
+            let set = self.told.line("set");
             return missing(set.unwrap_or(last), "a `multi` line for this set");
         }
         Ok(self.slot)
+    }
+}
+
+impl DescriptionDraft {
+    fn pin(&mut self, words: &mut Words) -> Result<(), TextError> {
+        let pin = words.byte("a socket pin", 1..=SOCKET_PINS as u8)?;
+        self.told.once(format!("pin {pin}"), words)?;
+        self.slot.socket[usize::from(pin) - 1] = words.candidates()?;
+        Ok(())
+    }
+
+    fn chip(&mut self, words: &mut Words) -> Result<(), TextError> {
+        let of_size = |size: u32| Chip {
+            size,
+            ..Chip::default()
+        };
+        add_part(&mut self.slot.chips, "chip", words, of_size)?;
+        self.chip_lines.push(words.line);
+        Ok(())
+    }
+
+    /// The pins of the last chip.
+    fn chip_pins(&mut self, head: &str, words: &mut Words) -> Result<(), TextError> {
+        let Some(last) = self.slot.chips.len().checked_sub(1) else {
+            return Err(words.error(format!("expected a `chip` line before `{head}`")));
+        };
+        if head != "control" {
+            self.told.once(format!("{head} of chip {last}"), words)?;
+        }
+        let chip = &mut self.slot.chips[last];
+        match head {
+            "address" => chip.address_pins = words.bytes("a chip pin", 1..=40, 24)?,
+            "data" => chip.data_pins = words.bytes("a chip pin", 1..=40, 16)?,
+            _ if chip.control.len() == 8 => {
+                return Err(words.error("expected at most 8 control lines on a chip"));
+            }
+            _ => {
+                let kind = words.one_of("a control line", &KINDS)?;
+                chip.control.push((kind, words.byte("a chip pin", 1..=40)?));
+            }
+        }
+        Ok(())
     }
 }
 
