@@ -1,6 +1,8 @@
 //! A safe wrapper over the proved static library: a typed description of a slot, its record, the
 //! two searches with their layouts, the build of a table, a stored slot with its record, the
-//! read-back, and all four calls in turn. docs/INTERFACE.md gives the place of each number.
+//! read-back, and all four calls in turn. docs/INTERFACE.md gives the place of each number. Besides
+//! there are descriptions and stored slots as text, the layouts as tables, and the socket as a
+//! drawing.
 //!
 //! Nothing here judges a description or a slot: whatever is handed in goes to the library, which
 //! answers with a layout, a table, the ROMs' bytes or a numbered refusal.
@@ -17,6 +19,7 @@ mod read_back;
 pub mod refusal;
 pub mod show;
 pub mod slot;
+pub mod socket;
 pub mod text;
 
 pub use call::{
