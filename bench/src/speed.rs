@@ -19,7 +19,8 @@ use oracle::answer::fitted;
 use oracle::engine::{Job, Told};
 use oracle::slot::ChipBytes;
 
-use crate::{laid_out, plain, say, unread};
+use crate::ending::{say, unread};
+use crate::{laid_out, plain};
 
 /// How often all inputs are gone through, and how often each is measured then. The best counts,
 /// since other work only ever adds time, and it seldom lasts for all rounds.

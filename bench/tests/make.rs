@@ -2,16 +2,10 @@
 
 mod folder;
 
-use std::fs;
-
 use folder::{Folder, SAMPLE, text};
 
 fn folder(name: &str) -> Folder {
     Folder::new("build", name)
-}
-
-fn read(folder: &Folder, name: &str) -> Vec<u8> {
-    fs::read(folder.path.join(name)).expect("the file is there")
 }
 
 #[test]
@@ -26,7 +20,7 @@ fn a_table_is_written() {
     // A0 is at bit 12 of the index.
     let mut table = vec![0; 8192];
     table[1 << 12] = 7;
-    assert_eq!(read(&folder, "table.bin"), table);
+    assert_eq!(folder.read("table.bin"), table);
     assert_eq!(folder.names(), ["chip.bin", "slot.txt", "table.bin"]);
 }
 
@@ -37,7 +31,7 @@ fn a_table_takes_the_place_of_an_old_one() {
     folder.write("long.bin", &vec![0x5A; 10000]);
     let told = folder.run(&["slot.txt", "table.bin", "long.bin"]);
     assert_eq!(told.status.code(), Some(0));
-    assert_eq!(read(&folder, "table.bin"), [0x5A; 8192]);
+    assert_eq!(folder.read("table.bin"), [0x5A; 8192]);
 }
 
 #[test]
@@ -52,7 +46,7 @@ fn a_file_for_each_chip() {
     let told = folder.run(&["banked.txt", "table.bin", "chip.bin", "other.bin"]);
     assert_eq!(text(&told.stdout), "table.bin: table of 16384 bytes\n");
     // X1 is the lowest GPIO.
-    assert_eq!(read(&folder, "table.bin"), [0x5A, 0xA5].repeat(8192));
+    assert_eq!(folder.read("table.bin"), [0x5A, 0xA5].repeat(8192));
 }
 
 #[test]
@@ -79,7 +73,7 @@ fn refusals_name_the_call() {
     let told = folder.refused(&["slot.txt", "table.bin", "chip.bin"]);
     assert!(told.starts_with("address search refused: 3 UnmappedPin, place 10 (socket pin 10): "));
 
-    assert_eq!(read(&folder, "table.bin"), b"old");
+    assert_eq!(folder.read("table.bin"), b"old");
     assert_eq!(folder.names(), names);
 }
 
@@ -116,7 +110,7 @@ fn files_that_cannot_be_written_are_named() {
         let why = "the table would replace a file that it is made from";
         assert_eq!(told, format!("{read}: {why}\n"));
     }
-    assert_eq!(read(&folder, "chip.bin"), [0x5A; 8192]);
+    assert_eq!(folder.read("chip.bin"), [0x5A; 8192]);
     assert_eq!(folder.names(), ["chip.bin", "slot.txt"]);
 }
 

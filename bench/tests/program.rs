@@ -1,18 +1,41 @@
 //! The program: what it prints and how it ends.
 
+mod slots;
+
+use std::ffi::OsStr;
+use std::io::pipe;
+use std::os::unix::ffi::OsStrExt;
 use std::path::PathBuf;
 use std::process::{Command, Output};
 
-fn bench(words: &[&str]) -> Output {
+use slots::changed;
+
+const COMMANDS: [&str; 8] = [
+    "layout",
+    "build",
+    "read-back",
+    "verify",
+    "sample",
+    "compare",
+    "compare-large",
+    "speed",
+];
+
+fn bench<W: AsRef<OsStr>>(words: &[W]) -> Output {
     let mut program = Command::new(env!("CARGO_BIN_EXE_bench"));
     program.args(words).output().expect("the program runs")
 }
 
-/// Runs the program on a file with this text.
+/// The sample, which is run without words.
+fn alone() -> Output {
+    bench::<&str>(&[])
+}
+
+/// Lays out a file with this text.
 fn on_file(name: &str, text: &str) -> Output {
     let file = PathBuf::from(env!("CARGO_TARGET_TMPDIR")).join(name);
     std::fs::write(&file, text).expect("the file is written");
-    bench(&[file.to_str().expect("a plain name")])
+    bench(&[OsStr::new("layout"), file.as_os_str()])
 }
 
 fn text(bytes: &[u8]) -> String {
@@ -21,8 +44,11 @@ fn text(bytes: &[u8]) -> String {
 
 #[test]
 fn the_sample() {
-    let told = bench(&[]);
-    assert_eq!(told.status.code(), Some(0));
+    let told = alone();
+    assert_eq!(
+        (told.status.code(), text(&told.stderr)),
+        (Some(0), String::new())
+    );
     let told = text(&told.stdout);
     assert!(told.starts_with("base GPIO 9, 13 pins, table of 8192 bytes\n"));
     assert!(told.contains("\n   9  A10           0\n"));
@@ -30,17 +56,17 @@ fn the_sample() {
     let select = "\n\nselect and data: base GPIO 0, 8 data lines from base pin 0, \
         2 select pins from base pin 22\n\nGPIO  role  base pin\n   0  D0           0\n";
     assert!(told.contains(select));
-    assert!(told.ends_with("\n   7  D7           7\n  22  ce          22\n  23  oe          23\n"));
+    let select = "\n   7  D7           7\n  22  ce          22\n  23  oe          23\n";
+    let socket = "\nsocket of 28 pins from above\n\nrole     GPIO  +---\\__/---+  GPIO     role\n";
+    assert!(told.contains(&(select.to_string() + socket)));
+    assert!(told.contains("\n A12  11 (26)  |  2    27 |  -        -\n"));
+    let verified = "\n\nX1  24  not used\nX2  25  not used\n\ntable of 8192 bytes\n\
+        reads back: 8192 words of 1 chip\n";
+    assert!(told.ends_with(verified));
 }
 
-/// The sample with some of its lines changed.
 fn changed_sample(name: &str, changes: &[(&str, &str)]) -> Output {
-    let mut text = include_str!("../sample/2764.txt").to_string();
-    for (line, other) in changes {
-        assert!(text.contains(line));
-        text = text.replace(line, other);
-    }
-    on_file(name, &text)
+    on_file(name, &changed(changes))
 }
 
 #[test]
@@ -69,15 +95,17 @@ fn commoned_lines() {
     let told = changed_sample("multi.txt", &changes);
     let told = text(&told.stdout);
     let wanted = "\n  22  ce                  22\n  23  oe, commoned        23\n  \
-        24  X1                  24\n";
-    assert!(told.ends_with(wanted));
+        24  X1                  24\n\nsocket of 28 pins";
+    assert!(told.contains(wanted));
+    assert!(told.ends_with("\nX1  24  selects chip 1\nX2  25  not used\n"));
 }
 
 #[test]
 fn a_file_as_the_sample() {
     let told = on_file("sample.txt", include_str!("../sample/2764.txt"));
     assert_eq!(told.status.code(), Some(0));
-    assert_eq!(told.stdout, bench(&[]).stdout);
+    let whole = text(&told.stdout) + "\ntable of 8192 bytes\nreads back: ";
+    assert!(text(&alone().stdout).starts_with(&whole));
 }
 
 #[test]
@@ -129,11 +157,159 @@ fn no_description() {
 #[test]
 fn no_file_and_no_command() {
     assert_eq!(bench(&["no/such/file"]).status.code(), Some(2));
-    for command in ["build", "verify", "compare", "compare-large"] {
-        assert_eq!(bench(&[command]).status.code(), Some(2));
+    assert_eq!(bench(&["layout", "no/such/file"]).status.code(), Some(2));
+    for command in [
+        "layout",
+        "build",
+        "read-back",
+        "verify",
+        "compare",
+        "compare-large",
+    ] {
+        let told = bench(&[command]);
+        assert_eq!(
+            (told.status.code(), text(&told.stdout)),
+            (Some(2), String::new())
+        );
+        let said = text(&told.stderr);
+        assert!(
+            said.starts_with(&format!("bench {command}: expected ")),
+            "{said}"
+        );
+        let help = format!(", found nothing; `bench {command} --help` says more\n");
+        assert!(said.ends_with(&help), "{said}");
     }
     assert_eq!(bench(&["compare-large", "1", "x"]).status.code(), Some(2));
     assert_eq!(bench(&["one", "two"]).status.code(), Some(2));
+}
+
+#[test]
+fn words_that_are_too_many_are_told() {
+    let told = bench(&["speed", "now"]);
+    assert_eq!(told.status.code(), Some(2));
+    let said = "bench speed: expected no more words, found `now`; `bench speed --help` says more\n";
+    assert_eq!(text(&told.stderr), said);
+    for words in [
+        &["layout", "a", "b", "c"][..],
+        &["sample", "a", "b"],
+        &["compare", "1", "-2"],
+    ] {
+        let told = bench(words);
+        assert_eq!(told.status.code(), Some(2));
+        let found = format!("found `{}`;", words[1..].join(" "));
+        assert!(text(&told.stderr).contains(&found));
+    }
+}
+
+#[test]
+fn a_command_that_is_none_is_told() {
+    for words in [&["laoyut", "a"][..], &["help", "laoyut"]] {
+        let told = bench(words);
+        assert_eq!(
+            (told.status.code(), text(&told.stdout)),
+            (Some(2), String::new())
+        );
+        let said = format!(
+            "bench: expected a command ({}), found `laoyut`; `bench help` says what each does\n",
+            COMMANDS.join(", ")
+        );
+        assert_eq!(text(&told.stderr), said);
+    }
+}
+
+#[test]
+fn every_command_has_help() {
+    for command in COMMANDS {
+        let told = bench(&[command, "--help"]);
+        assert_eq!(
+            (told.status.code(), text(&told.stderr)),
+            (Some(0), String::new())
+        );
+        let said = text(&told.stdout);
+        assert!(said.starts_with(&format!("bench {command}")), "{said}");
+        assert!(said.contains("\n\nExit codes: 0 "), "{said}");
+        assert!(said.contains("\n\nExample"), "{said}");
+        assert!(said.contains(&format!("\n    bench {command}")), "{said}");
+        assert!(said.lines().all(|line| line.len() <= 80), "{said}");
+        for same in [
+            &["help", command][..],
+            &[command, "-h"],
+            &[command, "a", "--help"],
+        ] {
+            assert_eq!(bench(same).stdout, told.stdout);
+        }
+    }
+}
+
+#[test]
+fn the_program_has_help() {
+    let told = bench(&["--help"]);
+    assert_eq!(
+        (told.status.code(), text(&told.stderr)),
+        (Some(0), String::new())
+    );
+    let said = text(&told.stdout);
+    for command in COMMANDS {
+        let row = format!("\n  bench {command} ");
+        assert_eq!(said.matches(&row).count(), 1, "{command}");
+    }
+    assert!(said.contains("\n  bench read-back FILE TABLE CHIP..  Reads a table back"));
+    assert!(said.contains("\nExit codes: 0 "));
+    for same in ["help", "-h"] {
+        assert_eq!(bench(&[same]).stdout, told.stdout);
+    }
+}
+
+#[test]
+fn words_that_are_no_text() {
+    let other = OsStr::from_bytes(b"\xff\xfe");
+    assert_eq!(bench(&[other]).status.code(), Some(2));
+    for command in COMMANDS {
+        let told = bench(&[OsStr::new(command), other, other, other]);
+        assert_eq!(told.status.code(), Some(2), "{command}");
+        assert!(!told.stderr.is_empty() && told.stdout.is_empty());
+    }
+}
+
+#[test]
+fn folders_are_no_files() {
+    for words in [
+        &["layout", "."][..],
+        &["read-back", ".", "a", "b"],
+        &["verify", ".", "a"],
+    ] {
+        let told = bench(words);
+        assert_eq!(
+            (told.status.code(), text(&told.stdout)),
+            (Some(2), String::new())
+        );
+        assert!(text(&told.stderr).starts_with(".: "));
+    }
+}
+
+#[test]
+fn a_description_that_has_no_end() {
+    let told = bench(&["layout", "/dev/zero"]);
+    assert_eq!(told.status.code(), Some(2));
+    let said = "/dev/zero: expected at most 1048576 bytes of text\n";
+    assert_eq!(text(&told.stderr), said);
+}
+
+/// A pipe whose reader has gone away.
+fn no_reader() -> std::io::PipeWriter {
+    let (_, writer) = pipe().expect("a pipe");
+    writer
+}
+
+#[test]
+fn a_reader_who_has_gone_away_is_no_fault() {
+    let cases = [(&[][..], 0), (&["help"], 0), (&["layout", "."], 2)];
+    for (words, code) in cases {
+        let mut program = Command::new(env!("CARGO_BIN_EXE_bench"));
+        let program = program.args(words).stdout(no_reader()).stderr(no_reader());
+        let status = program.status().expect("the program runs");
+        assert_eq!(status.code(), Some(code));
+    }
 }
 
 #[test]

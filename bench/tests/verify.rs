@@ -1,46 +1,13 @@
 //! `bench verify`: what it reads, what it prints and how it ends.
 
 mod folder;
+mod slots;
 
-use folder::{Folder, SAMPLE, text};
+use folder::{Folder, text};
+use slots::{banked, changed, multi, random, wide, wired};
 
 fn folder(name: &str) -> Folder {
     Folder::new("verify", name)
-}
-
-/// Bytes that look like any: splitmix64.
-fn random(seed: u64, length: usize) -> Vec<u8> {
-    let byte = |n: u64| {
-        let mut mixed = (seed << 32 | n).wrapping_mul(0x9e37_79b9_7f4a_7c15);
-        mixed = (mixed ^ mixed >> 30).wrapping_mul(0xbf58_476d_1ce4_e5b9);
-        mixed = (mixed ^ mixed >> 27).wrapping_mul(0x94d0_49bb_1331_11eb);
-        (mixed >> 56) as u8
-    };
-    (1..=length as u64).map(byte).collect()
-}
-
-fn changed(changes: &[(&str, &str)]) -> String {
-    let mut slot = SAMPLE.to_string();
-    for (line, other) in changes {
-        assert!(slot.contains(line));
-        slot = slot.replace(line, other);
-    }
-    slot
-}
-
-/// A description with a GPIO for each of the first pins.
-fn wired(head: &str, gpios: impl IntoIterator<Item = u8>) -> String {
-    let pins = (1..)
-        .zip(gpios)
-        .map(|(pin, gpio)| format!("pin {pin} gpio {gpio}\n"));
-    head.to_string() + &pins.collect::<String>()
-}
-
-/// A made-up chip of 512 words of 16 bits, the last data lines on these GPIOs.
-fn wide(last: [u8; 2]) -> String {
-    let head = "socket 40\nword 2\nchip size 1024\naddress 27 1 2 3 4 5 6 7 8 9\n\
-        data 10 11 12 13 14 15 16 17 18 19 20 21 22 23 24 25\ncontrol ce 26\n";
-    wired(head, (0..9).chain(16..30).chain(last).chain([32]))
 }
 
 fn reads_back(folder: &Folder, words: &[&str], said: &str) {
@@ -53,7 +20,7 @@ fn reads_back(folder: &Folder, words: &[&str], said: &str) {
 fn the_sample_reads_back() {
     let folder = folder("sample");
     folder.write("chip.bin", &random(1, 8192));
-    let said = "8192 words of 1 chips";
+    let said = "8192 words of 1 chip";
     reads_back(&folder, &["slot.txt", "chip.bin"], said);
     // What is past the chip is no part of it.
     folder.write("chip.bin", &random(2, 10000));
@@ -64,18 +31,8 @@ fn the_sample_reads_back() {
 #[test]
 fn sets_and_words_read_back() {
     let folder = folder("sets");
-    let again = "settings ce-oe\nchip again\nchip again";
-    let banked = changed(&[
-        ("set single", "set banked"),
-        ("settings ce-oe", again),
-        ("x1 gpio 24", "x1 gpio 8"),
-        ("x2 gpio 25", "x2 gpio 22"),
-        ("pin 20 gpio 22", "pin 20 gpio 24"),
-    ]);
-    folder.write("banked.txt", banked.as_bytes());
-    let multi = "set multi\nmulti select ce commoned oe";
-    let multi = changed(&[("set single", multi), ("settings ce-oe", again)]);
-    folder.write("multi.txt", multi.as_bytes());
+    folder.write("banked.txt", banked().as_bytes());
+    folder.write("multi.txt", multi().as_bytes());
     folder.write("wide.txt", wide([30, 31]).as_bytes());
     for (seed, name) in (1..).zip(["a.bin", "b.bin", "c.bin"]) {
         folder.write(name, &random(seed, 8192));
@@ -84,7 +41,16 @@ fn sets_and_words_read_back() {
         let words = [slot, "a.bin", "b.bin", "c.bin"];
         reads_back(&folder, &words, "24576 words of 3 chips");
     }
-    reads_back(&folder, &["wide.txt", "a.bin"], "512 words of 1 chips");
+    reads_back(&folder, &["wide.txt", "a.bin"], "512 words of 1 chip");
+}
+
+#[test]
+fn one_is_counted_as_one() {
+    let folder = folder("one");
+    let head = "socket 24\nchip size 1\naddress 1\ndata 9 10 11 12 13 14 15 16\ncontrol ce 18\n";
+    folder.write("slot.txt", wired(head, 0..18).as_bytes());
+    folder.write("chip.bin", &[0x96]);
+    reads_back(&folder, &["slot.txt", "chip.bin"], "1 word of 1 chip");
 }
 
 #[test]
@@ -95,7 +61,7 @@ fn only_what_the_lines_reach_comes_back() {
     let head = "socket 24\nlimit 256\nchip size 512\naddress 1 2 3 4 5 6 7 8 17\n\
         data 9 10 11 12 13 14 15 16\ncontrol cs1 18\nsettings chip-select cs1 low\n";
     folder.write("slot.txt", wired(head, 0..18).as_bytes());
-    let said = "256 words of 1 chips";
+    let said = "256 words of 1 chip";
     reads_back(&folder, &["slot.txt", "chip.bin"], said);
 }
 

@@ -1,54 +1,54 @@
 //! `bench build`: from a description and the chips' files to a table's file.
 
 use std::ffi::OsString;
-use std::fs::{self, File};
-use std::io::{self, Write};
-use std::path::{Path, PathBuf};
-use std::process::{self, ExitCode};
+use std::path::Path;
+use std::process::ExitCode;
 
 use onerom_bench::{Refusal, build_rom_image};
 
-use crate::files::Inputs;
-use crate::{laid_out, refused, say, unread};
+use super::Command;
+use crate::ending::{Done, Fault, say};
+use crate::inputs::Inputs;
+use crate::laid_out;
+use crate::outputs::{keep, write_whole};
+
+pub const BUILD: Command = Command {
+    name: "build",
+    words: "FILE TABLE CHIP..",
+    summary: "Builds the slot's table from a file for each chip",
+    help: "\
+Reads FILE, a description, and a CHIP file for each of its chips, in order; `-`
+is a chip without bytes. A chip's file may be longer than the chip. Writes the
+table's bytes, and nothing else, to TABLE: when the table is built, whole or not
+at all. TABLE may replace a file that is there, but none that is read.
+
+Exit codes: 0 built; 1 a search or the build refuses; 2 other words, or a file
+that cannot be used.
+
+Example:
+    bench build 2764.txt table.bin 2764.bin
+",
+    run,
+};
 
 /// Builds the table of the slot that the first file describes, by the layouts that are found and
 /// the chips' files, and writes it to the second.
-pub fn make(file: &OsString, table: &OsString, chips: &[OsString]) -> ExitCode {
-    let (file, table) = (Path::new(file), Path::new(table));
-    let inputs = match inputs(file, table, chips) {
-        Ok(inputs) => inputs,
-        Err(why) => return unread(&why),
+fn run(words: &[OsString]) -> Done {
+    let [file, table, chips @ ..] = words else {
+        return Err(Fault::Words);
     };
-    match built(&inputs) {
-        Ok(bytes) => match write_whole(table, &bytes) {
-            Ok(()) => {
-                let (name, length) = (table.display(), bytes.len());
-                say(&format!("{name}: table of {length} bytes\n"));
-                ExitCode::SUCCESS
-            }
-            Err(why) => unread(&format!("{}: {why}", table.display())),
-        },
-        Err(refusal) => refused(&refusal),
+    if chips.is_empty() {
+        return Err(Fault::Words);
     }
-}
-
-fn inputs(file: &Path, table: &Path, chips: &[OsString]) -> Result<Inputs, String> {
+    let (file, table) = (Path::new(file), Path::new(table));
     let inputs = Inputs::read(file, chips)?;
-    let mut files = chips.iter().map(Path::new).chain([file]);
-    if files.any(|one| is_same(one, table)) {
-        let table = table.display();
-        return Err(format!(
-            "{table}: the table would replace a file that it is made from"
-        ));
-    }
-    Ok(inputs)
-}
-
-fn is_same(one: &Path, other: &Path) -> bool {
-    match (fs::canonicalize(one), fs::canonicalize(other)) {
-        (Ok(one), Ok(other)) => one == other,
-        _ => false,
-    }
+    let read: Vec<&Path> = chips.iter().map(Path::new).chain([file]).collect();
+    keep(&read, "table", table)?;
+    let bytes = built(&inputs)?;
+    write_whole(&[(table, &bytes)])?;
+    let (name, length) = (table.display(), bytes.len());
+    say(&format!("{name}: table of {length} bytes\n"));
+    Ok(ExitCode::SUCCESS)
 }
 
 fn built(inputs: &Inputs) -> Result<Vec<u8>, Refusal> {
@@ -60,27 +60,4 @@ fn built(inputs: &Inputs) -> Result<Vec<u8>, Refusal> {
         &cs_data.to_bytes(),
         &inputs.images(),
     )
-}
-
-/// Puts the bytes under the file's name once they are all written, so that no one finds a part of a
-/// table there. What is no plain file, such as a device, is not replaced.
-fn write_whole(file: &Path, bytes: &[u8]) -> io::Result<()> {
-    if file.exists() && !file.is_file() {
-        return Err(io::Error::other("is no plain file"));
-    }
-    let part = part_of(file);
-    let mut new = File::create_new(&part)?;
-    let written = new.write_all(bytes).and_then(|()| fs::rename(&part, file));
-    if written.is_err() {
-        // The first fault is the one to tell.
-        let _ = fs::remove_file(&part);
-    }
-    written
-}
-
-/// A name beside the file's that no other run takes.
-fn part_of(file: &Path) -> PathBuf {
-    let mut name = file.as_os_str().to_owned();
-    name.push(format!(".{}.part", process::id()));
-    PathBuf::from(name)
 }

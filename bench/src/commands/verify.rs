@@ -1,48 +1,83 @@
 //! `bench verify`: whether the table of a description and its chips' files reads back as the chips.
 
 use std::ffi::OsString;
+use std::fmt;
 use std::path::Path;
 use std::process::ExitCode;
 
 use onerom_bench::slot::words;
 use onerom_bench::{
     Description, Refusal, RoundTrip, StoredSlot, build_rom_image, derive_addr_layout, round_trip,
-    unscramble_slot,
+    table_length, unscramble_slot,
 };
 
-use crate::files::Inputs;
-use crate::{laid_out, refused, say, unread};
+use super::Command;
+use crate::ending::{Done, Fault, counted, say};
+use crate::inputs::Inputs;
+use crate::laid_out;
+
+pub const VERIFY: Command = Command {
+    name: "verify",
+    words: "FILE CHIP..",
+    summary: "Tries whether the slot's table reads back as the chips",
+    help: "\
+Reads FILE, a description, and a CHIP file for each of its chips, in order; `-`
+is a chip without bytes. Builds the table and reads it back, and holds what
+comes back against the files. Writes no file, and the answer to the standard
+output.
+
+Exit codes: 0 it reads back; 1 one of the four calls refuses, or a word comes
+back as another; 2 other words, or a file that cannot be used.
+
+Example:
+    bench verify 2764.txt 2764.bin
+",
+    run,
+};
 
 /// Builds the table of the slot that the file describes, reads it back, and holds what comes back
 /// against the chips' files.
-pub fn verify(file: &OsString, chips: &[OsString]) -> ExitCode {
-    let inputs = match Inputs::read(Path::new(file), chips) {
-        Ok(inputs) => inputs,
-        Err(why) => return unread(&why),
+fn run(words: &[OsString]) -> Done {
+    let [file, chips @ ..] = words else {
+        return Err(Fault::Words);
     };
-    let (slot, images) = (&inputs.slot, inputs.images());
-    match read_back(slot, &images) {
-        Ok(Ok(words)) => {
-            let chips = images.len();
-            say(&format!("reads back: {words} words of {chips} chips\n"));
-            ExitCode::SUCCESS
-        }
-        Ok(Err(difference)) => {
-            say(&format!("does not read back: {difference}\n"));
-            ExitCode::FAILURE
-        }
-        Err(refusal) => refused(&refusal),
+    if chips.is_empty() {
+        return Err(Fault::Words);
+    }
+    let inputs = Inputs::read(Path::new(file), chips)?;
+    let verified = verified(&inputs.slot, &inputs.images())?;
+    say(&format!("{verified}\n"));
+    Ok(ExitCode::SUCCESS)
+}
+
+/// What read back.
+pub struct Verified {
+    pub table_bytes: usize,
+    words: usize,
+    chips: usize,
+}
+
+impl fmt::Display for Verified {
+    fn fmt(&self, f: &mut fmt::Formatter<'_>) -> fmt::Result {
+        let words = counted(self.words, "word");
+        let chips = counted(self.chips, "chip");
+        write!(f, "reads back: {words} of {chips}")
     }
 }
 
-/// How many words come back, or the first that comes back as another.
-fn read_back(
-    slot: &Description,
-    images: &[Option<&[u8]>],
-) -> Result<Result<usize, String>, Refusal> {
+/// Builds a slot's table and reads it back: all that comes back, or the first word that comes back
+/// as another.
+pub fn verified(slot: &Description, images: &[Option<&[u8]>]) -> Result<Verified, Fault> {
     let trip = round_trip(slot, images).map_err(|refusal| of_step(slot, images, refusal))?;
-    let lines = derive_addr_layout(&slot.to_bytes())?.lines.len();
-    Ok(compared(slot, lines, images, &trip))
+    let record = slot.to_bytes();
+    let addr = derive_addr_layout(&record)?;
+    let words = compared(slot, addr.lines.len(), images, &trip)
+        .map_err(|difference| Fault::Different(format!("does not read back: {difference}")))?;
+    Ok(Verified {
+        table_bytes: table_length(&record, &addr.to_bytes()),
+        words,
+        chips: images.len(),
+    })
 }
 
 /// The refusal of a round trip as that of the call among the four that gave it.

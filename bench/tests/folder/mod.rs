@@ -1,5 +1,7 @@
 //! A folder of its own for a test of a command that reads files.
 
+#![allow(dead_code, reason = "each test takes what it needs")]
+
 use std::fs;
 use std::path::{Path, PathBuf};
 use std::process::{Command, Output};
@@ -38,14 +40,32 @@ impl Folder {
         names
     }
 
+    pub fn read(&self, name: &str) -> Vec<u8> {
+        fs::read(self.path.join(name)).expect("the file is there")
+    }
+
     /// The command on these words, in the folder.
     pub fn run(&self, words: &[&str]) -> Output {
+        self.run_other(self.command, words)
+    }
+
+    pub fn run_other(&self, command: &str, words: &[&str]) -> Output {
         let mut program = Command::new(env!("CARGO_BIN_EXE_bench"));
-        let words = program.arg(self.command).args(words);
+        let words = program.arg(command).args(words);
         words
             .current_dir(&self.path)
             .output()
             .expect("the program runs")
+    }
+
+    /// What the command says when it succeeds.
+    pub fn done(&self, words: &[&str]) -> String {
+        let told = self.run(words);
+        assert_eq!(
+            (told.status.code(), text(&told.stderr)),
+            (Some(0), String::new())
+        );
+        text(&told.stdout)
     }
 
     pub fn refused(&self, words: &[&str]) -> String {

@@ -1,5 +1,7 @@
 //! Descriptions that the tests share.
 
+#![allow(dead_code, reason = "each test takes what it needs")]
+
 pub const SAMPLE: &str = include_str!("../../sample/2764.txt");
 
 /// The sample with some of its lines changed.
@@ -44,4 +46,15 @@ pub fn multi() -> String {
         ("set single", "set multi\nmulti select ce commoned oe"),
         ("settings ce-oe", "settings ce-oe\nchip again\nchip again"),
     ])
+}
+
+/// Bytes that look like any: splitmix64.
+pub fn random(seed: u64, length: usize) -> Vec<u8> {
+    let byte = |n: u64| {
+        let mut mixed = (seed << 32 | n).wrapping_mul(0x9e37_79b9_7f4a_7c15);
+        mixed = (mixed ^ mixed >> 30).wrapping_mul(0xbf58_476d_1ce4_e5b9);
+        mixed = (mixed ^ mixed >> 27).wrapping_mul(0x94d0_49bb_1331_11eb);
+        (mixed >> 56) as u8
+    };
+    (1..=length as u64).map(byte).collect()
 }

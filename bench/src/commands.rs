@@ -1,0 +1,138 @@
+//! The commands: which one is meant, and what each says of itself.
+
+mod build;
+mod cases;
+mod layout;
+mod read_back;
+mod sample;
+mod verify;
+
+use std::ffi::{OsStr, OsString};
+use std::process::ExitCode;
+
+use crate::ending::{Done, ended, say, unread};
+
+/// A command of the program.
+pub struct Command {
+    pub name: &'static str,
+    /// The words that follow, as the usage has them.
+    pub words: &'static str,
+    /// What it does, in a line.
+    pub summary: &'static str,
+    /// What it reads and writes, its exit codes and an example.
+    pub help: &'static str,
+    /// Runs it on the words that follow its name.
+    pub run: fn(&[OsString]) -> Done,
+}
+
+/// In the order in which the help has them.
+const COMMANDS: [&Command; 8] = [
+    &layout::LAYOUT,
+    &build::BUILD,
+    &read_back::READ_BACK,
+    &verify::VERIFY,
+    &sample::SAMPLE_FILES,
+    &cases::COMPARE,
+    &cases::COMPARE_LARGE,
+    &cases::SPEED,
+];
+
+const HELP: [&str; 2] = ["--help", "-h"];
+
+const ABOUT: &str = "\
+Lays out the board of a One ROM, builds the table that it answers from and
+reads it back, all by the proved library.
+";
+
+const EXIT_CODES: &str = "\
+Exit codes: 0 it is done; 1 the library refuses, or what comes out is not what
+was expected; 2 words that are no command, or a file that cannot be used.
+
+Start with `bench`, then `bench sample`, which writes files to go on with.
+";
+
+impl Command {
+    fn usage(&self) -> String {
+        let usage = format!("bench {} {}", self.name, self.words);
+        usage.trim_end().into()
+    }
+
+    fn whole_help(&self) -> String {
+        format!("{}\n\n{}.\n\n{}", self.usage(), self.summary, self.help)
+    }
+
+    fn run(&self, words: &[OsString]) -> ExitCode {
+        if words.iter().any(|word| is_one(word, &HELP)) {
+            return helped(&self.whole_help());
+        }
+        ended((self.run)(words), &self.expected(words))
+    }
+
+    /// What is said of words that are not the command's.
+    fn expected(&self, found: &[OsString]) -> String {
+        let name = self.name;
+        let expected = if self.words.is_empty() {
+            "no more words"
+        } else {
+            self.words
+        };
+        let found = match found {
+            [] => "nothing".into(),
+            _ => format!("`{}`", found.join(OsStr::new(" ")).display()),
+        };
+        format!("bench {name}: expected {expected}, found {found}; `bench {name} --help` says more")
+    }
+}
+
+/// Runs the command that the words name; without any, the sample.
+pub fn run(words: &[OsString]) -> ExitCode {
+    let Some((name, rest)) = words.split_first() else {
+        return ended(sample::run_through(), "");
+    };
+    if let Some(command) = find(name) {
+        return command.run(rest);
+    }
+    match rest {
+        _ if is_one(name, &HELP) => helped(&overview()),
+        [] if name == "help" => helped(&overview()),
+        [topic, ..] if name == "help" => match find(topic) {
+            Some(command) => helped(&command.whole_help()),
+            None => unknown(topic),
+        },
+        _ => unknown(name),
+    }
+}
+
+fn find(name: &OsStr) -> Option<&'static Command> {
+    COMMANDS.into_iter().find(|command| name == command.name)
+}
+
+fn is_one(word: &OsStr, words: &[&str]) -> bool {
+    words.iter().any(|one| word == *one)
+}
+
+fn helped(text: &str) -> ExitCode {
+    say(text);
+    ExitCode::SUCCESS
+}
+
+fn unknown(name: &OsStr) -> ExitCode {
+    let names: Vec<&str> = COMMANDS.iter().map(|command| command.name).collect();
+    unread(&format!(
+        "bench: expected a command ({}), found `{}`; `bench help` says what each does",
+        names.join(", "),
+        name.display()
+    ))
+}
+
+fn overview() -> String {
+    let alone = ("bench".to_string(), sample::SUMMARY);
+    let help = ("bench COMMAND --help".to_string(), "Says more of a command");
+    let own = COMMANDS.iter().map(|one| (one.usage(), one.summary));
+    let rows: Vec<(String, &str)> = [alone].into_iter().chain(own).chain([help]).collect();
+    let width = rows.iter().map(|(usage, _)| usage.len()).max();
+    let width = width.unwrap_or(0);
+    let row = |(usage, summary): &(String, &str)| format!("  {usage:<width$}  {summary}\n");
+    let rows: String = rows.iter().map(row).collect();
+    format!("{ABOUT}\n{rows}\n{EXIT_CODES}")
+}

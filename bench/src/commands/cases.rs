@@ -1,0 +1,78 @@
+//! `bench compare`, `bench compare-large` and `bench speed`: the library beside the original.
+
+use std::ffi::{OsStr, OsString};
+use std::process::ExitCode;
+
+use super::Command;
+use crate::compare::{compare, compare_large};
+use crate::ending::{Done, Fault};
+use crate::speed::speed;
+
+pub const COMPARE: Command = Command {
+    name: "compare",
+    words: "SEED COUNT",
+    summary: "Holds the library against the original and the model",
+    help: "\
+Reads no file. Makes COUNT cases of each call from SEED, both numbers from 0,
+and writes what was seen to the standard output. Without the original's files
+it says so and succeeds.
+
+Exit codes: 0 no difference that is not listed; 1 one that is not; 2 other
+words.
+
+Example, a minute or so:
+    bench compare 1 100000
+",
+    run: |words| on_cases(words, compare),
+};
+
+pub const COMPARE_LARGE: Command = Command {
+    name: "compare-large",
+    words: "SEED COUNT",
+    summary: "Holds builds and read-backs of 512 KiB against them",
+    help: "\
+Reads no file. Makes COUNT cases of a build and of a read-back from SEED, both
+numbers from 0, and writes what was seen to the standard output. Without the
+original's files it says so and succeeds.
+
+Exit codes: 0 no difference that is not listed; 1 one that is not; 2 other
+words.
+
+Example, a dozen seconds:
+    bench compare-large 1 100
+",
+    run: |words| on_cases(words, compare_large),
+};
+
+pub const SPEED: Command = Command {
+    name: "speed",
+    words: "",
+    summary: "Measures the library and the original",
+    help: "\
+Reads no file, and writes a table for each call to the standard output. It
+takes a release build. Without the original's files it says so and succeeds.
+
+Exit codes: 0 measured; 1 the two disagree, or no release build; 2 other words.
+
+Example:
+    bench speed
+",
+    run: |words| match words {
+        [] => Ok(speed(None)),
+        _ => Err(Fault::Words),
+    },
+};
+
+fn on_cases(words: &[OsString], compare: fn(u64, u64) -> ExitCode) -> Done {
+    let [seed, count] = words else {
+        return Err(Fault::Words);
+    };
+    match (number(seed), number(count)) {
+        (Some(seed), Some(count)) => Ok(compare(seed, count)),
+        _ => Err(Fault::Words),
+    }
+}
+
+fn number(word: &OsStr) -> Option<u64> {
+    word.to_str()?.parse().ok()
+}

@@ -1,0 +1,131 @@
+//! `bench read-back`: from a slot and its table's file to the ROMs' files.
+
+use std::ffi::OsString;
+use std::path::Path;
+use std::process::ExitCode;
+
+use onerom_bench::text::{self, TextError};
+use onerom_bench::{Description, Refusal, StoredSlot, unscramble_slot};
+
+use super::Command;
+use crate::ending::{Done, Fault, say};
+use crate::inputs::{NO_FILE, bytes_up_to, expect_files, text_of};
+use crate::laid_out;
+use crate::outputs::{Output, is_same, keep, write_whole};
+
+pub const READ_BACK: Command = Command {
+    name: "read-back",
+    words: "FILE TABLE CHIP..",
+    summary: "Reads a table back into a file for each ROM",
+    help: "\
+Reads FILE, a description or a stored slot of `bench layout`, and TABLE, the
+bytes that are stored. From a description both searches run, and the table is
+taken to be built by what they find. Writes each ROM's bytes to its CHIP file,
+in order, a plugin's to the only one; `-` is a ROM that is not written. The
+files are written when all ROMs are read, each whole or not at all. They may
+replace files that are there, but none that is read.
+
+Exit codes: 0 read back; 1 a search or the read-back refuses; 2 other words, or
+a file that cannot be used.
+
+Example:
+    bench read-back slot.txt table.bin rom.bin
+",
+    run,
+};
+
+/// More bytes than the flash of any board has: a plugin may declare some more, but what cannot be
+/// stored need not be read.
+const LARGEST_STORED: usize = 1 << 26;
+
+fn run(words: &[OsString]) -> Done {
+    let [file, table, chips @ ..] = words else {
+        return Err(Fault::Words);
+    };
+    let (file, table) = (Path::new(file), Path::new(table));
+    let slot = stored_slot(file)?;
+    let wanted = slot.lengths(0).len();
+    expect_files(file, "ROMs", wanted, chips)?;
+    let chips: Vec<&Path> = chips.iter().map(Path::new).collect();
+    keep_apart(&[file, table], &chips)?;
+    let roms = unscramble_slot(&slot, &stored_bytes(table, &slot)?)?;
+    write(&slot, &chips, &roms)?;
+    Ok(ExitCode::SUCCESS)
+}
+
+/// A file's text: the slot itself, or what it is found from.
+enum Told {
+    Slot(StoredSlot),
+    Described(Box<Description>),
+}
+
+fn told(text: &str) -> Result<Told, TextError> {
+    if text::is_slot(text) {
+        return text::read_slot(text).map(Told::Slot);
+    }
+    text::read(text).map(Box::new).map(Told::Described)
+}
+
+fn stored_slot(file: &Path) -> Result<StoredSlot, Fault> {
+    Ok(match text_of(file, told)? {
+        Told::Slot(slot) => slot,
+        Told::Described(slot) => found_slot(&slot)?,
+    })
+}
+
+fn found_slot(slot: &Description) -> Result<StoredSlot, Refusal> {
+    let (addr, cs_data) = laid_out(&slot.to_bytes())?;
+    Ok(StoredSlot::of_layouts(slot, &addr, &cs_data))
+}
+
+/// The bytes that are stored: one more than declared at most, by which the library can tell that
+/// the file is longer.
+fn stored_bytes(table: &Path, slot: &StoredSlot) -> Result<Vec<u8>, Fault> {
+    let declared = slot.size as usize;
+    let bytes = bytes_up_to(table, declared.min(LARGEST_STORED) + 1)?;
+    if bytes.len() > LARGEST_STORED && declared > LARGEST_STORED {
+        let why = format!("expected at most {LARGEST_STORED} bytes, more than any board stores");
+        return Err(Fault::of_file(table, why));
+    }
+    Ok(bytes)
+}
+
+/// No ROM's file takes the place of one that is read, nor of another ROM's.
+fn keep_apart(read: &[&Path], chips: &[&Path]) -> Result<(), Fault> {
+    for (number, &chip) in chips
+        .iter()
+        .enumerate()
+        .filter(|(_, chip)| is_written(chip))
+    {
+        keep(read, "ROM", chip)?;
+        let mut before = chips[..number].iter().filter(|chip| is_written(chip));
+        if before.any(|one| is_same(one, chip)) {
+            return Err(Fault::of_file(chip, "expected another file for each ROM"));
+        }
+    }
+    Ok(())
+}
+
+fn is_written(chip: &Path) -> bool {
+    chip != Path::new(NO_FILE)
+}
+
+fn write(slot: &StoredSlot, chips: &[&Path], roms: &[Vec<u8>]) -> Result<(), Fault> {
+    let outputs = || chips.iter().copied().zip(roms.iter().map(|rom| &rom[..]));
+    let written: Vec<Output> = outputs().filter(|(chip, _)| is_written(chip)).collect();
+    write_whole(&written)?;
+    for (number, (chip, rom)) in outputs().enumerate() {
+        let what = match slot.kind.is_plugin() {
+            true => "plugin".into(),
+            false => format!("ROM {number}"),
+        };
+        let left_out = if is_written(chip) {
+            ""
+        } else {
+            ", not written"
+        };
+        let (name, length) = (chip.display(), rom.len());
+        say(&format!("{name}: {what}, {length} bytes{left_out}\n"));
+    }
+    Ok(())
+}

@@ -1,0 +1,107 @@
+//! The sample: run through from its description to a table that reads back, and `bench sample`, which
+//! writes its files.
+
+use std::ffi::OsString;
+use std::path::Path;
+use std::process::ExitCode;
+
+use onerom_bench::{Description, text};
+
+use super::Command;
+use super::layout::print_layouts;
+use super::verify::verified;
+use crate::SAMPLE;
+use crate::ending::{Done, Fault, say};
+use crate::outputs::write_new;
+
+/// What the program does without a command.
+pub const SUMMARY: &str = "Runs the sample, a 2764, to a table that reads back";
+
+pub const SAMPLE_FILES: Command = Command {
+    name: "sample",
+    words: "[FOLDER]",
+    summary: "Writes the sample's files, to try the commands on",
+    help: "\
+Reads no file. Writes 2764.txt, the sample's description, and 2764.bin, its
+ROM's 8192 bytes, to FOLDER or else to the folder that it runs in. The byte at
+an address is the address's low byte plus 31 times its high byte, modulo 256. No
+file is replaced: where one of the two is there already, none is written.
+
+Exit codes: 0 written; 2 other words, or a file that cannot be written.
+
+Example:
+    bench sample
+",
+    run,
+};
+
+const DESCRIPTION: &str = "2764.txt";
+const ROM: &str = "2764.bin";
+const ROM_BYTES: u32 = 8192;
+
+/// No two address lines count for the same, so that lines which change places show.
+fn rom_byte(address: u32) -> u8 {
+    (address & 0xff).wrapping_add(31 * (address >> 8)) as u8
+}
+
+fn rom_bytes() -> Vec<u8> {
+    (0..ROM_BYTES).map(rom_byte).collect()
+}
+
+fn sample() -> Result<Description, Fault> {
+    text::read(SAMPLE).map_err(|why| Fault::File(format!("sample, {why}")))
+}
+
+/// Lays the sample out, builds its table and reads that back.
+pub fn run_through() -> Done {
+    let slot = sample()?;
+    print_layouts(&slot)?;
+    let rom = rom_bytes();
+    let verified = verified(&slot, &[Some(&rom)])?;
+    say(&format!("\ntable of {} bytes\n", verified.table_bytes));
+    say(&format!("{verified}\n"));
+    Ok(ExitCode::SUCCESS)
+}
+
+fn run(words: &[OsString]) -> Done {
+    let folder = match words {
+        [] => Path::new(""),
+        [folder] => Path::new(folder),
+        _ => return Err(Fault::Words),
+    };
+    let [description, rom] = [DESCRIPTION, ROM].map(|name| folder.join(name));
+    write_new(&[(&description, SAMPLE.as_bytes()), (&rom, &rom_bytes())])?;
+    let (text, bytes) = (description.display(), rom.display());
+    say(&format!(
+        "{text}: description of a 2764 on a 28-pin board\n"
+    ));
+    say(&format!("{bytes}: its ROM, {ROM_BYTES} bytes\n"));
+    say(&next_commands(folder));
+    Ok(ExitCode::SUCCESS)
+}
+
+/// What can be typed then.
+fn next_commands(folder: &Path) -> String {
+    let file = |name: &str| quoted(&folder.join(name));
+    let [description, rom] = [DESCRIPTION, ROM].map(file);
+    let [slot, table, back] = ["slot.txt", "table.bin", "back.bin"].map(file);
+    format!(
+        "
+next:
+    bench layout {description} {slot}
+    bench build {description} {table} {rom}
+    bench read-back {slot} {table} {back}
+    bench verify {description} {rom}
+"
+    )
+}
+
+/// A name as a shell takes it.
+fn quoted(file: &Path) -> String {
+    let name = file.to_string_lossy();
+    let is_plain = |letter: char| letter.is_ascii_alphanumeric() || "/._-".contains(letter);
+    match name.chars().all(is_plain) {
+        true => name.into(),
+        false => format!("'{}'", name.replace('\'', r"'\''")),
+    }
+}

@@ -1,0 +1,71 @@
+//! What the program says, and how it ends.
+
+use std::io::{self, Write};
+use std::path::Path;
+use std::process::ExitCode;
+
+use onerom_bench::Refusal;
+
+/// Words that are no command, or a file that cannot be used.
+const UNREAD: u8 = 2;
+
+/// Why a command did not do what was asked.
+pub enum Fault {
+    /// Its words are others.
+    Words,
+    /// A file that cannot be used: its name and why.
+    File(String),
+    Refused(Refusal),
+    /// What comes out is not what was expected.
+    Different(String),
+}
+
+impl Fault {
+    pub fn of_file(file: &Path, why: impl std::fmt::Display) -> Self {
+        Self::File(format!("{}: {why}", file.display()))
+    }
+}
+
+impl From<Refusal> for Fault {
+    fn from(refusal: Refusal) -> Self {
+        Self::Refused(refusal)
+    }
+}
+
+/// What a command comes to.
+pub type Done = Result<ExitCode, Fault>;
+
+/// The exit code of a command whose words are these. A refusal and a difference are answers, and
+/// go to the standard output.
+pub fn ended(done: Done, usage: &str) -> ExitCode {
+    match done {
+        Ok(code) => code,
+        Err(Fault::Words) => unread(usage),
+        Err(Fault::File(why)) => unread(&why),
+        Err(Fault::Refused(refusal)) => failed(&format!("{} refused: {refusal}", refusal.call)),
+        Err(Fault::Different(what)) => failed(&what),
+    }
+}
+
+/// Says why there is nothing to be done.
+pub fn unread(why: &str) -> ExitCode {
+    // With no one to read it the exit code says enough.
+    let _ = io::stderr().write_all(format!("{why}\n").as_bytes());
+    ExitCode::from(UNREAD)
+}
+
+fn failed(why: &str) -> ExitCode {
+    say(&format!("{why}\n"));
+    ExitCode::FAILURE
+}
+
+/// Writes to the standard output. A reader who has gone away is no fault.
+pub fn say(text: &str) {
+    let _ = io::stdout().write_all(text.as_bytes());
+}
+
+/// A number of things: `1 chip`, `2 chips`.
+pub fn counted(number: usize, thing: &str) -> String {
+    let plural = if number == 1 { "" } else { "s" };
+    format!("{number} {thing}{plural}")
+}

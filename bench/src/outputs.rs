@@ -1,0 +1,115 @@
+//! The files that the commands write.
+
+use std::fs::{self, File};
+use std::io::{self, ErrorKind, Write};
+use std::path::{Path, PathBuf};
+use std::process;
+
+use crate::ending::Fault;
+
+/// A file and what is to stand in it.
+pub type Output<'a> = (&'a Path, &'a [u8]);
+
+/// Puts the bytes under the files' names once they are all written, so that no one finds a part of
+/// a file there, nor one of several alone where another cannot be written. What is no plain file,
+/// such as a device, is not replaced.
+pub fn write_whole(outputs: &[Output]) -> Result<(), Fault> {
+    let part = |&(file, bytes): &Output<'_>| {
+        let part = Part::write(file, bytes);
+        part.map_err(|why| Fault::of_file(file, why))
+    };
+    // All of them before the first is put in place.
+    let parts: Vec<(Part, &Output)> = outputs
+        .iter()
+        .map(|output| Ok((part(output)?, output)))
+        .collect::<Result<_, Fault>>()?;
+    for (part, (file, _)) in &parts {
+        fs::rename(&part.0, file).map_err(|why| Fault::of_file(file, why))?;
+    }
+    Ok(())
+}
+
+/// A file under a name that it has only until it is whole.
+struct Part(PathBuf);
+
+impl Part {
+    fn write(file: &Path, bytes: &[u8]) -> io::Result<Self> {
+        if file.exists() && !file.is_file() {
+            return Err(io::Error::other("is no plain file"));
+        }
+        let name = part_of(file);
+        let mut new = File::create_new(&name)?;
+        let part = Self(name);
+        new.write_all(bytes)?;
+        Ok(part)
+    }
+}
+
+impl Drop for Part {
+    /// One that was put in place is there no more.
+    fn drop(&mut self) {
+        let _ = fs::remove_file(&self.0);
+    }
+}
+
+/// A name beside the file's that no other run takes.
+fn part_of(file: &Path) -> PathBuf {
+    let mut name = file.as_os_str().to_owned();
+    name.push(format!(".{}.part", process::id()));
+    PathBuf::from(name)
+}
+
+/// Tells a file that would be lost: one that is read cannot be written too.
+pub fn keep(read: &[&Path], what: &str, file: &Path) -> Result<(), Fault> {
+    if read.iter().any(|one| is_same(one, file)) {
+        let why = format!("the {what} would replace a file that it is made from");
+        return Err(Fault::of_file(file, why));
+    }
+    Ok(())
+}
+
+/// Whether two names are of one file, which need not be there yet.
+pub fn is_same(one: &Path, other: &Path) -> bool {
+    match (place(one), place(other)) {
+        (Some(one), Some(other)) => one == other,
+        _ => false,
+    }
+}
+
+/// The file's only name, if its folder is there.
+fn place(file: &Path) -> Option<PathBuf> {
+    if let Ok(place) = fs::canonicalize(file) {
+        return Some(place);
+    }
+    let folder = match file.parent()? {
+        folder if folder == Path::new("") => Path::new("."),
+        folder => folder,
+    };
+    Some(fs::canonicalize(folder).ok()?.join(file.file_name()?))
+}
+
+/// Writes files of which none is there yet, all of them or none.
+pub fn write_new(outputs: &[Output]) -> Result<(), Fault> {
+    let mut own = Vec::new();
+    for (file, bytes) in outputs {
+        let written = File::create_new(file).and_then(|mut new| {
+            own.push(file);
+            new.write_all(bytes)
+        });
+        if let Err(why) = written {
+            for file in own {
+                // The first fault is the one to tell.
+                let _ = fs::remove_file(file);
+            }
+            return Err(not_new(file, why));
+        }
+    }
+    Ok(())
+}
+
+fn not_new(file: &Path, why: io::Error) -> Fault {
+    match why.kind() {
+        ErrorKind::AlreadyExists => Fault::of_file(file, "is there already, and is not replaced"),
+        _ => Fault::of_file(file, why),
+    }
+}
