@@ -26,7 +26,7 @@ pub struct Command {
 }
 
 /// In the order in which the help has them.
-const COMMANDS: [&Command; 8] = [
+const COMMANDS: &[&Command] = &[
     &layout::LAYOUT,
     &build::BUILD,
     &read_back::READ_BACK,
@@ -104,7 +104,10 @@ pub fn run(words: &[OsString]) -> ExitCode {
 }
 
 fn find(name: &OsStr) -> Option<&'static Command> {
-    COMMANDS.into_iter().find(|command| name == command.name)
+    COMMANDS
+        .iter()
+        .copied()
+        .find(|command| name == command.name)
 }
 
 fn is_one(word: &OsStr, words: &[&str]) -> bool {

@@ -1,4 +1,5 @@
-//! The layouts as a person wants to see them.
+//! The layouts as a person wants to see them: for each a line that sums it up, and a table by GPIO.
+//! Whatever layout is handed in is shown.
 
 use std::collections::BTreeMap;
 use std::fmt::Write;
@@ -36,7 +37,8 @@ impl Roles {
     }
 }
 
-/// A row for each GPIO that the address PIO reads, and for each excess line outside of them.
+/// The address layout as a table: a row for each GPIO that the address PIO reads, and for each
+/// excess line outside of them, with the bit of the table's index that it is.
 pub fn addr_table(layout: &AddrLayout) -> String {
     let mut roles = Roles::default();
     for (line, &gpio) in layout.lines.iter().enumerate() {
@@ -57,7 +59,8 @@ pub fn addr_table(layout: &AddrLayout) -> String {
     roles.table("table bit", |gpio| layout.table_bit(gpio))
 }
 
-/// The table's size, and what it is held against.
+/// The address layout in a line, and an empty line to go before its table: base, pins, and the
+/// table's size, with the description's limit if that is passed.
 pub fn addr_summary(slot: &Description, layout: &AddrLayout) -> String {
     let (base, pins) = (layout.base, layout.pins);
     let mut text = format!("base GPIO {base}, {pins} pins, ");
@@ -74,8 +77,8 @@ pub fn addr_summary(slot: &Description, layout: &AddrLayout) -> String {
     text
 }
 
-/// A row for each GPIO of a line, for the one that is ignored among the selects, and for each
-/// qualifier.
+/// The select and data layout as a table: a row for each GPIO of a line, for the one that is ignored
+/// among the selects, and for each qualifier, with its number from the base on.
 pub fn cs_data_table(layout: &CsDataLayout) -> String {
     let mut roles = Roles::default();
     for (line, &gpio) in layout.data.iter().enumerate() {
@@ -96,7 +99,8 @@ pub fn cs_data_table(layout: &CsDataLayout) -> String {
     roles.table("base pin", |gpio| layout.base_pin(gpio))
 }
 
-/// Where data and selects begin, how many GPIOs they take, and what the select algorithm needs.
+/// The select and data layout in a line, and an empty line to go before its table: where data and
+/// selects begin, how many GPIOs they take, and what the select algorithm needs.
 pub fn cs_data_summary(layout: &CsDataLayout) -> String {
     let (data, first_data) = (layout.data.len(), layout.base_data_pin);
     let (selects, first_select) = (layout.cs_pins, layout.base_cs_pin);

@@ -265,9 +265,12 @@ fn words_that_are_no_text() {
     let other = OsStr::from_bytes(b"\xff\xfe");
     assert_eq!(bench(&[other]).status.code(), Some(2));
     for command in COMMANDS {
-        let told = bench(&[OsStr::new(command), other, other, other]);
-        assert_eq!(told.status.code(), Some(2), "{command}");
-        assert!(!told.stderr.is_empty() && told.stdout.is_empty());
+        for count in 1..=3 {
+            let words = [[OsStr::new(command)].as_slice(), &vec![other; count]].concat();
+            let told = bench(&words);
+            assert_eq!(told.status.code(), Some(2), "{command}");
+            assert!(!told.stderr.is_empty() && told.stdout.is_empty());
+        }
     }
 }
 

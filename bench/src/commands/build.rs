@@ -18,9 +18,10 @@ pub const BUILD: Command = Command {
     summary: "Builds the slot's table from a file for each chip",
     help: "\
 Reads FILE, a description, and a CHIP file for each of its chips, in order; `-`
-is a chip without bytes. A chip's file may be longer than the chip. Writes the
-table's bytes, and nothing else, to TABLE: when the table is built, whole or not
-at all. TABLE may replace a file that is there, but none that is read.
+is a chip without bytes. A chip's file may be longer than the chip; a shorter
+one is refused. Writes the table's bytes, and nothing else, to TABLE: when the
+table is built, whole or not at all. TABLE may replace a file that is there, but
+none that is read.
 
 Exit codes: 0 built; 1 a search or the build refuses; 2 other words, or a file
 that cannot be used.
