@@ -115,8 +115,7 @@ fn is_one(word: &OsStr, words: &[&str]) -> bool {
 }
 
 fn helped(text: &str) -> ExitCode {
-    say(text);
-    ExitCode::SUCCESS
+    ended(say(text).map(|()| ExitCode::SUCCESS), "")
 }
 
 fn unknown(name: &OsStr) -> ExitCode {

@@ -1,6 +1,6 @@
 //! What the program says, and how it ends.
 
-use std::io::{self, Write};
+use std::io::{self, ErrorKind, Write};
 use std::path::Path;
 use std::process::ExitCode;
 
@@ -55,13 +55,19 @@ pub fn unread(why: &str) -> ExitCode {
 }
 
 fn failed(why: &str) -> ExitCode {
-    say(&format!("{why}\n"));
+    // Where it cannot be said the exit code is an error's all the same.
+    let _ = say(&format!("{why}\n"));
     ExitCode::FAILURE
 }
 
 /// Writes to the standard output. A reader who has gone away is no fault.
-pub fn say(text: &str) {
-    let _ = io::stdout().write_all(text.as_bytes());
+pub fn say(text: &str) -> Result<(), Fault> {
+    match io::stdout().write_all(text.as_bytes()) {
+        Err(why) if why.kind() != ErrorKind::BrokenPipe => {
+            Err(Fault::File(format!("standard output: {why}")))
+        }
+        _ => Ok(()),
+    }
 }
 
 /// A number of things: `1 chip`, `2 chips`.

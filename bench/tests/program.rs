@@ -3,6 +3,7 @@
 mod slots;
 
 use std::ffi::OsStr;
+use std::fs::File;
 use std::io::pipe;
 use std::os::unix::ffi::OsStrExt;
 use std::path::PathBuf;
@@ -312,6 +313,18 @@ fn a_reader_who_has_gone_away_is_no_fault() {
         let program = program.args(words).stdout(no_reader()).stderr(no_reader());
         let status = program.status().expect("the program runs");
         assert_eq!(status.code(), Some(code));
+    }
+}
+
+#[test]
+fn an_output_that_is_full_is_a_fault() {
+    for words in [&[][..], &["help"]] {
+        let full = File::create("/dev/full").expect("a device");
+        let mut program = Command::new(env!("CARGO_BIN_EXE_bench"));
+        let told = program.args(words).stdout(full).output();
+        let told = told.expect("the program runs");
+        assert_eq!(told.status.code(), Some(2));
+        assert!(text(&told.stderr).starts_with("standard output: "));
     }
 }
 

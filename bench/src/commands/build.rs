@@ -48,7 +48,7 @@ fn run(words: &[OsString]) -> Done {
     let bytes = built(&inputs)?;
     write_whole(&[(table, &bytes)])?;
     let (name, length) = (table.display(), bytes.len());
-    say(&format!("{name}: table of {length} bytes\n"));
+    say(&format!("{name}: table of {length} bytes\n"))?;
     Ok(ExitCode::SUCCESS)
 }
 

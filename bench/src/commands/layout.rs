@@ -6,8 +6,8 @@ use std::path::Path;
 use std::process::ExitCode;
 
 use onerom_bench::{
-    AddrLayout, CsDataLayout, Description, Refusal, StoredSlot, derive_addr_layout,
-    derive_cs_data_layout, show, socket, text,
+    AddrLayout, CsDataLayout, Description, StoredSlot, derive_addr_layout, derive_cs_data_layout,
+    show, socket, text,
 };
 
 use super::Command;
@@ -50,21 +50,20 @@ fn lay_out_to(file: &Path, stored: &Path) -> Result<(), Fault> {
     let (addr, cs_data) = print_layouts(&slot)?;
     let text = text::write_slot(&StoredSlot::of_layouts(&slot, &addr, &cs_data));
     write_whole(&[(stored, text.as_bytes())])?;
-    say(&format!("\n{}: stored slot\n", stored.display()));
-    Ok(())
+    say(&format!("\n{}: stored slot\n", stored.display()))
 }
 
 /// Prints each layout as soon as it is found: an address layout without the other is of use too.
-pub fn print_layouts(slot: &Description) -> Result<(AddrLayout, CsDataLayout), Refusal> {
+pub fn print_layouts(slot: &Description) -> Result<(AddrLayout, CsDataLayout), Fault> {
     let record = slot.to_bytes();
     let addr = derive_addr_layout(&record)?;
-    say(&show::addr_summary(slot, &addr));
-    say(&show::addr_table(&addr));
-    say("\n");
+    say(&show::addr_summary(slot, &addr))?;
+    say(&show::addr_table(&addr))?;
+    say("\n")?;
     let cs_data = derive_cs_data_layout(&record, &addr.to_bytes())?;
-    say(&show::cs_data_summary(&cs_data));
-    say(&show::cs_data_table(&cs_data));
-    say("\n");
-    say(&socket::drawing(slot, &addr, &cs_data));
+    say(&show::cs_data_summary(&cs_data))?;
+    say(&show::cs_data_table(&cs_data))?;
+    say("\n")?;
+    say(&socket::drawing(slot, &addr, &cs_data))?;
     Ok((addr, cs_data))
 }

@@ -34,8 +34,8 @@ Example:
     run,
 };
 
-/// More bytes than the flash of any board has: a plugin may declare some more, but what cannot be
-/// stored need not be read.
+/// More bytes than the flash of any board has. A plugin can declare up to 4 GiB, but what no board
+/// stores need not be held in memory.
 const LARGEST_STORED: usize = 1 << 26;
 
 fn run(words: &[OsString]) -> Done {
@@ -92,11 +92,8 @@ fn stored_bytes(table: &Path, slot: &StoredSlot) -> Result<Vec<u8>, Fault> {
 
 /// No ROM's file takes the place of one that is read, nor of another ROM's.
 fn keep_apart(read: &[&Path], chips: &[&Path]) -> Result<(), Fault> {
-    for (number, &chip) in chips
-        .iter()
-        .enumerate()
-        .filter(|(_, chip)| is_written(chip))
-    {
+    let written = chips.iter().enumerate();
+    for (number, chip) in written.filter(|(_, chip)| is_written(chip)) {
         keep(read, "ROM", chip)?;
         let mut before = chips[..number].iter().filter(|chip| is_written(chip));
         if before.any(|one| is_same(one, chip)) {
@@ -115,9 +112,10 @@ fn write(slot: &StoredSlot, chips: &[&Path], roms: &[Vec<u8>]) -> Result<(), Fau
     let written: Vec<Output> = outputs().filter(|(chip, _)| is_written(chip)).collect();
     write_whole(&written)?;
     for (number, (chip, rom)) in outputs().enumerate() {
-        let what = match slot.kind.is_plugin() {
-            true => "plugin".into(),
-            false => format!("ROM {number}"),
+        let what = if slot.kind.is_plugin() {
+            "plugin".into()
+        } else {
+            format!("ROM {number}")
         };
         let left_out = if is_written(chip) {
             ""
@@ -125,7 +123,7 @@ fn write(slot: &StoredSlot, chips: &[&Path], roms: &[Vec<u8>]) -> Result<(), Fau
             ", not written"
         };
         let (name, length) = (chip.display(), rom.len());
-        say(&format!("{name}: {what}, {length} bytes{left_out}\n"));
+        say(&format!("{name}: {what}, {length} bytes{left_out}\n"))?;
     }
     Ok(())
 }

@@ -58,8 +58,8 @@ pub fn run_through() -> Done {
     print_layouts(&slot)?;
     let rom = rom_bytes();
     let verified = verified(&slot, &[Some(&rom)])?;
-    say(&format!("\ntable of {} bytes\n", verified.table_bytes));
-    say(&format!("{verified}\n"));
+    say(&format!("\ntable of {} bytes\n", verified.table_bytes))?;
+    say(&format!("{verified}\n"))?;
     Ok(ExitCode::SUCCESS)
 }
 
@@ -73,10 +73,9 @@ fn run(words: &[OsString]) -> Done {
     write_new(&[(&description, SAMPLE.as_bytes()), (&rom, &rom_bytes())])?;
     let (text, bytes) = (description.display(), rom.display());
     say(&format!(
-        "{text}: description of a 2764 on a 28-pin board\n"
-    ));
-    say(&format!("{bytes}: its ROM, {ROM_BYTES} bytes\n"));
-    say(&next_commands(folder));
+        "{text}: description of a 2764 on a 28-pin board\n{bytes}: its ROM, {ROM_BYTES} bytes\n"
+    ))?;
+    say(&next_commands(folder))?;
     Ok(ExitCode::SUCCESS)
 }
 
@@ -100,8 +99,9 @@ next:
 fn quoted(file: &Path) -> String {
     let name = file.to_string_lossy();
     let is_plain = |letter: char| letter.is_ascii_alphanumeric() || "/._-".contains(letter);
-    match name.chars().all(is_plain) {
-        true => name.into(),
-        false => format!("'{}'", name.replace('\'', r"'\''")),
+    if name.chars().all(is_plain) {
+        name.into()
+    } else {
+        format!("'{}'", name.replace('\'', r"'\''"))
     }
 }

@@ -46,7 +46,7 @@ fn run(words: &[OsString]) -> Done {
     }
     let inputs = Inputs::read(Path::new(file), chips)?;
     let verified = verified(&inputs.slot, &inputs.images())?;
-    say(&format!("{verified}\n"));
+    say(&format!("{verified}\n"))?;
     Ok(ExitCode::SUCCESS)
 }
 
