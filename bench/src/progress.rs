@@ -10,7 +10,7 @@ const PAUSE: Duration = Duration::from_millis(100);
 const WIDEST: usize = 79;
 
 /// A line on the standard error that says how far work has come. It is drawn over at each step, and
-/// cleared when this is dropped; before anything else is printed, that is. There is none where the
+/// cleared when this is dropped: do so before anything else is printed. There is none where the
 /// standard error is no terminal.
 pub struct Progress<W: Write = Stderr> {
     out: Option<W>,
