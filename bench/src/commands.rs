@@ -53,8 +53,7 @@ Start with `bench`, then `bench sample`, which writes files to go on with.
 
 impl Command {
     fn usage(&self) -> String {
-        let usage = format!("bench {} {}", self.name, self.words);
-        usage.trim_end().into()
+        format!("bench {} {}", self.name, self.words)
     }
 
     fn whole_help(&self) -> String {
@@ -70,12 +69,7 @@ impl Command {
 
     /// What is said of words that are not the command's.
     fn expected(&self, found: &[OsString]) -> String {
-        let name = self.name;
-        let expected = if self.words.is_empty() {
-            "no more words"
-        } else {
-            self.words
-        };
+        let (name, expected) = (self.name, self.words);
         let found = match found {
             [] => "nothing".into(),
             _ => format!("`{}`", found.join(OsStr::new(" ")).display()),

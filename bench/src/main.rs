@@ -7,7 +7,6 @@ mod ending;
 mod inputs;
 mod outputs;
 mod plain;
-#[allow(dead_code, reason = "for commands that run long")]
 mod progress;
 mod speed;
 

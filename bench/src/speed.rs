@@ -19,8 +19,10 @@ use oracle::answer::fitted;
 use oracle::engine::{Job, Told};
 use oracle::slot::ChipBytes;
 
-use crate::ending::{say, unread};
+use crate::ending::{Done, Fault, say};
+use crate::progress::Progress;
 use crate::{laid_out, plain};
+use report::Page;
 
 /// How often all inputs are gone through, and how often each is measured then. The best counts,
 /// since other work only ever adds time, and it seldom lasts for all rounds.
@@ -76,35 +78,41 @@ struct Table {
 
 /// Measures every call on every input, prints the tables and, if a file is named, puts them into
 /// it between the lines that say where they go.
-pub fn speed(file: Option<&Path>) -> ExitCode {
+pub fn speed(file: Option<&Path>) -> Done {
+    let page = file.map(Page::read).transpose()?;
     if cfg!(debug_assertions) {
-        return unread("bench speed measures release builds: cargo run --release -- speed");
+        let why = "bench speed measures release builds: cargo run --release -- speed";
+        return Err(Fault::Different(why.into()));
     }
     if oracle::original().is_none() {
-        say(&format!("{SKIPPED}\n"));
-        return ExitCode::SUCCESS;
+        say(&format!("{SKIPPED}\n"))?;
+        return Ok(ExitCode::SUCCESS);
     }
-    let mut tables = match tables() {
-        Ok(tables) => tables,
-        Err(name) => {
-            say(&format!("{name}: the answers differ\n"));
-            return ExitCode::FAILURE;
-        }
-    };
-    for _ in 0..ROUNDS {
-        let rows = tables.iter_mut().flat_map(|table| &mut table.rows);
-        rows.for_each(|row| row.rounds.push(measured(&row.pair)));
-    }
+    let mut tables = tables()?;
+    measure(&mut tables);
     let told = report::tables(&tables);
-    say(&told);
-    match file.map(|file| report::put(file, &told)) {
-        Some(Err(why)) => unread(&why),
-        _ => ExitCode::SUCCESS,
+    say(&told)?;
+    if let Some(page) = page {
+        page.put(&told)?;
+    }
+    Ok(ExitCode::SUCCESS)
+}
+
+fn measure(tables: &mut [Table]) {
+    let mut rows: Vec<&mut Row> = tables
+        .iter_mut()
+        .flat_map(|table| &mut table.rows)
+        .collect();
+    let steps = 1..=(ROUNDS * rows.len()) as u64;
+    let mut progress = Progress::new("measured", *steps.end());
+    for (place, step) in (0..rows.len()).cycle().zip(steps) {
+        let row = &mut rows[place];
+        row.rounds.push(measured(&row.pair));
+        progress.step(step);
     }
 }
 
-/// The name of an input on which the two do not agree, if there is one.
-fn tables() -> Result<Vec<Table>, &'static str> {
+fn tables() -> Result<Vec<Table>, Fault> {
     let (address, select) = (boards::of_address_search(), boards::of_select_search());
     Ok(vec![
         table("address search", SEARCHED, address, address_pair)?,
@@ -119,9 +127,10 @@ fn table(
     size: [&'static str; 2],
     inputs: Vec<Input>,
     pair: fn(&Description) -> Option<Pair>,
-) -> Result<Table, &'static str> {
-    let row = |input: Input| {
-        let pair = pair(&input.slot).ok_or(input.name)?;
+) -> Result<Table, Fault> {
+    let row = |input: Input| -> Result<Row, Fault> {
+        let differ = || Fault::Different(format!("{}: the answers differ", input.name));
+        let pair = pair(&input.slot).ok_or_else(differ)?;
         let rounds = Vec::new();
         Ok(Row {
             input,

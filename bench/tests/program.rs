@@ -186,9 +186,9 @@ fn no_file_and_no_command() {
 
 #[test]
 fn words_that_are_too_many_are_told() {
-    let told = bench(&["speed", "now"]);
+    let told = bench(&["speed", "a", "b"]);
     assert_eq!(told.status.code(), Some(2));
-    let said = "bench speed: expected no more words, found `now`; `bench speed --help` says more\n";
+    let said = "bench speed: expected [FILE], found `a b`; `bench speed --help` says more\n";
     assert_eq!(text(&told.stderr), said);
     for words in [
         &["layout", "a", "b", "c"][..],
@@ -334,4 +334,15 @@ fn a_short_comparison() {
     assert_eq!(told.status.code(), Some(0), "{}", text(&told.stdout));
     let told = bench(&["compare-large", "1", "3"]);
     assert_eq!(told.status.code(), Some(0), "{}", text(&told.stdout));
+}
+
+#[test]
+fn tables_of_the_clock_go_between_two_lines() {
+    let file = PathBuf::from(env!("CARGO_TARGET_TMPDIR")).join("page.md");
+    std::fs::write(&file, "a page\n").expect("the file is written");
+    let told = bench(&["speed", file.to_str().expect("a plain name")]);
+    assert_eq!(told.status.code(), Some(2));
+    let said = "page.md: expected the lines `<!-- measured -->` and \
+        `<!-- end of what is measured -->`, between which tables go\n";
+    assert!(text(&told.stderr).ends_with(said));
 }

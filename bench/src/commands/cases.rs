@@ -1,6 +1,7 @@
 //! `bench compare`, `bench compare-large` and `bench speed`: the library beside the original.
 
 use std::ffi::{OsStr, OsString};
+use std::path::Path;
 use std::process::ExitCode;
 
 use super::Command;
@@ -46,19 +47,22 @@ Example, a dozen seconds:
 
 pub const SPEED: Command = Command {
     name: "speed",
-    words: "",
+    words: "[FILE]",
     summary: "Measures the library and the original",
     help: "\
-Reads no file, and writes a table for each call to the standard output. It
-takes a release build. Without the original's files it says so and succeeds.
+Writes a table for each call to the standard output and, if FILE is given, into
+FILE between the two lines of docs/PERFORMANCE.md that say where the tables go.
+It takes a release build. Without the original's files it says so and succeeds.
 
-Exit codes: 0 measured; 1 the two disagree, or no release build; 2 other words.
+Exit codes: 0 measured; 1 the two disagree, or no release build; 2 other words,
+or a file that cannot be used.
 
-Example:
-    bench speed
+Example, a minute or two:
+    bench speed docs/PERFORMANCE.md
 ",
     run: |words| match words {
-        [] => Ok(speed(None)),
+        [] => speed(None),
+        [file] => speed(Some(Path::new(file))),
         _ => Err(Fault::Words),
     },
 };

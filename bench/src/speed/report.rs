@@ -1,10 +1,12 @@
 //! What was measured, as tables of docs/PERFORMANCE.md.
 
-use std::fs;
 use std::path::Path;
 use std::time::Duration;
 
 use super::{Row, Table, Times};
+use crate::ending::Fault;
+use crate::inputs::text_of;
+use crate::outputs::write_whole;
 
 /// Between these lines of a file the tables go.
 const FIRST: &str = "<!-- measured -->";
@@ -57,18 +59,33 @@ fn shown(time: Duration) -> String {
     }
 }
 
-/// Puts the tables into a file, in the place of those that stand there.
-pub fn put(file: &Path, tables: &str) -> Result<(), String> {
-    let name = file.display();
-    let text = fs::read_to_string(file).map_err(|why| format!("{name}: {why}"))?;
-    let new = replaced(&text, tables).ok_or_else(|| {
-        format!("{name}: expected the lines `{FIRST}` and `{LAST}`, between which the tables go")
-    })?;
-    fs::write(file, new).map_err(|why| format!("{name}: {why}"))
+/// A file that tables go into, by what stands before and after them.
+pub struct Page<'a> {
+    file: &'a Path,
+    before: String,
+    after: String,
 }
 
-fn replaced(text: &str, tables: &str) -> Option<String> {
-    let (before, rest) = text.split_once(&format!("{FIRST}\n"))?;
-    let (_, after) = rest.split_once(LAST)?;
-    Some(format!("{before}{FIRST}\n\n{tables}\n{LAST}{after}"))
+impl<'a> Page<'a> {
+    pub fn read(file: &'a Path) -> Result<Self, Fault> {
+        let text = text_of(file, |text| Ok(text.to_string()))?;
+        let rest = text.split_once(FIRST);
+        let parts = rest.and_then(|(before, rest)| Some((before, rest.split_once(LAST)?.1)));
+        let (before, after) = parts.ok_or_else(|| {
+            let why = format!("expected the lines `{FIRST}` and `{LAST}`, between which tables go");
+            Fault::of_file(file, why)
+        })?;
+        Ok(Self {
+            file,
+            before: before.into(),
+            after: after.into(),
+        })
+    }
+
+    /// Puts the tables in the place of those that stand there.
+    pub fn put(&self, tables: &str) -> Result<(), Fault> {
+        let (before, after) = (&self.before, &self.after);
+        let text = format!("{before}{FIRST}\n\n{tables}\n{LAST}{after}");
+        write_whole(&[(self.file, text.as_bytes())])
+    }
 }

@@ -3,8 +3,8 @@
 use super::TextError;
 use super::facts::{Draft, Told, add_part, missing};
 use super::words::{NO_NUMBERS, OVERRIDES, SLOT_KINDS, Words};
-use crate::bytes::NONE;
 use crate::description::Candidates;
+use crate::interface::values::GPIO_NONE;
 use crate::slot::{Layout, MOST_LINES, MOST_OVERRIDES, Map, Rom, SlotKind, StoredSlot};
 
 const LINES: &str = "slot, size, address, data, dma, bit-mode, select, override, x1, x2 or rom";
@@ -199,7 +199,7 @@ fn named(words: &mut Words, name: &str) -> Result<u8, TextError> {
 
 /// A list is any bytes: what stands behind a 255 goes to the library too.
 fn gpios(words: &mut Words) -> Result<List, TextError> {
-    let mut list = [NONE; MOST_LINES];
+    let mut list = [GPIO_NONE; MOST_LINES];
     if !words.takes(NO_NUMBERS) {
         let told = words.bytes("a GPIO", 0..=u8::MAX, MOST_LINES)?;
         list[..told.len()].copy_from_slice(&told);

@@ -1,8 +1,8 @@
 //! A stored slot's lines.
 
 use super::words::{NO_NUMBERS, OVERRIDES, SLOT_KINDS};
-use crate::bytes::NONE;
 use crate::description::Candidates;
+use crate::interface::values::GPIO_NONE;
 use crate::slot::{Layout, MOST_LINES, Rom, SlotKind, StoredSlot};
 
 /// GPIO of an override, below its kind.
@@ -87,7 +87,7 @@ fn rom(rom: &Rom) -> Vec<String> {
 
 /// All that stands before the last run of 255.
 fn gpios(list: &[u8; MOST_LINES]) -> String {
-    let last = list.iter().rposition(|&gpio| gpio != NONE);
+    let last = list.iter().rposition(|&gpio| gpio != GPIO_NONE);
     match last {
         Some(last) => {
             let words: Vec<String> = list[..=last].iter().map(u8::to_string).collect();
