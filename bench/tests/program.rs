@@ -346,3 +346,19 @@ fn tables_of_the_clock_go_between_two_lines() {
         `<!-- end of what is measured -->`, between which tables go\n";
     assert!(text(&told.stderr).ends_with(said));
 }
+
+#[test]
+fn the_first_page_shows_what_the_sample_prints() {
+    let page = include_str!("../../README.md");
+    let (_, shown) = page.split_once("```text\n").expect("a block of text");
+    let (shown, _) = shown.split_once("```").expect("its end");
+    let told = text(&alone().stdout);
+    let mut rest = &told[..];
+    // Lines that are left out stand as `..`.
+    for part in shown.split("..\n") {
+        let at = rest.find(part).unwrap_or_else(|| panic!("{part}"));
+        rest = &rest[at + part.len()..];
+    }
+    assert_eq!(rest, "");
+    assert!(told.starts_with(shown.split("..\n").next().expect("a part")));
+}
