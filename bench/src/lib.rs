@@ -5,13 +5,15 @@
 //! drawing.
 //!
 //! Nothing here judges a description or a slot: whatever is handed in goes to the library, which
-//! answers with a layout, a table, the ROMs' bytes or a numbered refusal.
+//! answers with a layout, a table, the ROMs' bytes or a numbered refusal. `fence` has buffers for
+//! trying that it touches nothing else.
 
 #![warn(missing_docs)]
 
 mod bytes;
 mod call;
 pub mod description;
+pub mod fence;
 pub mod images;
 pub mod interface;
 pub mod layout;
