@@ -10,7 +10,7 @@ use crate::slot::{BANKED_ROM, ChipBytes, MULTI_ROM, Rom, SINGLE_ROM, Slot};
 
 pub fn answer(engine: &dyn Engine, case: &Case) -> String {
     match case {
-        Case::Chain(record, images) => chain_line(engine, record, images),
+        Case::Chain(record, images) => Chain::of(engine, record, images).line(),
         _ => line(case.kind(), fields(engine, case)),
     }
 }
@@ -149,26 +149,45 @@ pub fn checksum(bytes: &[u8]) -> u64 {
     })
 }
 
-fn chain_line(engine: &dyn Engine, record: &Record, images: &[ChipBytes; 4]) -> String {
-    let mut stage = 1;
-    match chain(engine, record, images, &mut stage) {
-        Ok(fields) => {
-            let mut numbers = vec![9, 0, 0, stage];
-            numbers.extend(fields);
-            line_of(&numbers)
+/// Both searches, the build and the read-back in turn, each on what the one before it found.
+pub struct Chain {
+    /// Which of them answered: 1 to 4.
+    pub stage: u64,
+    /// As soon as it is built.
+    pub table: Option<Vec<u8>>,
+    /// Base and pins of the address layout, and what was read back.
+    pub told: Told<([u8; 2], Recovered)>,
+}
+
+impl Chain {
+    pub fn of(engine: &dyn Engine, record: &Record, images: &[ChipBytes; 4]) -> Self {
+        let (mut stage, mut table) = (1, None);
+        let told = chain(engine, record, images, &mut stage, &mut table);
+        Self { stage, table, told }
+    }
+
+    pub fn line(&self) -> String {
+        match &self.told {
+            Ok((window, found)) => {
+                let mut numbers = vec![9, 0, 0, self.stage];
+                numbers.extend(window.map(u64::from));
+                numbers.extend(self.table.iter().flat_map(|table| table_fields(table)));
+                numbers.extend(recovered_fields(found));
+                line_of(&numbers)
+            }
+            &Err(Failure::Refused { number, place }) => line_of(&[9, number, place, self.stage]),
+            Err(Failure::Panic) => format!("9 panic {}", self.stage),
         }
-        Err(Failure::Refused { number, place }) => line_of(&[9, number, place, stage]),
-        Err(Failure::Panic) => format!("9 panic {stage}"),
     }
 }
 
-/// Both searches, the build and the read-back in turn, each on what the one before it found.
 fn chain(
     engine: &dyn Engine,
     record: &Record,
     images: &[ChipBytes; 4],
     stage: &mut u64,
-) -> Told<Vec<u64>> {
+    built: &mut Option<Vec<u8>>,
+) -> Told<([u8; 2], Recovered)> {
     let slot = described(record)?;
     let address = address_search(engine, &slot)?;
     *stage = 2;
@@ -180,17 +199,14 @@ fn chain(
         images,
         table_length: usize::MAX,
     };
-    let table = engine.build(&slot, &job)?;
+    let table = built.insert(engine.build(&slot, &job)?);
     *stage = 4;
     let lent = Lent {
         output: usize::MAX,
         marks: usize::MAX,
     };
-    let found = engine.read_back(&fitted(&slot, &address, &select, table.len()), &table, lent)?;
-    let mut fields = vec![u64::from(address.base), u64::from(address.pins)];
-    fields.extend(table_fields(&table));
-    fields.extend(recovered_fields(&found));
-    Ok(fields)
+    let found = engine.read_back(&fitted(&slot, &address, &select, table.len()), table, lent)?;
+    Ok(([address.base, address.pins], found))
 }
 
 /// The slot record under which a table built from found layouts is read back.

@@ -63,6 +63,18 @@ pub fn original() -> Option<&'static dyn Engine> {
     None
 }
 
+/// Whether the original's arithmetic faults on overflow in this build. Where it does not, a wrapped
+/// number passes for an answer, and the original is no judge. Ask after `quiet_panics`.
+#[cfg(original)]
+pub fn checks_overflow() -> bool {
+    original::checks_overflow()
+}
+
+#[cfg(not(original))]
+pub fn checks_overflow() -> bool {
+    false
+}
+
 /// The original's address search with its records made beforehand, so that a clock sees the
 /// search alone.
 #[cfg(original)]

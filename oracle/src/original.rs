@@ -1,6 +1,7 @@
 //! The original behind the engine's calls: cases become its records, its answers plain numbers.
 
 use std::cell::Cell;
+use std::hint::black_box;
 use std::panic::{AssertUnwindSafe, catch_unwind};
 
 use onerom_config::chip::{ChipType, ControlLine};
@@ -73,6 +74,11 @@ fn told<T>(call: impl FnOnce() -> Told<T>) -> Told<T> {
     let answer = catch_unwind(AssertUnwindSafe(call)).unwrap_or(Err(Failure::Panic));
     IN_ORIGINAL.set(false);
     answer
+}
+
+/// Whether this build faults on overflow, as the original's answers need.
+pub fn checks_overflow() -> bool {
+    told(|| Ok(black_box(u8::MAX) + black_box(1))).is_err()
 }
 
 fn refusal(number: u64, place: u64) -> Failure {
