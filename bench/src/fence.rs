@@ -35,10 +35,12 @@ unsafe extern "C" {
     fn munmap(start: *mut c_void, length: usize) -> c_int;
 }
 
-/// Which guard page bytes stand against: the one before their start, or the one past their end.
+/// Which guard page bytes stand against.
 #[derive(Debug, Clone, Copy, PartialEq, Eq)]
 pub enum Side {
+    /// The one before their start: a byte before them is a fault.
     Lower,
+    /// The one past their end: a byte past them is a fault.
     Upper,
 }
 

@@ -1,17 +1,14 @@
-//! The calls of the library, each with what a case of its kind hands in.
+//! What sets the calls of the library apart, each with what a case of its kind hands in.
 
-use onerom_bench::layout::{addr, cs_data};
-use onerom_bench::{AddrLayout, CsDataLayout, derive_addr_layout_into, derive_cs_data_layout_into};
-use oracle::answer::{answer, build, line, read_back, recovered_fields, table_fields};
-use oracle::case::{Case, Record};
+use oracle::answer::{Chain, answer, build, line, read_back, recovered_fields, table_fields};
+use oracle::case::Case;
 use oracle::engine::{Engine, Told};
 use oracle::random::Random;
 
-use super::records::{ADDR_KEPT, address_layout, damage_description, damage_record, in_turn};
-use crate::plain;
+use super::{PLACES, SHORT_BUFFER};
 
-/// An answer as a line of docs/CASES.md, and the bytes behind a checksum in it: a table's, or those
-/// of all ROMs. None where there are no such bytes.
+/// An answer as a line of docs/CASES.md, and the bytes behind a checksum in it: a table's, those of
+/// all ROMs, or both. None where there are no such bytes.
 #[derive(PartialEq, Eq)]
 pub struct Answer {
     pub line: String,
@@ -31,6 +28,7 @@ impl Answer {
                 let told = found.map(|found| (recovered_fields(&found), found.roms.concat()));
                 Self::with_bytes(case, told)
             }
+            Case::Chain(record, images) => Self::of_chain(&Chain::of(engine, record, images)),
             _ => Self {
                 line: answer(engine, case),
                 bytes: Vec::new(),
@@ -38,7 +36,7 @@ impl Answer {
         }
     }
 
-    fn with_bytes(case: &Case, told: Told<(Vec<u64>, Vec<u8>)>) -> Self {
+    fn with_bytes(case: &Case, told: Told<Wrote>) -> Self {
         let (fields, bytes) = match told {
             Ok((fields, bytes)) => (Ok(fields), bytes),
             Err(failure) => (Err(failure), Vec::new()),
@@ -48,27 +46,61 @@ impl Answer {
             bytes,
         }
     }
+
+    /// A table that is built stays, whatever the read-back says.
+    fn of_chain(chain: &Chain) -> Self {
+        let roms = chain.told.iter().flat_map(|(_, found)| &found.roms);
+        let parts: Vec<&[u8]> = chain.table.iter().chain(roms).map(Vec::as_slice).collect();
+        Self {
+            line: chain.line(),
+            bytes: parts.concat(),
+        }
+    }
 }
 
-/// A call that is lent so many buffers.
-pub trait Call<const BUFFERS: usize>: Sized {
+/// The fields of an answer, and the bytes of which they have no more than a checksum.
+pub type Wrote = (Vec<u64>, Vec<u8>);
+
+/// A record that is handed in.
+pub struct Part<'a> {
+    pub record: &'a mut Vec<u8>,
+    /// How long it has to be.
+    pub length: usize,
+    /// The places at its front that decide most.
+    pub head: usize,
+}
+
+/// A call that reads so many slices and is lent so many.
+pub trait Call<const READ: usize, const LENT: usize>: Clone {
     const NAME: &'static str;
     /// Among the kinds of cases.
     const KIND: u64;
+    /// What follows number and place where bytes are no record.
+    const NO_RECORD: &'static [u64] = &[];
 
     /// What a case hands in; none of another kind.
     fn of(case: &Case) -> Option<Self>;
 
-    /// The same with one byte wrong, and the case that hands that in; none if no case can, and then
-    /// docs/INTERFACE.md says 1.
-    fn damaged(self, random: &mut Random) -> (Self, Option<Case>);
+    /// Puts in order what a case could not say beside a wrong record.
+    fn make_ready(&mut self, _random: &mut Random) {}
+
+    /// Puts one byte wrong.
+    fn damage(&mut self, random: &mut Random);
+
+    fn records(&mut self) -> Vec<Part<'_>>;
+
+    /// The case that hands this in; none if no case can, and then docs/INTERFACE.md says 1.
+    fn case(&self) -> Option<Case>;
+
+    /// The slices that are read.
+    fn read(&self) -> [&[u8]; READ];
 
     /// How many bytes a success writes to each buffer.
-    fn lengths(&self) -> [usize; BUFFERS];
+    fn lengths(&self) -> [usize; LENT];
 
-    /// How many are lent for them: more, so that the others show what else is written.
-    fn lent(&self) -> [usize; BUFFERS] {
-        self.lengths().map(|length| length + 4)
+    /// How many are lent for them, some to spare if the case does not say.
+    fn lent(&self, lengths: [usize; LENT], spare: usize) -> [usize; LENT] {
+        lengths.map(|length| length + spare)
     }
 
     /// Whether a refusal of this number leaves 0 where a success writes; the others write nothing.
@@ -76,123 +108,40 @@ pub trait Call<const BUFFERS: usize>: Sized {
         false
     }
 
-    fn call(&self, lent: [&mut [u8]; BUFFERS]) -> u64;
-
-    /// What a success wrote in the order of docs/CASES.md; none if anything else stands in it.
-    fn numbers(&self, written: [&[u8]; BUFFERS]) -> Option<Vec<u64>>;
-
-    /// What a success wrote, if the numbers have no more of it than a checksum.
-    fn compared(_written: [&[u8]; BUFFERS]) -> Vec<u8> {
-        Vec::new()
-    }
-
-    /// The records handed in, end to end.
-    fn bytes(&self) -> Vec<u8>;
-}
-
-pub struct AddressSearch {
-    description: Record,
-}
-
-impl Call<1> for AddressSearch {
-    const NAME: &'static str = "address search";
-    const KIND: u64 = 5;
-
-    fn of(case: &Case) -> Option<Self> {
-        let Case::AddressSearch(description) = case else {
-            return None;
-        };
-        Some(Self {
-            description: description.clone(),
-        })
-    }
-
-    fn damaged(mut self, random: &mut Random) -> (Self, Option<Case>) {
-        damage_description(&mut self.description[..], random);
-        let case = Case::AddressSearch(self.description.clone());
-        (self, Some(case))
-    }
-
-    fn lengths(&self) -> [usize; 1] {
-        [addr::LENGTH]
-    }
-
-    fn call(&self, [layout]: [&mut [u8]; 1]) -> u64 {
-        derive_addr_layout_into(&self.description[..], layout)
-    }
-
-    fn numbers(&self, [record]: [&[u8]; 1]) -> Option<Vec<u64>> {
-        let layout = AddrLayout::read(record.try_into().ok()?);
-        let numbers = plain::address(layout).fields();
-        let kept = ADDR_KEPT.iter().all(|&place| record[place] == 0);
-        let same = in_turn(&[&record[..6], &record[8..32]]).eq(numbers.iter().copied());
-        (kept && same).then_some(numbers)
-    }
-
-    fn bytes(&self) -> Vec<u8> {
-        self.description.to_vec()
-    }
-}
-
-pub struct SelectSearch {
-    description: Record,
-    /// No bytes: none is given.
-    addr_layout: Vec<u8>,
-}
-
-impl SelectSearch {
-    fn case(&self) -> Option<Case> {
-        let layout = if self.addr_layout.is_empty() {
-            None
+    /// How many bytes of each buffer a result leaves written.
+    fn reach(lengths: [usize; LENT], result: u64) -> [usize; LENT] {
+        if result == 0 || Self::clears(result >> PLACES) {
+            lengths
         } else {
-            Some(address_layout(&self.addr_layout)?)
-        };
-        Some(Case::SelectSearch(self.description.clone(), layout))
-    }
-}
-
-impl Call<1> for SelectSearch {
-    const NAME: &'static str = "select search";
-    const KIND: u64 = 6;
-
-    fn of(case: &Case) -> Option<Self> {
-        let Case::SelectSearch(description, layout) = case else {
-            return None;
-        };
-        let record = |layout| plain::to_address(layout).to_bytes().to_vec();
-        Some(Self {
-            description: description.clone(),
-            addr_layout: layout.clone().map_or(Vec::new(), record),
-        })
-    }
-
-    fn damaged(mut self, random: &mut Random) -> (Self, Option<Case>) {
-        if random.chance(50) {
-            damage_description(&mut self.description[..], random);
-        } else {
-            damage_record(&mut self.addr_layout, random);
+            [0; LENT]
         }
-        let case = self.case();
-        (self, case)
     }
 
-    fn lengths(&self) -> [usize; 1] {
-        [cs_data::LENGTH]
+    /// What is told instead of this result where one buffer is a byte short, and what is written
+    /// then: 16 where nothing else is refused before it, else the same refusal; nothing.
+    fn told_short(_lengths: [usize; LENT], result: u64, _short: usize) -> (u64, [usize; LENT]) {
+        let number = result >> PLACES;
+        let looks_at_room = result == 0 || number == SHORT_BUFFER || Self::clears(number);
+        let told = if looks_at_room {
+            SHORT_BUFFER << PLACES
+        } else {
+            result
+        };
+        (told, [0; LENT])
     }
 
-    fn call(&self, [layout]: [&mut [u8]; 1]) -> u64 {
-        derive_cs_data_layout_into(&self.description[..], &self.addr_layout, layout)
-    }
+    fn call(read: [&[u8]; READ], lent: [&mut [u8]; LENT]) -> u64;
 
-    fn numbers(&self, [record]: [&[u8]; 1]) -> Option<Vec<u64>> {
-        let layout = CsDataLayout::read(record.try_into().ok()?);
-        let numbers = plain::select(layout).fields();
-        let parts = [&record[..6], &record[8..12], &record[6..8], &record[12..]];
-        let same = in_turn(&parts).eq(numbers.iter().copied());
-        same.then_some(numbers)
-    }
+    /// What a success wrote, in the order of docs/CASES.md; none if anything else stands in it.
+    fn success(&self, written: [&[u8]; LENT]) -> Option<Wrote>;
 
-    fn bytes(&self) -> Vec<u8> {
-        [&self.description[..], &self.addr_layout].concat()
+    /// The same of a refusal, which can only clear.
+    fn refusal(&self, _result: u64, written: [&[u8]; LENT]) -> Option<Wrote> {
+        let clear = written.iter().all(|front| are_zero(front));
+        clear.then(Wrote::default)
     }
+}
+
+pub fn are_zero(bytes: &[u8]) -> bool {
+    bytes.iter().all(|&byte| byte == 0)
 }

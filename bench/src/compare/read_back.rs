@@ -6,16 +6,13 @@ use oracle::case::{self, Case};
 use oracle::engine::Recovered;
 use oracle::random::Random;
 
-use super::calls::Call;
-use super::records::{damage_byte, damage_record, stored_slot};
+use super::calls::{Call, Part, Wrote};
+use super::damage::{SLOT_HEAD, damage_byte, damage_record};
+use super::records::stored_slot;
+use super::{INCONSISTENT, UNSERVED};
 use crate::plain;
 
-const INCONSISTENT: u64 = 23;
-const UNSERVED: u64 = 24;
-
-/// Places of the record before the overrides.
-const HEAD: usize = 19;
-
+#[derive(Clone)]
 pub struct ReadBack {
     record: Vec<u8>,
     stored: Vec<u8>,
@@ -24,22 +21,22 @@ pub struct ReadBack {
 }
 
 impl ReadBack {
-    /// The case; none if the record is one that no case can say.
-    fn case(&self) -> Option<Case> {
-        Some(Case::ReadBack(Box::new(case::ReadBack {
-            slot: stored_slot(&self.record)?,
-            output_length: self.output_length,
-            mark_length: self.mark_length,
-            data: self.stored.clone(),
-        })))
-    }
-
     fn slot(&self) -> Option<StoredSlot> {
         stored_slot(&self.record).map(|slot| plain::to_stored(&slot))
     }
 }
 
-impl Call<2> for ReadBack {
+/// The ROMs' bytes and marks that a success wrote.
+pub fn recovered(roms: Vec<Vec<u8>>, marks: &[u8]) -> Option<Wrote> {
+    let recovered = Recovered {
+        roms,
+        marks: marks.len() as u64,
+    };
+    let marked = marks.iter().all(|&mark| mark == 1);
+    marked.then(|| (recovered_fields(&recovered), recovered.roms.concat()))
+}
+
+impl Call<2, 2> for ReadBack {
     const NAME: &'static str = "read-back";
     const KIND: u64 = 8;
 
@@ -56,15 +53,34 @@ impl Call<2> for ReadBack {
     }
 
     /// In half of the cases a byte of the algorithms or of the first ROM, else any.
-    fn damaged(mut self, random: &mut Random) -> (Self, Option<Case>) {
+    fn damage(&mut self, random: &mut Random) {
         let first_rom = slot::ROMS..slot::ROMS + slot::ROM;
         match random.below(4) {
-            0 => damage_byte(&mut self.record[..HEAD], random),
+            0 => damage_byte(&mut self.record[..SLOT_HEAD], random),
             1 => damage_byte(&mut self.record[first_rom], random),
             _ => damage_record(&mut self.record, random),
         }
-        let case = self.case();
-        (self, case)
+    }
+
+    fn records(&mut self) -> Vec<Part<'_>> {
+        vec![Part {
+            record: &mut self.record,
+            length: slot::LENGTH,
+            head: SLOT_HEAD,
+        }]
+    }
+
+    fn case(&self) -> Option<Case> {
+        Some(Case::ReadBack(Box::new(case::ReadBack {
+            slot: stored_slot(&self.record)?,
+            output_length: self.output_length,
+            mark_length: self.mark_length,
+            data: self.stored.clone(),
+        })))
+    }
+
+    fn read(&self) -> [&[u8]; 2] {
+        [&self.record, &self.stored]
     }
 
     fn lengths(&self) -> [usize; 2] {
@@ -75,7 +91,7 @@ impl Call<2> for ReadBack {
     }
 
     /// As the case says: some cases lend too few.
-    fn lent(&self) -> [usize; 2] {
+    fn lent(&self, _lengths: [usize; 2], _spare: usize) -> [usize; 2] {
         [self.output_length as usize, self.mark_length as usize]
     }
 
@@ -83,24 +99,11 @@ impl Call<2> for ReadBack {
         [INCONSISTENT, UNSERVED].contains(&number)
     }
 
-    fn call(&self, [output, marks]: [&mut [u8]; 2]) -> u64 {
-        unscramble_slot_into(&self.record, &self.stored, output, marks)
+    fn call([slot, stored]: [&[u8]; 2], [output, marks]: [&mut [u8]; 2]) -> u64 {
+        unscramble_slot_into(slot, stored, output, marks)
     }
 
-    fn numbers(&self, [output, marks]: [&[u8]; 2]) -> Option<Vec<u64>> {
-        let recovered = Recovered {
-            roms: self.slot()?.cut(output),
-            marks: marks.len() as u64,
-        };
-        let marked = marks.iter().all(|&mark| mark == 1);
-        marked.then(|| recovered_fields(&recovered))
-    }
-
-    fn compared([output, _]: [&[u8]; 2]) -> Vec<u8> {
-        output.to_vec()
-    }
-
-    fn bytes(&self) -> Vec<u8> {
-        self.record.clone()
+    fn success(&self, [output, marks]: [&[u8]; 2]) -> Option<Wrote> {
+        recovered(self.slot()?.cut(output), marks)
     }
 }

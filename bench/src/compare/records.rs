@@ -1,11 +1,10 @@
-//! Records that are handed in: what a case makes of their bytes, and bytes put wrong.
+//! Records that are handed in: what a case makes of their bytes.
 
 use onerom_bench::images::{self, SPAN};
 use onerom_bench::layout::{addr, cs_data};
 use onerom_bench::slot;
 use onerom_bench::{AddrLayout, CsDataLayout};
 use oracle::layout::{AddressLayout, SelectLayout};
-use oracle::random::Random;
 use oracle::slot::{ChipBytes, Rom, Slot};
 
 use crate::plain;
@@ -102,40 +101,7 @@ fn flag(byte: u8) -> Option<bool> {
     (byte <= 1).then_some(byte == 1)
 }
 
-fn four(bytes: &[u8], at: usize) -> u32 {
+/// The number of four bytes at this place.
+pub fn four(bytes: &[u8], at: usize) -> u32 {
     u32::from_le_bytes([bytes[at], bytes[at + 1], bytes[at + 2], bytes[at + 3]])
-}
-
-/// Changes one byte: in half of the cases one of the slot's own, else any.
-pub fn damage_description(record: &mut [u8], random: &mut Random) {
-    let reach = random.pick(&[136, record.len()]);
-    damage_byte(&mut record[..reach], random);
-}
-
-/// Changes one byte, takes the last away or adds one.
-pub fn damage_record(record: &mut Vec<u8>, random: &mut Random) {
-    match random.below(16) {
-        0 if !record.is_empty() => {
-            record.pop();
-        }
-        0 | 1 => record.push(0),
-        _ if record.is_empty() => record.push(0),
-        _ => damage_byte(record, random),
-    }
-}
-
-pub fn damage_byte(bytes: &mut [u8], random: &mut Random) {
-    let place = random.below(bytes.len());
-    let was = bytes[place];
-    let any = random.byte();
-    bytes[place] = random.pick(&[
-        any,
-        was.wrapping_add(1),
-        was.wrapping_sub(1),
-        0,
-        47,
-        48,
-        254,
-        255,
-    ]);
 }
