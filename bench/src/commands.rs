@@ -34,6 +34,7 @@ const COMMANDS: &[&Command] = &[
     &sample::SAMPLE_FILES,
     &cases::COMPARE,
     &cases::COMPARE_LARGE,
+    &cases::REPLAY,
     &cases::SPEED,
 ];
 

@@ -8,6 +8,7 @@ mod inputs;
 mod outputs;
 mod plain;
 mod progress;
+mod replay;
 mod speed;
 
 use std::ffi::OsString;

@@ -1,4 +1,5 @@
-//! `bench compare`, `bench compare-large` and `bench speed`: the library beside the original.
+//! `bench compare`, `bench compare-large`, `bench replay` and `bench speed`: the library beside the
+//! original.
 
 use std::ffi::{OsStr, OsString};
 use std::path::Path;
@@ -7,6 +8,7 @@ use std::process::ExitCode;
 use super::Command;
 use crate::compare::{compare, compare_large};
 use crate::ending::{Done, Fault};
+use crate::replay::replay;
 use crate::speed::speed;
 
 pub const COMPARE: Command = Command {
@@ -43,6 +45,28 @@ Example, a dozen seconds:
     bench compare-large 1 100
 ",
     run: |words| on_cases(words, compare_large),
+};
+
+pub const REPLAY: Command = Command {
+    name: "replay",
+    words: "FILE",
+    summary: "Runs a fixed list of cases, and compares with its answers",
+    help: "\
+Reads FILE, a case and its answer a line as docs/CASES.md has them. Runs those
+that have an exported call and writes how many there are of each kind, how many
+differ and the first of these to the standard output. It needs nothing of the
+original.
+
+Exit codes: 0 no difference; 1 one, or a line that is no case with its answer; 2
+other words, or a file that cannot be used.
+
+Example:
+    bench replay crates/replay/stdin
+",
+    run: |words| match words {
+        [file] => replay(Path::new(file)),
+        _ => Err(Fault::Words),
+    },
 };
 
 pub const SPEED: Command = Command {

@@ -14,6 +14,7 @@ pub struct Folder {
     command: &'static str,
 }
 
+#[allow(dead_code, reason = "no test needs all of it")]
 impl Folder {
     pub fn new(command: &'static str, name: &str) -> Self {
         let temporary = Path::new(env!("CARGO_TARGET_TMPDIR"));
