@@ -3,7 +3,7 @@
 use std::process::Command;
 
 /// How many cases of each call. A debug build takes its time, and is there to be tried at all.
-const COUNT: u64 = if cfg!(debug_assertions) { 100 } else { 20_000 };
+const COUNT: u64 = if cfg!(debug_assertions) { 100 } else { 50_000 };
 
 const CALLS: [&str; 5] = [
     "address search",
