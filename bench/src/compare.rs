@@ -11,6 +11,7 @@ pub mod round_trip;
 pub mod searches;
 
 use std::collections::BTreeMap;
+use std::fmt;
 use std::process::ExitCode;
 
 use oracle::case::{Case, line_of};
@@ -27,6 +28,9 @@ use read_back::ReadBack;
 use round_trip::RoundTrip;
 use searches::{AddressSearch, SelectSearch};
 
+use crate::ending::{Done, Fault, say};
+use crate::progress::Progress;
+
 const OUT_OF_DOMAIN: u64 = 1;
 const SHORT_BUFFER: u64 = 16;
 const WRONG_SIZE: u64 = 17;
@@ -38,23 +42,23 @@ const PLACES: u32 = 48;
 
 /// Each case of each call as it is, with a buffer that is too short, and with wrong records. Fails on
 /// any difference that is on no list.
-pub fn compare(seed: u64, count: u64) -> ExitCode {
-    let run = Run::of(seed, count);
+pub fn compare(seed: u64, count: u64) -> Done {
+    let run = Run::of(seed, count)?;
     judged(&[
-        run.call::<1, 1, AddressSearch>(case_of::<1, 1, AddressSearch>),
-        run.call::<2, 1, SelectSearch>(case_of::<2, 1, SelectSearch>),
-        run.call::<5, 1, Build>(case_of::<5, 1, Build>),
-        run.call::<2, 2, ReadBack>(case_of::<2, 2, ReadBack>),
-        run.call::<3, 3, RoundTrip>(case_of::<3, 3, RoundTrip>),
+        run.call::<1, 1, AddressSearch>(case_of::<1, 1, AddressSearch>)?,
+        run.call::<2, 1, SelectSearch>(case_of::<2, 1, SelectSearch>)?,
+        run.call::<5, 1, Build>(case_of::<5, 1, Build>)?,
+        run.call::<2, 2, ReadBack>(case_of::<2, 2, ReadBack>)?,
+        run.call::<3, 3, RoundTrip>(case_of::<3, 3, RoundTrip>)?,
     ])
 }
 
 /// The same with builds and read-backs of 512 KiB.
-pub fn compare_large(seed: u64, count: u64) -> ExitCode {
-    let run = Run::of(seed, count);
+pub fn compare_large(seed: u64, count: u64) -> Done {
+    let run = Run::of(seed, count)?;
     judged(&[
-        run.call::<5, 1, Build>(generate::large_build),
-        run.call::<2, 2, ReadBack>(generate::large_read_back),
+        run.call::<5, 1, Build>(generate::large_build)?,
+        run.call::<2, 2, ReadBack>(generate::large_read_back)?,
     ])
 }
 
@@ -72,16 +76,18 @@ struct Count {
     different: u64,
 }
 
-fn judged(counts: &[Count]) -> ExitCode {
+fn judged(counts: &[Count]) -> Done {
     let sum = |one: fn(&Count) -> u64| counts.iter().map(one).sum::<u64>();
     let [whole, wrong] = [sum(|count| count.whole), sum(|count| count.wrong)];
     let different = sum(|count| count.different);
-    println!("in all {whole} cases, {wrong} with wrong records, {different} differences");
-    if different == 0 {
+    say(&format!(
+        "in all {whole} cases, {wrong} with wrong records, {different} differences\n"
+    ))?;
+    Ok(if different == 0 {
         ExitCode::SUCCESS
     } else {
         ExitCode::FAILURE
-    }
+    })
 }
 
 /// The cases, and who judges beside the model.
@@ -92,31 +98,30 @@ struct Run {
 }
 
 impl Run {
-    fn of(seed: u64, count: u64) -> Self {
+    fn of(seed: u64, count: u64) -> Result<Self, Fault> {
         oracle::quiet_panics();
         let original = oracle::original();
         let checked = original.filter(|_| oracle::checks_overflow());
-        println!(
-            "{}",
-            match (original, checked) {
-                (_, Some(_)) => "held against the original and the model",
-                (Some(_), None) =>
-                    "held against the model alone: the original is no judge where overflow is not \
-                     checked, as under --profile checked",
-                (None, _) => "held against the model alone: original sources not found",
+        say(match (original, checked) {
+            (_, Some(_)) => "held against the original and the model\n",
+            (Some(_), None) => {
+                "held against the model alone: the original is no judge where overflow is not \
+                 checked, as under --profile checked\n"
             }
-        );
-        Self {
+            (None, _) => "held against the model alone: original sources not found\n",
+        })?;
+        Ok(Self {
             seed,
             count,
             original: checked,
-        }
+        })
     }
 
     fn call<const READ: usize, const LENT: usize, C: Call<READ, LENT>>(
         &self,
         cases: fn(u64, u64) -> Case,
-    ) -> Count {
+    ) -> Result<Count, Fault> {
+        let mut progress = Progress::new(C::NAME, self.count);
         let mut fences = Fences::default();
         let mut whole = Seen::default();
         let mut wrong = Damage::ALL.map(|damage| (damage, Seen::default()));
@@ -133,22 +138,20 @@ impl Run {
                 let (answer, good) = fences.answer_and_shorts(&call, turn);
                 seen.add(&call, answer, good, case.as_ref(), self.original);
             }
+            progress.step(number + 1);
         }
-        println!("{}, the oracle's cases", C::NAME);
-        whole.print();
+        drop(progress);
+        say(&format!("{}, the oracle's cases\n{whole}", C::NAME))?;
         for (damage, seen) in &wrong {
-            println!("{}, the same with {}", C::NAME, damage.name());
-            seen.print();
+            let name = damage.name();
+            say(&format!("{}, the same with {name}\n{seen}", C::NAME))?;
         }
-        let different = wrong
-            .iter()
-            .map(|(_, seen)| seen.differences())
-            .sum::<u64>();
-        Count {
+        let wrong = || wrong.iter().map(|(_, seen)| seen);
+        Ok(Count {
             whole: whole.count,
-            wrong: wrong.iter().map(|(_, seen)| seen.count).sum(),
-            different: whole.differences() + different,
-        }
+            wrong: wrong().map(|seen| seen.count).sum(),
+            different: whole.differences() + wrong().map(Seen::differences).sum::<u64>(),
+        })
     }
 }
 
@@ -228,22 +231,32 @@ impl Seen {
     fn differences(&self) -> u64 {
         self.different.values().sum()
     }
+}
 
-    fn print(&self) {
-        self.tally.print();
+impl fmt::Display for Seen {
+    fn fmt(&self, f: &mut fmt::Formatter<'_>) -> fmt::Result {
+        self.tally.fmt(f)?;
         if self.unsaid > 0 {
-            println!("  held against docs/INTERFACE.md alone: {}", self.unsaid);
+            writeln!(f, "  held against docs/INTERFACE.md alone: {}", self.unsaid)?;
         }
         for (listed, number) in &self.listed {
-            println!("  held against the model alone, difference {listed}: {number}");
+            writeln!(
+                f,
+                "  held against the model alone, difference {listed}: {number}"
+            )?;
         }
         for (who, number) in &self.different {
-            println!("  different from {who}: {number}");
+            writeln!(f, "  different from {who}: {number}")?;
         }
         if let Some(example) = &self.example {
-            println!("{example}");
+            writeln!(f, "{example}")?;
         }
-        println!("{} cases, {} differences", self.count, self.differences());
+        writeln!(
+            f,
+            "{} cases, {} differences",
+            self.count,
+            self.differences()
+        )
     }
 }
 

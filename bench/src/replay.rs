@@ -35,7 +35,10 @@ pub fn replay(file: &Path) -> Done {
     let list = String::from_utf8_lossy(&bytes);
     let lines = list.lines().count() as u64;
     if lines == 0 {
-        return Err(Fault::of_file(file, "expected a case a line, found no line"));
+        return Err(Fault::of_file(
+            file,
+            "expected a case a line, found no line",
+        ));
     }
     let (mut player, mut seen) = (Player::default(), Seen::default());
     let mut progress = Progress::new("replayed", lines);

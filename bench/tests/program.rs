@@ -11,7 +11,7 @@ use std::process::{Command, Output};
 
 use slots::changed;
 
-const COMMANDS: [&str; 8] = [
+const COMMANDS: [&str; 9] = [
     "layout",
     "build",
     "read-back",
@@ -19,6 +19,7 @@ const COMMANDS: [&str; 8] = [
     "sample",
     "compare",
     "compare-large",
+    "replay",
     "speed",
 ];
 
@@ -166,6 +167,7 @@ fn no_file_and_no_command() {
         "verify",
         "compare",
         "compare-large",
+        "replay",
     ] {
         let told = bench(&[command]);
         assert_eq!(
@@ -326,14 +328,6 @@ fn an_output_that_is_full_is_a_fault() {
         assert_eq!(told.status.code(), Some(2));
         assert!(text(&told.stderr).starts_with("standard output: "));
     }
-}
-
-#[test]
-fn a_short_comparison() {
-    let told = bench(&["compare", "1", "300"]);
-    assert_eq!(told.status.code(), Some(0), "{}", text(&told.stdout));
-    let told = bench(&["compare-large", "1", "3"]);
-    assert_eq!(told.status.code(), Some(0), "{}", text(&told.stdout));
 }
 
 #[test]

@@ -71,8 +71,7 @@ fn count_answers() -> io::Result<()> {
     for line in io::stdin().lock().lines() {
         tally.add(&line?);
     }
-    tally.print();
-    Ok(())
+    write!(io::stdout(), "{tally}")
 }
 
 #[cfg(original)]

@@ -1,6 +1,7 @@
 //! Counts of answers, by kind and number.
 
 use std::collections::BTreeMap;
+use std::fmt;
 
 /// How an answer line came out: a success, a refusal's number, a panic.
 #[derive(Debug, Clone, Copy, PartialEq, Eq, PartialOrd, Ord)]
@@ -33,16 +34,19 @@ impl Tally {
     pub fn add(&mut self, line: &str) {
         *self.0.entry(outcome(line)).or_default() += 1;
     }
+}
 
-    pub fn print(&self) {
+impl fmt::Display for Tally {
+    fn fmt(&self, f: &mut fmt::Formatter<'_>) -> fmt::Result {
         let mut last = None;
         for (&(kind, outcome), count) in &self.0 {
             if last != Some(kind) {
-                println!("kind {kind}");
+                writeln!(f, "kind {kind}")?;
                 last = Some(kind);
             }
-            println!("  {:<10} {count}", name(outcome));
+            writeln!(f, "  {:<10} {count}", name(outcome))?;
         }
+        Ok(())
     }
 }
 

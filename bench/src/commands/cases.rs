@@ -3,7 +3,6 @@
 
 use std::ffi::{OsStr, OsString};
 use std::path::Path;
-use std::process::ExitCode;
 
 use super::Command;
 use crate::compare::{compare, compare_large};
@@ -17,13 +16,14 @@ pub const COMPARE: Command = Command {
     summary: "Holds the library against the original and the model",
     help: "\
 Reads no file. Makes COUNT cases of each call from SEED, both numbers from 0,
-and writes what was seen to the standard output. Without the original's files
-it says so and succeeds.
+and three more of each with wrong records, has every slice stand between guard
+pages, and writes what was seen to the standard output. Without the original's
+files the model alone judges.
 
 Exit codes: 0 no difference that is not listed; 1 one that is not; 2 other
 words.
 
-Example, a minute or so:
+Example, some three minutes:
     bench compare 1 100000
 ",
     run: |words| on_cases(words, compare),
@@ -34,9 +34,7 @@ pub const COMPARE_LARGE: Command = Command {
     words: "SEED COUNT",
     summary: "Holds builds and read-backs of 512 KiB against them",
     help: "\
-Reads no file. Makes COUNT cases of a build and of a read-back from SEED, both
-numbers from 0, and writes what was seen to the standard output. Without the
-original's files it says so and succeeds.
+The same with builds and read-backs of 512 KiB.
 
 Exit codes: 0 no difference that is not listed; 1 one that is not; 2 other
 words.
@@ -91,12 +89,12 @@ Example, a minute or two:
     },
 };
 
-fn on_cases(words: &[OsString], compare: fn(u64, u64) -> ExitCode) -> Done {
+fn on_cases(words: &[OsString], compare: fn(u64, u64) -> Done) -> Done {
     let [seed, count] = words else {
         return Err(Fault::Words);
     };
     match (number(seed), number(count)) {
-        (Some(seed), Some(count)) => Ok(compare(seed, count)),
+        (Some(seed), Some(count)) => compare(seed, count),
         _ => Err(Fault::Words),
     }
 }

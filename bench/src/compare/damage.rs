@@ -1,17 +1,18 @@
 //! Records put wrong.
 
+use onerom_bench::interface::{addr_layout, cs_data_layout, description, stored_slot};
 use oracle::case::Case;
 use oracle::random::Random;
 
 use super::calls::{Call, Part};
 
 /// Places of the description record before the chips.
-pub const DESCRIPTION_HEAD: usize = 136;
+pub const DESCRIPTION_HEAD: usize = description::CHIPS.start;
 /// Those of the layout records before the GPIOs.
-pub const ADDR_HEAD: usize = 8;
-pub const CS_DATA_HEAD: usize = 12;
+pub const ADDR_HEAD: usize = addr_layout::LINES.start;
+pub const CS_DATA_HEAD: usize = cs_data_layout::DATA.start;
 /// Those of the stored slot record before the overrides.
-pub const SLOT_HEAD: usize = 19;
+pub const SLOT_HEAD: usize = stored_slot::OVERRIDES.start;
 
 /// How records are put wrong.
 #[derive(Clone, Copy)]

@@ -1,6 +1,11 @@
 //! Records that are handed in: what a case makes of their bytes.
 
+use std::ops::Range;
+
 use onerom_bench::images::{self, SPAN};
+use onerom_bench::interface::{
+    addr_layout, cs_data_layout, image_span, stored_rom, stored_slot as at,
+};
 use onerom_bench::layout::{addr, cs_data};
 use onerom_bench::slot;
 use onerom_bench::{AddrLayout, CsDataLayout};
@@ -10,31 +15,29 @@ use oracle::slot::{ChipBytes, Rom, Slot};
 use crate::plain;
 
 /// Places of the address layout record that are kept at 0.
-pub const ADDR_KEPT: [usize; 6] = [6, 7, 32, 33, 34, 35];
-
-pub fn in_turn<'a>(parts: &'a [&[u8]]) -> impl Iterator<Item = u64> + 'a {
-    parts.iter().copied().flatten().map(|&byte| u64::from(byte))
-}
+const ADDR_KEPT: [Range<usize>; 2] = [addr_layout::SPARE, addr_layout::INVERTED];
 
 /// The layout of a record as a case has it. A case has no other length, no kept places, and no
 /// count past its places.
 pub fn address_layout(record: &[u8]) -> Option<AddressLayout> {
     let record: &[u8; addr::LENGTH] = record.try_into().ok()?;
-    let kept = ADDR_KEPT.iter().all(|&place| record[place] == 0);
-    let lines = usize::from(record[4]) + usize::from(record[5]);
-    let said = kept && lines <= addr::MOST_LINES;
+    let counts = [addr_layout::LINE_COUNT, addr_layout::EXCESS_COUNT];
+    let lines: usize = counts.map(|place| usize::from(record[place])).iter().sum();
+    let mut kept = ADDR_KEPT.into_iter().flatten();
+    let said = kept.all(|place| record[place] == 0) && lines <= addr::MOST_LINES;
     said.then(|| plain::address(AddrLayout::read(record)))
 }
 
 /// The same of a select layout, whose qualifiers a case has or has not.
 pub fn select_layout(record: &[u8]) -> Option<SelectLayout> {
     let record: &[u8; cs_data::LENGTH] = record.try_into().ok()?;
-    let counts = [record[2], record[6], record[7]];
-    let fit = counts
-        .iter()
-        .zip([16, 30, 6])
-        .all(|(&count, most)| count <= most);
-    let said = fit && record[8] <= 1;
+    let counts = [
+        (cs_data_layout::DATA_COUNT, 16),
+        (cs_data_layout::SELECT_COUNT, 30),
+        (cs_data_layout::COMMONED_COUNT, 6),
+    ];
+    let fit = counts.iter().all(|&(place, most)| record[place] <= most);
+    let said = fit && record[cs_data_layout::QUALIFIED] <= 1;
     said.then(|| plain::select(CsDataLayout::read(record)))
 }
 
@@ -43,15 +46,17 @@ pub fn select_layout(record: &[u8]) -> Option<SelectLayout> {
 pub fn chip_bytes(spans: &[u8], seed: u32, bytes: usize) -> Option<[ChipBytes; 4]> {
     let spans: &[u8; images::LENGTH] = spans.try_into().ok()?;
     let (chips, _) = spans.as_chunks::<SPAN>();
-    if chips.iter().any(|chip| chip[0] > 1 || chip[1..4] != [0; 3]) {
+    let is_span =
+        |chip: &[u8; SPAN]| chip[image_span::GIVEN] <= 1 && chip[image_span::SPARE] == [0; 3];
+    if !chips.iter().all(is_span) {
         return None;
     }
     let told = |chip: &[u8; SPAN]| {
-        let start = four(chip, 4);
+        let start = four(chip, image_span::START);
         let there = (bytes as u32).saturating_sub(start);
         ChipBytes {
-            present: chip[0] == 1,
-            length: four(chip, 8).min(there),
+            present: chip[image_span::GIVEN] == 1,
+            length: four(chip, image_span::LENGTH).min(there),
             seed: seed.wrapping_add(start),
         }
     };
@@ -65,43 +70,51 @@ pub fn stored_slot(record: &[u8]) -> Option<Slot> {
     let (roms, _) = record[slot::ROMS..].as_chunks::<{ slot::ROM }>();
     let roms = roms.iter().map(rom).collect::<Option<Vec<Rom>>>()?;
     Some(Slot {
-        size: four(record, 0),
-        kind: record[4],
-        has_layout: flag(record[5])?,
-        address_algorithm: record[6],
-        address_base: record[7],
-        base_address_pin: record[8],
-        pins: record[9],
-        data_algorithm: record[10],
-        data_base: record[11],
-        base_data_pin: record[12],
-        dma_algorithm: record[13],
-        bit_mode: record[14],
-        select_algorithm: record[15],
-        select_base: record[16],
-        first_select_pin: record[17],
-        overrides: record[19..83].get(..usize::from(record[18]))?.to_vec(),
-        x: [[record[83], record[84]], [record[85], record[86]]],
-        roms: roms.get(..usize::from(record[87]))?.to_vec(),
+        size: four(record, at::BYTES),
+        kind: record[at::KIND],
+        has_layout: flag(record[at::LAYOUT_GIVEN])?,
+        address_algorithm: record[at::ADDR_ALGORITHM],
+        address_base: record[at::ADDR_BASE],
+        base_address_pin: record[at::BASE_ADDR_PIN],
+        pins: record[at::ADDR_PINS],
+        data_algorithm: record[at::DATA_ALGORITHM],
+        data_base: record[at::DATA_BASE],
+        base_data_pin: record[at::BASE_DATA_PIN],
+        dma_algorithm: record[at::DMA_ALGORITHM],
+        bit_mode: record[at::BIT_MODE],
+        select_algorithm: record[at::CS_ALGORITHM],
+        select_base: record[at::CS_BASE],
+        first_select_pin: record[at::FIRST_CS_PIN],
+        overrides: counted(&record[at::OVERRIDES], record[at::OVERRIDE_COUNT])?,
+        x: [pair(&record[at::X1])?, pair(&record[at::X2])?],
+        roms: counted(&roms, record[at::ROM_COUNT])?,
     })
 }
 
 fn rom(bytes: &[u8; slot::ROM]) -> Option<Rom> {
-    let mut maps = bytes[8..].as_chunks::<{ slot::MOST_LINES }>().0.iter();
     let rom = Rom {
-        has_map: flag(bytes[0])?,
-        size: four(bytes, 4),
-        address: *maps.next()?,
-        data: *maps.next()?,
+        has_map: flag(bytes[stored_rom::MAP_GIVEN])?,
+        size: four(bytes, stored_rom::BYTES),
+        address: bytes[stored_rom::ADDRESS].try_into().ok()?,
+        data: bytes[stored_rom::DATA].try_into().ok()?,
     };
-    (bytes[1..4] == [0; 3]).then_some(rom)
+    (bytes[stored_rom::SPARE] == [0; 3]).then_some(rom)
+}
+
+/// So many of a list, if it has as many places.
+fn counted<T: Clone>(list: &[T], count: u8) -> Option<Vec<T>> {
+    list.get(..usize::from(count)).map(<[T]>::to_vec)
+}
+
+fn pair(bytes: &[u8]) -> Option<[u8; 2]> {
+    bytes.try_into().ok()
 }
 
 fn flag(byte: u8) -> Option<bool> {
     (byte <= 1).then_some(byte == 1)
 }
 
-/// The number of four bytes at this place.
-pub fn four(bytes: &[u8], at: usize) -> u32 {
-    u32::from_le_bytes([bytes[at], bytes[at + 1], bytes[at + 2], bytes[at + 3]])
+/// The number of the four bytes at these places; 0 of another number of them.
+pub fn four(bytes: &[u8], places: Range<usize>) -> u32 {
+    bytes[places].try_into().map_or(0, u32::from_le_bytes)
 }

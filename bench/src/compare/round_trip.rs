@@ -1,6 +1,7 @@
 //! All four in turn, with what a case of kind 9 hands in.
 
-use onerom_bench::description::{self, MOST_CHIPS};
+use onerom_bench::description;
+use onerom_bench::interface::{addr_layout, chip, description as at};
 use onerom_bench::layout::{addr, cs_data};
 use onerom_bench::slot::words;
 use onerom_bench::{
@@ -19,15 +20,6 @@ use super::read_back::recovered;
 use super::records::four;
 use super::{INCONSISTENT, OUT_OF_DOMAIN, PLACES, SHORT_BUFFER, UNSERVED, WRONG_SIZE};
 use crate::plain;
-
-/// Where the description record has word bytes, number of chips, and chips.
-const WORD_BYTES: usize = 3;
-const CHIP_COUNT: usize = 5;
-const CHIPS: usize = 136;
-const CHIP: usize = 72;
-
-/// Where the address layout record has the number of lines in use.
-const LINES: usize = 4;
 
 #[derive(Clone)]
 pub struct RoundTrip {
@@ -49,16 +41,16 @@ impl RoundTrip {
     }
 
     fn word_bytes(&self) -> usize {
-        usize::from(self.description[WORD_BYTES])
+        usize::from(self.description[at::WORD_BYTES])
     }
 
     /// How many words each chip reads back as.
     fn words(&self, layout: &[u8; addr::LENGTH]) -> Vec<usize> {
-        let lines = usize::from(layout[LINES]);
-        let count = usize::from(self.description[CHIP_COUNT]).min(MOST_CHIPS);
-        let size = |chip: usize| four(&self.description, CHIPS + CHIP * chip);
-        (0..count)
-            .map(|chip| words(size(chip), self.word_bytes(), lines))
+        let lines = usize::from(layout[addr_layout::LINE_COUNT]);
+        let count = usize::from(self.description[at::CHIP_COUNT]);
+        let chips = self.description[at::CHIPS].chunks(chip::SIZE).take(count);
+        chips
+            .map(|chip| words(four(chip, chip::BYTES), self.word_bytes(), lines))
             .collect()
     }
 
@@ -218,7 +210,9 @@ impl Call<3, 3> for RoundTrip {
     /// The address layout's base is not among what is written; the address search alone tells it.
     fn success(&self, [table, output, marks]: [&[u8]; 3]) -> Option<Wrote> {
         let layout = self.addr_layout().ok()?;
-        let mut fields = vec![4, u64::from(layout[0]), u64::from(layout[1])];
+        let window = [addr_layout::BASE, addr_layout::PINS];
+        let mut fields = vec![4];
+        fields.extend(window.map(|place| u64::from(layout[place])));
         fields.extend(table_fields(table));
         let (read, bytes) = recovered(self.cut(&layout, output)?, marks)?;
         fields.extend(read);

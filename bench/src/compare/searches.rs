@@ -8,7 +8,7 @@ use oracle::random::Random;
 
 use super::calls::{Call, Part, Wrote};
 use super::damage::{ADDR_HEAD, DESCRIPTION_HEAD, damage_description, damage_record};
-use super::records::{ADDR_KEPT, address_layout, in_turn};
+use super::records::address_layout;
 use crate::plain;
 
 #[derive(Clone)]
@@ -60,10 +60,8 @@ impl Call<1, 1> for AddressSearch {
 
     fn success(&self, [record]: [&[u8]; 1]) -> Option<Wrote> {
         let layout = AddrLayout::read(record.try_into().ok()?);
-        let numbers = plain::address(layout).fields();
-        let kept = ADDR_KEPT.iter().all(|&place| record[place] == 0);
-        let same = in_turn(&[&record[..6], &record[8..32]]).eq(numbers.iter().copied());
-        (kept && same).then(|| (numbers, Vec::new()))
+        let same = layout.to_bytes() == record;
+        same.then(|| (plain::address(layout).fields(), Vec::new()))
     }
 }
 
@@ -135,9 +133,7 @@ impl Call<2, 1> for SelectSearch {
 
     fn success(&self, [record]: [&[u8]; 1]) -> Option<Wrote> {
         let layout = CsDataLayout::read(record.try_into().ok()?);
-        let numbers = plain::select(layout).fields();
-        let parts = [&record[..6], &record[8..12], &record[6..8], &record[12..]];
-        let same = in_turn(&parts).eq(numbers.iter().copied());
-        same.then(|| (numbers, Vec::new()))
+        let same = layout.to_bytes() == record;
+        same.then(|| (plain::select(layout).fields(), Vec::new()))
     }
 }
