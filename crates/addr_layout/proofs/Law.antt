@@ -1,12 +1,11 @@
 -- Demand 2's law of the address search. Assumes nothing.
 use mathlib.Core.Path.{_≡_, refl, sym, _∙_, ap}
-use mathlib.Core.Bool.{Bool, true, false, cond}
 use Prim.Native.Nat.{ℕ, _<_}
 use native.Mathlib.Omega.{arith}
 use Rattle.slot.specs.declared.description.Description.{Description}
 use Rattle.slot.specs.declared.refusal.Refusal.the-variants.{NoValidLayout}
 use Rattle.search.specs.Search.{best}
-use Rattle.search.specs.Law.{Best, Right}
+use Rattle.search.specs.Law.{Right}
 use Rattle.search.specs.declared.Trial.the-variants.{Score}
 use Rattle.search.specs.declared.Found.{Found}
 use Rattle.search.specs.declared.Found.the-variants.{Nothing, At}

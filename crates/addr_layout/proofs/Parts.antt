@@ -1,21 +1,20 @@
 -- The two parts of a choice number span what the number spans. Assumes nothing.
-use mathlib.Core.Path.{_≡_, refl, sym, _∙_, ap}
-use mathlib.Core.Bool.{Bool, true, false, _&&_, not, cond}
+use mathlib.Core.Path.{_≡_, refl, sym}
+use mathlib.Core.Bool.{true, false}
 use mathlib.Core.List.{List}
-use Prim.Native.Nat.{ℕ, zero, suc, _+_, _*_, _^_, _≤_, _<_}
+use Prim.Native.Nat.{ℕ, zero, suc, _+_, _*_, _^_, _<_}
 use native.Mathlib.Omega.{arith}
 use lib.Dec.{ltb}
-use lib.ListN.{length}
 use borrow.Author.Tests.{le-ltb, ltb-true, ltb-false}
-use Rattle.gpio.specs.Span.{widened, joined}
+use Rattle.gpio.specs.Span.{joined}
 use Rattle.gpio.specs.declared.span.Span.{Span}
 use Rattle.gpio.proofs.Bools.{and-true}
 use Rattle.gpio.proofs.Spans.{joined-turn, joined-same}
 use Rattle.listing.specs.Choice.{gpioAt, bitOf}
 use Rattle.listing.specs.declared.Listed.{Listed}
 use Rattle.listing.proofs.Parts.{gpio-low, gpio-high}
-use Rattle.addr_layout.specs.Choices.{spanned, spanAt, choiceSpan}
-use Rattle.addr_layout.specs.Parts.{partAt, partSpan}
+use Rattle.addr_layout.specs.Choices.{spanned, spanAt}
+use Rattle.addr_layout.specs.Parts.{partAt}
 
 -- every bit is at or past 0
 pub part-all : (ls : List Listed) (r n : ℕ) (fixed : Span) (c k : ℕ) → partAt ls r n fixed false 0 c k ≡ spanAt ls r n fixed c k

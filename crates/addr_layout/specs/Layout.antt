@@ -10,7 +10,7 @@ use Rattle.slot.specs.declared.refusal.Refusal.{Refusal}
 use Rattle.addr_layout.specs.declared.layout.XGpio.{XGpio}
 use Rattle.addr_layout.specs.declared.layout.XGpio.the-variants.{Unused, At}
 use Rattle.addr_layout.specs.declared.layout.AddrLayout.{AddrLayout}
-use Rattle.addr_layout.specs.declared.layout.AddrOutcome.the-variants.{LaidOut, Refused}
+use Rattle.addr_layout.specs.declared.layout.AddrOutcome.the-variants.{Refused}
 use Rattle.addr_layout.specs.declared.layout.AddrAnswer.{AddrAnswer}
 
 abbrev pub noLayout : AddrLayout

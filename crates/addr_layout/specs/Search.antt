@@ -1,7 +1,6 @@
 -- addr_layout.rs, `derive_addr_layout`: the address search. Assumes nothing.
-use Prim.Native.Nat.{ℕ, _^_}
+use Prim.Native.Nat.{_^_}
 use mathlib.Core.Bool.{Bool, _&&_, cond}
-use mathlib.Core.List.{List}
 use lib.Dec.{leb}
 use Rattle.slot.specs.declared.description.Description.{Description}
 use Rattle.slot.specs.declared.refusal.Refusal.the-variants.{OutOfDomain, NoValidLayout}

@@ -15,7 +15,6 @@ use Rattle.control.specs.CsConfig.{ignores}
 use Rattle.control.specs.declared.multi_cs_config.Part.{Part}
 use Rattle.control.specs.declared.multi_cs_config.Part.the-variants.{Dropped, Select, Commoned, Ignored}
 use Rattle.control.specs.declared.multi_cs_config.Sorted.{Sorted}
-use Rattle.control.specs.declared.multi_cs_config.MultiOutcome.{MultiOutcome}
 use Rattle.control.specs.declared.multi_cs_config.MultiOutcome.the-variants.{Derived, Refused}
 use Rattle.control.specs.declared.multi_cs_config.MultiAnswer.{MultiAnswer}
 

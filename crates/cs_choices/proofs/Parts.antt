@@ -1,6 +1,6 @@
 -- The two parts of a choice number give the GPIOs that the number gives. Assumes nothing.
 use mathlib.Core.Path.{_≡_, refl, sym, _∙_, ap}
-use mathlib.Core.Bool.{Bool, true, false, _&&_, cond}
+use mathlib.Core.Bool.{true, false, cond}
 use mathlib.Core.List.{List}
 use Prim.Native.Nat.{ℕ, zero, suc, _+_, _-_, _*_, _^_, _≤_, _<_}
 use native.Mathlib.Nat.{add-zero, add-suc, zero-add}
@@ -16,7 +16,6 @@ use Rattle.listing.specs.Choice.{gpioAt, bitOf}
 use Rattle.listing.specs.declared.Listed.{Listed}
 use Rattle.listing.proofs.Parts.{gpio-low, gpio-high}
 use Rattle.cs_choices.specs.Sets.{dataSet, selectSet, verdictOn}
-use Rattle.cs_choices.specs.Verdict.{verdictOf}
 use Rattle.cs_choices.specs.Parts.{partAt, partsOf, inRow}
 use Rattle.cs_choices.specs.declared.choices.Fixed.{Fixed}
 

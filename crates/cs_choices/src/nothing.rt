@@ -15,7 +15,7 @@ use listing::or_else;
 use search::row_bits;
 use slot::refusal::Refusal;
 ghost use mathlib.Core.Path.{_≡_};
-ghost use Prim.Native.Nat.{ℕ, _^_, _≤_};
+ghost use Prim.Native.Nat.{_^_, _≤_};
 ghost use lib.ListN.{getD};
 ghost use Rattle.listing.specs.Choice.{GpiosIn};
 ghost use Rattle.listing.specs.Listing.{listOf};

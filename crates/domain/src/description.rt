@@ -7,7 +7,6 @@ use slot::description::Description;
 use slot::description::MultiCsConfig;
 use slot::slot_context;
 ghost use mathlib.Core.Path.{_≡_};
-ghost use Prim.Native.Nat.{ℕ, _<_};
 ghost use Rattle.domain.specs.Domain.{socketIn, boardIn, multiIn, chipsIn, descriptionIn};
 
 fn socket_in(b: Board) -> bool

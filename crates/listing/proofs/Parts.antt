@@ -1,7 +1,7 @@
 -- Which bits of a choice number a pin's GPIO depends on: of a number in two parts, b above s bits and q below, a pin whose bit is
 -- below s sees q alone, and any other sees b alone. Assumes nothing.
 use mathlib.Core.Path.{_≡_, refl, sym, _∙_, ap}
-use mathlib.Core.Bool.{Bool, cond}
+use mathlib.Core.Bool.{cond}
 use mathlib.Core.List.{List}
 use Prim.Native.Nat.{ℕ, zero, suc, _+_, _-_, _*_, _/_, _%_, _^_, _≤_, _<_}
 use native.Mathlib.Nat.{add-zero, div-one}

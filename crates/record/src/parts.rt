@@ -14,7 +14,7 @@ use slot::description::Description;
 use slot::description::MultiCsConfig;
 use slot::description::Setting;
 ghost use mathlib.Core.Path.{_≡_};
-ghost use Prim.Native.Nat.{ℕ, _+_, _≤_};
+ghost use Prim.Native.Nat.{_+_, _≤_};
 ghost use Rattle.record.specs.Record.{size, setTypeOf, offsetOf, logicOf, settingOf, csConfigAt, multiAt};
 ghost use Rattle.record.specs.Record.{socketAt, boardAt, lineAt, linesAt, controlAt, chipAt, chipsAt, described};
 

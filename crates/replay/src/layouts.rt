@@ -5,7 +5,7 @@ use addr_layout::layout::AddrLayout;
 use cs_data_layout::layout::CsDataLayout;
 use layout_record::addr_record;
 use layout_record::cs_data_record;
-ghost use Prim.Native.Nat.{_+_, _≤_, _<_};
+ghost use Prim.Native.Nat.{_≤_, _<_};
 
 // The record's place of an address layout's number j.
 fn addr_place(j: usize) -> usize

@@ -4,7 +4,6 @@ use mathlib.Core.Bool.{cond}
 use mathlib.Core.List.{List, _++_}
 use lib.ListN.{length, drop}
 use Rattle.slot.specs.declared.description.Description.{Description}
-use Rattle.slot.specs.declared.refusal.Refusal.{Refusal}
 use Rattle.slot.specs.declared.refusal.Refusal.the-variants.{OutOfDomain}
 use Rattle.listing.specs.declared.FirstFault.{FirstFault}
 use Rattle.listing.specs.declared.FirstFault.the-variants.{None, Of}

@@ -1,7 +1,7 @@
 -- What the domain says of the numbers that a build uses. Assumes nothing.
-use mathlib.Core.Path.{_≡_, refl}
+use mathlib.Core.Path.{_≡_}
 use mathlib.Core.Bool.{Bool, true, false, _&&_, _||_, not}
-use Prim.Native.Nat.{ℕ, _+_, _≤_, _<_, _^_}
+use Prim.Native.Nat.{_≤_}
 use native.Mathlib.Omega.{arith}
 use lib.Dec.{leb}
 use lib.ListN.{getD}
@@ -11,8 +11,8 @@ use Rattle.gpio.specs.Each.{each}
 use Rattle.gpio.proofs.Bools.{and-left, and-right}
 use Rattle.slot.specs.declared.description.Description.{Description}
 use Rattle.domain.specs.Domain.{between, descriptionIn, qualifiersIn}
-use Rattle.domain.proofs.Bounds.{between-is, image-size, chip-count, word-bytes}
-use Rattle.addr_layout.specs.Layout.{layoutIn, allLines}
+use Rattle.domain.proofs.Bounds.{between-is}
+use Rattle.addr_layout.specs.Layout.{layoutIn}
 use Rattle.addr_layout.specs.declared.layout.AddrLayout.{AddrLayout}
 use Rattle.cs_data_layout.proofs.Bounds.{few-lines}
 use Rattle.cs_data_layout.specs.declared.layout.CsDataLayout.{CsDataLayout}

@@ -1,5 +1,4 @@
 // Which lines pick a chip, and which chip they pick.
-use crate::positions::x_position;
 use crate::positions::x_position_in;
 use addr_layout::layout::AddrLayout;
 use addr_layout::layout::XGpio;
@@ -7,9 +6,9 @@ use cs_data_layout::layout::CsDataLayout;
 use slot::description::ChipSetType;
 use slot::description::Description;
 ghost use mathlib.Core.Path.{_≡_};
-ghost use Prim.Native.Nat.{ℕ, _≤_};
+ghost use Prim.Native.Nat.{_≤_};
 ghost use Rattle.slot.specs.declared.description.ChipSetType.the-variants.{Banked, Multi};
-ghost use Rattle.rom_slot.specs.Picks.{xLines, picksOf, firstSelect, xGpio, pickOf, pickAt, pickPosition, numPicks, pickedBy, picked};
+ghost use Rattle.rom_slot.specs.Picks.{xLines, picksOf, firstSelect, xGpio, pickOf, pickedBy};
 ghost use Rattle.rom_slot.specs.Faults.{picksIn};
 
 // The chip whose word an entry holds.

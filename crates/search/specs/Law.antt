@@ -3,7 +3,7 @@
 use mathlib.Core.Path.{_≡_}
 use Prim.Native.Nat.{ℕ, _≤_, _<_}
 use Rattle.search.specs.declared.Trial.{Trial}
-use Rattle.search.specs.declared.Trial.the-variants.{Misfit, Score}
+use Rattle.search.specs.declared.Trial.the-variants.{Score}
 use Rattle.search.specs.declared.Found.{Found}
 use Rattle.search.specs.declared.Found.the-variants.{Nothing, At}
 

@@ -1,7 +1,6 @@
 -- "Numbers a caller can get": the number and the place of each refusal, in the table's order. Rows without a name there
 -- have one here. Assumes nothing.
 use Prim.Native.Nat.{ℕ, _+_, _*_, _^_}
-use Rattle.gpio.specs.declared.set.GpioSet.{GpioSet}
 use Rattle.slot.specs.declared.refusal.Refusal.{Refusal}
 use Rattle.slot.specs.declared.refusal.Refusal.the-variants.{
   OutOfDomain,

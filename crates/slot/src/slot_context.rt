@@ -2,7 +2,6 @@
 // are a few places further on, or overhang the socket where the chip is the longer of the two.
 use crate::refusal::Refusal;
 ghost use mathlib.Core.Path.{_≡_};
-ghost use Prim.Native.Nat.{ℕ, _≤_, _<_};
 ghost use Rattle.slot.specs.SlotContext.{isFor, knownPairs, offsetFrom, offsetAnswer, raisedOf, socketOf, boardPinsIn};
 
 // A pair of pin counts that goes together, and what is added to a chip pin to give the socket pin.

@@ -1,6 +1,6 @@
 -- `derive_addr_layout` meets its contract. Assumes nothing.
 use mathlib.Core.Path.{_≡_, refl, ap, sym, _∙_}
-use mathlib.Core.Bool.{Bool, true, false}
+use mathlib.Core.Bool.{true, false}
 use mathlib.Core.List.{List}
 use Prim.Native.Nat.{ℕ, _^_, _≤_, _<_}
 use native.Mathlib.Omega.{arith}
@@ -8,7 +8,7 @@ use borrow.Author.Tests.{not-true, not-false, le-leb, lt-leb}
 use Rattle.slot.specs.Description.{chip0}
 use Rattle.slot.specs.declared.description.Description.{Description}
 use Rattle.slot.specs.declared.refusal.Refusal.{Refusal}
-use Rattle.slot.specs.declared.refusal.Refusal.the-variants.{OutOfDomain, NoValidLayout}
+use Rattle.slot.specs.declared.refusal.Refusal.the-variants.{OutOfDomain}
 use Rattle.domain.specs.Domain.{descriptionIn}
 use Rattle.domain.proofs.Bounds.{chip0-in, address-pins}
 use Rattle.listing.specs.Listing.{listOf, twos, firstFault}
@@ -17,9 +17,7 @@ use Rattle.listing.specs.declared.FirstFault.{FirstFault}
 use Rattle.listing.specs.declared.FirstFault.the-variants.{None, Of}
 use Rattle.search.specs.Search.{best}
 use Rattle.search.specs.declared.Trial.{Trial}
-use Rattle.search.specs.declared.Trial.the-variants.{Score}
 use Rattle.search.specs.declared.Found.{Found}
-use Rattle.search.specs.declared.Found.the-variants.{Nothing, At}
 use Rattle.search.proofs.Law.{found-best}
 use Rattle.addr_layout.specs.Lines.{lines, addrListed}
 use Rattle.addr_layout.specs.Layout.{refusedFor}

@@ -1,5 +1,4 @@
 -- `better` meets its contract. Assumes nothing.
-use native.Mathlib.Omega.{arith}
 use borrow.Author.Tests.{lt-ltb, le-ltb}
 use borrow.Author.Needs.{needs}
 use Rattle.search.proofs.better.Statement.{statement}

@@ -1,5 +1,5 @@
 -- `fixed_span` meets its contract. Assumes nothing.
-use mathlib.Core.Path.{_≡_, sym, _∙_}
+use mathlib.Core.Path.{sym, _∙_}
 use Rattle.addr_layout.specs.Choices.{fixedSpan}
 use borrow.Author.Needs.{needs}
 use Rattle.addr_layout.proofs.choices.fixed_span.Statement.{statement}

@@ -1,5 +1,5 @@
 -- `kind_candidates` meets its contract. Assumes nothing.
-use mathlib.Core.Path.{_≡_, sym, _∙_}
+use mathlib.Core.Path.{sym, _∙_}
 use borrow.Author.Tests.{eq-eqb, ne-eqb}
 use borrow.Author.Needs.{needs}
 use Rattle.addr_layout.proofs.choices.kind_candidates.Statement.{statement}

@@ -1,5 +1,5 @@
 -- `line_gpios` meets its contract. The loop's invariant: the GPIOs of the lines passed are in place. Assumes nothing.
-use mathlib.Core.Path.{_≡_, refl}
+use mathlib.Core.Path.{refl}
 use mathlib.Core.Bool.{cond}
 use Prim.Native.Nat.{_-_}
 use lib.Dec.{ltb}

@@ -1,9 +1,9 @@
 -- `low_spans` meets its contract. The loop's invariant: the spans of the numbers passed are in place. Assumes nothing.
-use mathlib.Core.Path.{_≡_, refl, _∙_}
+use mathlib.Core.Path.{_≡_, refl}
 use mathlib.Core.Bool.{true}
-use Prim.Native.Nat.{ℕ, _*_, _%_, _^_, _≤_, _-_}
+use Prim.Native.Nat.{ℕ, _^_, _≤_, _-_}
 use native.Mathlib.Omega.{arith}
-use lib.ListN.{length, take}
+use lib.ListN.{take}
 use mathlib.Core.List.{List}
 use Rattle.gpio.specs.Tab.{tab}
 use Rattle.gpio.specs.declared.span.Span.{Span}

@@ -1,6 +1,6 @@
 -- `reach` meets its contract. The loop's invariant: `entries` is 2 ^ k, and `lines` counts those passed that the limit holds. Assumes nothing.
 use mathlib.Core.Path.{_≡_, refl}
-use Prim.Native.Nat.{ℕ, suc, _+_, _*_, _^_, _≤_, _<_, _-_}
+use Prim.Native.Nat.{ℕ, _+_, _*_, _^_, _≤_, _-_}
 use native.Mathlib.Numerals.{add-one}
 use native.Mathlib.Omega.{arith}
 use native.Mathlib.Nat.{pow-suc}
@@ -8,7 +8,7 @@ use lib.Dec.{leb}
 use lib.Pow.{pow-mono}
 use Rattle.gpio.specs.Each.{tally}
 use Rattle.gpio.proofs.Each.{tally-none, tally-turn, tally-done}
-use Rattle.addr_layout.specs.Choices.{mostEntries, reach}
+use Rattle.addr_layout.specs.Choices.{reach}
 use borrow.Author.Needs.{needs}
 use Rattle.addr_layout.proofs.choices.reach.Statement.{statement}
 use Rattle.addr_layout.proofs.choices.reach.Tie as tie

@@ -1,5 +1,4 @@
 -- `lines_in` meets its contract. Assumes nothing.
-use native.Mathlib.Omega.{arith}
 use borrow.Author.Tests.{le-leb, lt-leb}
 use borrow.Author.Needs.{needs}
 use Rattle.addr_layout.proofs.layout.lines_in.Statement.{statement}

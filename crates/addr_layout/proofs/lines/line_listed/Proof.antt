@@ -1,5 +1,5 @@
 -- `line_listed` meets its contract. Assumes nothing.
-use mathlib.Core.Path.{_≡_, refl}
+use mathlib.Core.Path.{_≡_}
 use Prim.Native.Nat.{ℕ}
 use Rattle.gpio.specs.declared.candidates.Candidates.{Candidates}
 use Rattle.slot.specs.declared.description.Description.{Description}

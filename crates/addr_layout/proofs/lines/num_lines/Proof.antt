@@ -1,5 +1,4 @@
 -- `num_lines` meets its contract. Assumes nothing.
-use mathlib.Core.Path.{_≡_}
 use native.Mathlib.Omega.{arith}
 use borrow.Author.Needs.{needs}
 use Rattle.addr_layout.proofs.lines.num_lines.Statement.{statement}

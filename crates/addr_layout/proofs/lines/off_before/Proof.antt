@@ -1,6 +1,6 @@
 -- `off_before` meets its contract. The loop's invariant: `passed` counts the lines passed that overhang. Assumes nothing.
 use mathlib.Core.Path.{_≡_}
-use Prim.Native.Nat.{ℕ, _≤_, _-_}
+use Prim.Native.Nat.{_≤_, _-_}
 use native.Mathlib.Omega.{arith}
 use Rattle.gpio.specs.Each.{tally}
 use Rattle.gpio.proofs.Each.{tally-none, tally-turn, tally-done}

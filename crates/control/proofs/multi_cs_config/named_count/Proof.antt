@@ -1,7 +1,7 @@
 -- `named_count` meets its contract. The loop's invariant: `count` is the number of named lines passed, which is at most
 -- the number of lines passed. Assumes nothing.
 use mathlib.Core.Path.{_≡_}
-use Prim.Native.Nat.{ℕ, _≤_, _-_}
+use Prim.Native.Nat.{_≤_, _-_}
 use native.Mathlib.Omega.{arith}
 use Rattle.gpio.specs.Each.{tally}
 use Rattle.gpio.proofs.Each.{tally-none, tally-turn, tally-done}

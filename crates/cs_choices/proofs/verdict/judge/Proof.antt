@@ -1,5 +1,5 @@
 -- `judge` meets its contract. Assumes nothing.
-use mathlib.Core.Path.{_≡_, sym, _∙_}
+use mathlib.Core.Path.{sym, _∙_}
 use Rattle.cs_choices.proofs.Verdicts.{fits-given, outside-given, select-gap-given, data-gap-given}
 use borrow.Author.Needs.{needs}
 use Rattle.cs_choices.proofs.verdict.judge.Statement.{statement}

@@ -1,8 +1,5 @@
 -- `earlier` meets its contract. Assumes nothing.
-use mathlib.Core.Path.{_≡_}
-use mathlib.Core.Bool.{true}
-use native.Mathlib.Omega.{arith}
-use Rattle.slot.specs.Description.{chip0, isMulti}
+use Rattle.slot.specs.Description.{chip0}
 use Rattle.domain.proofs.Bounds.{chip0-in, data-pins, control-lines, commoned-lines, ignored-lines}
 use Rattle.cs_data_layout.specs.Search.{earlier}
 use Rattle.cs_data_layout.proofs.Bounds.{described}

@@ -1,7 +1,7 @@
 -- `excess_set` meets its contract. The loop's invariant: `s` has the GPIOs of the lines passed. Assumes nothing.
 use mathlib.Core.Path.{_≡_, refl}
 use mathlib.Core.Bool.{true}
-use Prim.Native.Nat.{ℕ, _+_, _≤_, _<_, _-_}
+use Prim.Native.Nat.{ℕ, _≤_, _<_, _-_}
 use native.Mathlib.Omega.{arith}
 use Rattle.gpio.specs.Set.{setOf}
 use Rattle.gpio.proofs.Sets.{set-turn, set-done}

@@ -1,5 +1,5 @@
 -- `ignored_set` meets its contract. Assumes nothing.
-use mathlib.Core.Path.{_≡_, sym, _∙_}
+use mathlib.Core.Path.{sym, _∙_}
 use borrow.Author.Needs.{needs}
 use Rattle.cs_data_layout.proofs.sets.ignored_set.Statement.{statement}
 use Rattle.cs_data_layout.proofs.sets.ignored_set.Tie as tie

@@ -1,6 +1,6 @@
 -- `qualifier_set` meets its contract. The loop's invariant: `s` has the GPIOs of the qualifiers passed, and those still to come are GPIOs. Assumes nothing.
 use mathlib.Core.Path.{_≡_, refl}
-use Prim.Native.Nat.{ℕ, _+_, _≤_, _<_, _-_}
+use Prim.Native.Nat.{ℕ, _≤_, _<_, _-_}
 use native.Mathlib.Omega.{arith}
 use Rattle.gpio.specs.Set.{setOf}
 use Rattle.gpio.proofs.Sets.{set-turn, set-done}

@@ -1,13 +1,13 @@
 -- `with_candidates` meets its contract. Assumes nothing.
 use mathlib.Core.Path.{_≡_}
 use mathlib.Core.Bool.{true, _&&_, not}
-use Prim.Native.Nat.{ℕ, _≤_, _<_}
+use Prim.Native.Nat.{ℕ, _<_}
 use native.Mathlib.Omega.{arith}
-use lib.Dec.{leb, eqb}
+use lib.Dec.{eqb}
 use borrow.Author.Tests.{leb-true}
 use Rattle.gpio.specs.Candidates.{candidatesIn, gpioIn}
 use Rattle.gpio.specs.declared.candidates.Candidates.{Candidates}
-use Rattle.gpio.specs.declared.candidates.Candidates.the-variants.{Absent, One, Two}
+use Rattle.gpio.specs.declared.candidates.Candidates.the-variants.{One, Two}
 use Rattle.gpio.proofs.Bools.{and-left, and-right}
 use borrow.Author.Needs.{needs}
 use Rattle.cs_data_layout.proofs.sets.with_candidates.Statement.{statement}

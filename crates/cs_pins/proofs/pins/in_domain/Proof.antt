@@ -1,10 +1,6 @@
 -- `in_domain` meets its contract. Assumes nothing.
-use mathlib.Core.Path.{_≡_, sym, _∙_}
-use mathlib.Core.Bool.{true}
-use native.Mathlib.Omega.{arith}
+use mathlib.Core.Path.{sym, _∙_}
 use Rattle.slot.specs.Description.{chip0}
-use Rattle.slot.specs.declared.description.Description.{Description}
-use Rattle.domain.specs.Domain.{descriptionIn}
 use Rattle.domain.proofs.Bounds.{chip0-in, data-pins, control-lines, commoned-lines}
 use Rattle.cs_pins.specs.Pins.{inDomain}
 use borrow.Author.Needs.{needs}

@@ -1,5 +1,5 @@
 -- `kind_listed` meets its contract. Assumes nothing.
-use mathlib.Core.Path.{_≡_, sym, _∙_}
+use mathlib.Core.Path.{sym, _∙_}
 use borrow.Author.Tests.{eq-eqb, ne-eqb}
 use Rattle.cs_pins.specs.Pins.{kindListed}
 use borrow.Author.Needs.{needs}

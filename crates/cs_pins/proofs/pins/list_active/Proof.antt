@@ -1,5 +1,5 @@
 -- `list_active` meets its contract. The loop's invariant: the active ones of the lines passed are listed. Assumes nothing.
-use mathlib.Core.Path.{_≡_, refl, ap}
+use mathlib.Core.Path.{_≡_, ap}
 use mathlib.Core.List.{List, _++_, append-nil, append-assoc}
 use Prim.Native.Nat.{ℕ, _+_, _≤_, _-_}
 use native.Mathlib.Numerals.{add-one}

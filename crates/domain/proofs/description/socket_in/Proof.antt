@@ -1,6 +1,6 @@
 -- `socket_in` meets its contract. The loop's invariant: `ok` says whether the pins passed are in the domain. Assumes nothing.
 use mathlib.Core.Path.{_≡_}
-use Prim.Native.Nat.{ℕ, _≤_, _-_}
+use Prim.Native.Nat.{_≤_, _-_}
 use native.Mathlib.Omega.{arith}
 use Rattle.gpio.specs.Each.{each}
 use Rattle.gpio.proofs.Each.{each-none, each-turn, each-done}

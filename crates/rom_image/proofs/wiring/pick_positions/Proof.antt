@@ -1,8 +1,7 @@
 -- `pick_positions` meets its contract. The invariant: the first k are in place. Assumes nothing.
 use mathlib.Core.Path.{refl}
-use Prim.Native.Nat.{ℕ, _-_}
+use Prim.Native.Nat.{_-_}
 use native.Mathlib.Omega.{arith}
-use lib.ListN.{getD}
 use borrow.Author.Needs.{needs}
 use Rattle.gpio.proofs.Tab.{Filled, filled-none, filled-turn, filled}
 use Rattle.rom_slot.specs.Positions.{xPosition}

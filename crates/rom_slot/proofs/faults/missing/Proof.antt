@@ -1,6 +1,6 @@
 -- `missing` meets its contract. The invariant: `fault` is that of the chips passed. Assumes nothing.
 use mathlib.Core.Path.{_≡_}
-use Prim.Native.Nat.{ℕ, _≤_, _-_}
+use Prim.Native.Nat.{_≤_, _-_}
 use native.Mathlib.Omega.{arith}
 use borrow.Author.Needs.{needs}
 use Rattle.rom_slot.specs.Faults.{firstOf, missingAt}

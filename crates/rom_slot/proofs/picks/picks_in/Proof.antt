@@ -1,12 +1,12 @@
 -- `picks_in` meets its contract. The invariant: `ok` says whether the lines passed have positions. Assumes nothing.
 use mathlib.Core.Path.{_≡_}
-use Prim.Native.Nat.{ℕ, _≤_, _-_}
+use Prim.Native.Nat.{_≤_, _-_}
 use native.Mathlib.Omega.{arith}
 use borrow.Author.Needs.{needs}
 use Rattle.gpio.specs.Each.{each}
 use Rattle.gpio.proofs.Each.{each-none, each-turn, each-done}
 use Rattle.rom_slot.specs.Positions.{xPositionIn}
-use Rattle.rom_slot.specs.Picks.{picksOf, pickOf}
+use Rattle.rom_slot.specs.Picks.{pickOf}
 use Rattle.rom_slot.specs.Faults.{picksIn}
 use Rattle.rom_slot.proofs.picks.picks_in.Statement.{statement}
 use Rattle.rom_slot.proofs.picks.picks_in.Tie as tie

@@ -1,21 +1,17 @@
 -- `known_offset` meets its contract. The loop's invariant: the rows from k on give the whole table's answer. Assumes nothing.
 use mathlib.Core.Path.{_≡_, refl, sym, _∙_, ap}
 use mathlib.Core.Bool.{Bool, true, false, cond}
-use mathlib.Core.List.{List, [], _∷_}
-use Prim.Native.Nat.{ℕ, zero, suc, _+_, _≤_, _<_, _-_}
+use mathlib.Core.List.{List}
+use Prim.Native.Nat.{ℕ, _+_, _≤_, _<_, _-_}
 use native.Mathlib.Numerals.{add-one}
 use native.Mathlib.Omega.{arith}
-use mir.Syntax.{w8}
-use mir.Val.{toZ, ofZ}
-use lib.Dec.{T, eqb}
 use lib.ListN.{length, drop, getD}
 use lib.Seq.{drop-cons}
 use borrow.Author.Needs.{needs}
-use borrow.Author.Tests.{not-true, not-false}
 use Rattle.slot.specs.declared.slot_context.KnownPair.{KnownPair}
 use Rattle.slot.specs.declared.slot_context.OffsetAnswer.{OffsetAnswer}
-use Rattle.slot.specs.declared.slot_context.OffsetAnswer.the-variants.{Offset, Refused}
-use Rattle.slot.specs.SlotContext.{isFor, offsetFrom, knownPairs, offsetAnswer, boardPinsIn}
+use Rattle.slot.specs.declared.slot_context.OffsetAnswer.the-variants.{Offset}
+use Rattle.slot.specs.SlotContext.{isFor, offsetFrom, knownPairs}
 use Rattle.slot.proofs.slot_context.known_offset.Statement.{statement}
 use Rattle.slot.proofs.slot_context.known_offset.Tie as tie
 

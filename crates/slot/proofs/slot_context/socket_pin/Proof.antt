@@ -4,7 +4,6 @@ use Prim.Native.Nat.{ℕ, _+_, _-_, _<_, _≤_}
 use native.Mathlib.Omega.{arith}
 use borrow.Author.Needs.{needs}
 use borrow.Author.Tests.{le-leb, lt-leb}
-use Rattle.slot.specs.declared.slot_context.Socket.{Socket}
 use Rattle.slot.specs.declared.slot_context.Socket.the-variants.{On, Off}
 use Rattle.slot.specs.SlotContext.{onSocket}
 use Rattle.slot.proofs.slot_context.socket_pin.Statement.{statement}

@@ -7,7 +7,7 @@ use borrow.Author.Needs.{needs}
 use Rattle.gpio.specs.Each.{each}
 use Rattle.gpio.proofs.Each.{each-none, each-turn, each-done}
 use Rattle.gpio.proofs.Lists.{mapped-length}
-use Rattle.wired.specs.Wired.{aloneAt, unsharedAmong, unshared}
+use Rattle.wired.specs.Wired.{aloneAt, unsharedAmong}
 use Rattle.wired.proofs.board.unshared.Statement.{statement}
 use Rattle.wired.proofs.board.unshared.Tie as tie
 
