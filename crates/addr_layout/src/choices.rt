@@ -5,10 +5,12 @@ use crate::layout::AddrLayout;
 use crate::layout::AddrOutcome;
 use crate::layout::XGpio;
 use crate::lines::num_lines;
+use gpio::array::one_if;
 use gpio::candidates::Candidates;
 use gpio::span::Span;
 use gpio::window::Window;
 use listing::Listing;
+use listing::choice::gpio_if;
 use listing::choice::in_part;
 use listing::choice::pick;
 use listing::choice::resolve;
@@ -21,8 +23,8 @@ use search::better;
 use search::row_bits;
 use slot::description::Description;
 ghost use mathlib.Core.Path.{_≡_};
-ghost use mathlib.Core.Bool.{true, false, cond};
-ghost use Prim.Native.Nat.{ℕ, _+_, _^_, _≤_};
+ghost use mathlib.Core.Bool.{true, cond};
+ghost use Prim.Native.Nat.{_+_, _^_, _≤_};
 ghost use lib.Dec.{ltb};
 ghost use lib.ListN.{getD, take};
 ghost use Rattle.gpio.specs.Tab.{tab};
@@ -59,13 +61,6 @@ fn reach(d: Description) -> u8
         k += 1;
     }
     lines
-}
-
-fn one_if(b: bool) -> u8
-    ensures { λ r. ⌜ r ≡ cond b 1 0 ⌝ }
-    ensures { λ r. ⌜ r ≤ 1 ⌝ }
-{
-    if b { 1 } else { 0 }
 }
 
 // Lines in use: those that a table has an index for.
@@ -265,12 +260,6 @@ fn line_gpios(all: [u8; 30], lines: usize) -> [u8; 24]
         k += 1;
     }
     out
-}
-
-fn gpio_if(used: bool, g: u8) -> u8
-    ensures { λ r. ⌜ r ≡ cond used g 0 ⌝ }
-{
-    if used { g } else { 0 }
 }
 
 fn x_gpio(used: bool, g: u8) -> XGpio

@@ -14,18 +14,19 @@ use cs_choices::verdict::above;
 use cs_choices::verdict::base;
 use cs_pins::roles::Roles;
 use cs_pins::roles::select_roles;
-use domain::lists::entry;
+use gpio::array::entry;
 use gpio::set::gap;
 use gpio::set::gapless;
 use gpio::set::lowest;
 use gpio::set::width;
 use listing::Listing;
+use listing::choice::gpio_if;
 use listing::choice::resolve;
 use listing::lines::commoned_kind;
 use slot::description::Description;
 ghost use mathlib.Core.Path.{_≡_};
 ghost use mathlib.Core.Bool.{cond};
-ghost use Prim.Native.Nat.{ℕ, _+_, _≤_, _<_};
+ghost use Prim.Native.Nat.{_+_, _≤_, _<_};
 ghost use lib.Dec.{ltb};
 ghost use lib.ListN.{getD, take};
 ghost use Rattle.gpio.specs.Tab.{tab};
@@ -140,12 +141,6 @@ fn commoned_lines(d: Description, gpios: [u8; 30], at: usize) -> [SelectLine; 6]
         k += 1;
     }
     out
-}
-
-fn gpio_if(used: bool, g: u8) -> u8
-    ensures { λ r. ⌜ r ≡ cond used g 0 ⌝ }
-{
-    if used { g } else { 0 }
 }
 
 fn data_lines(gpios: [u8; 30], count: usize) -> [u8; 16]

@@ -2,14 +2,14 @@
 // ignored lines of a Multi set.
 use addr_layout::layout::AddrLayout;
 use cs_pins::pins::kind_listed;
-use domain::lists::entry;
 use domain::qualifiers::qualifier_gpio;
+use gpio::array::entry;
 use gpio::candidates::Candidates;
 use gpio::set::with;
 use slot::description::Description;
 ghost use mathlib.Core.Path.{_≡_};
 ghost use mathlib.Core.Bool.{true};
-ghost use Prim.Native.Nat.{ℕ, _<_};
+ghost use Prim.Native.Nat.{_<_};
 ghost use lib.ListN.{getD};
 ghost use Rattle.gpio.specs.Candidates.{candidatesIn};
 ghost use Rattle.domain.specs.Domain.{descriptionIn, qualifiersIn};
@@ -25,6 +25,7 @@ pub fn excess_gpio(h: AddrLayout, k: usize) -> u8
     entry(&gpios, h.num_lines as usize + k)
 }
 
+// The GPIOs of the address lines past the table's reach, which select.
 pub fn excess_set(h: AddrLayout) -> u64
     requires { ⌜ layoutIn h ≡ true ⌝ }
     ensures { λ r. ⌜ r ≡ excessSet h ⌝ }
@@ -39,6 +40,7 @@ pub fn excess_set(h: AddrLayout) -> u64
     s
 }
 
+// The GPIOs of the qualifiers.
 pub fn qualifier_set(d: Description, h: AddrLayout) -> u64
     requires { ⌜ (layoutIn h ≡ true) × (qualifiersIn (d .qualifiers) (d .«num_qualifiers») (h .gpios) (h .«num_lines») ≡ true) ⌝ }
     ensures { λ r. ⌜ r ≡ qualifierSet d h ⌝ }

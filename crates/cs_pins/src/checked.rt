@@ -2,7 +2,7 @@
 use crate::pins::kind_listed;
 use crate::pins::list_active;
 use crate::pins::push_commoned;
-use domain::lists::entry;
+use gpio::array::entry;
 use gpio::candidates::Candidates;
 use listing::Listed;
 use listing::Listing;
@@ -11,7 +11,7 @@ use slot::refusal::Refusal;
 ghost use mathlib.Core.Path.{_≡_};
 ghost use mathlib.Core.Bool.{true};
 ghost use mathlib.Core.List.{_++_};
-ghost use Prim.Native.Nat.{ℕ, _≤_};
+ghost use Prim.Native.Nat.{_≤_};
 ghost use Rattle.slot.specs.Description.{isMulti, chip0};
 ghost use Rattle.listing.specs.Listing.{listOf};
 ghost use Rattle.cs_pins.specs.Pins.{activeListed};

@@ -5,7 +5,6 @@ use slot::description::ControlLine;
 use slot::description::ControlLines;
 ghost use mathlib.Core.Path.{_≡_};
 ghost use mathlib.Core.Bool.{not};
-ghost use Prim.Native.Nat.{ℕ};
 ghost use lib.Dec.{eqb};
 ghost use Rattle.gpio.specs.Each.{each};
 ghost use Rattle.slot.specs.Description.{lineAt, kindAt};
@@ -22,6 +21,7 @@ pub fn control_line(c: ControlLines, k: usize) -> ControlLine
     lines[k]
 }
 
+// The kind of the `k`-th control line.
 pub fn kind_at(c: ControlLines, k: usize) -> u8
     ensures { λ r. ⌜ r ≡ kindAt c k ⌝ }
 {
@@ -63,12 +63,14 @@ fn lines_in(c: ControlLines) -> bool
     ok
 }
 
+// Whether a chip's control lines keep to the domain.
 pub fn control_in(c: ControlLines) -> bool
     ensures { λ r. ⌜ r ≡ controlIn c ⌝ }
 {
     (c.count <= 8) & lines_in(c)
 }
 
+// Whether a chip keeps to the domain, for words of so many bytes.
 pub fn chip_in(c: Chip, word_bytes: u8) -> bool
     ensures { λ r. ⌜ r ≡ chipIn c «word_bytes» ⌝ }
 {

@@ -1,18 +1,10 @@
 // Tests of a list's entries up to its count. An entry past the list's end reads 0, so that each test answers for any
 // count; a count past the end is refused beside it.
+use gpio::array::entry;
 ghost use mathlib.Core.Path.{_≡_};
 ghost use lib.ListN.{getD};
 ghost use Rattle.gpio.specs.Each.{each};
 ghost use Rattle.domain.specs.Domain.{between};
-
-pub fn entry(list: &[u8], k: usize) -> u8
-    ensures { λ r. ⌜ r ≡ getD (now (list .entry)) k 0 ⌝ }
-{
-    if k < list.len() {
-        return list[k];
-    }
-    0
-}
 
 // Whether each of the first `count` entries is at least `low` and at most `high`.
 pub fn all_between(list: &[u8], count: u8, low: u8, high: u8) -> bool

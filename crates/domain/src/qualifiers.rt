@@ -1,10 +1,9 @@
 // The qualifier list, tested only where an address layout is given: its indices name lines in use of that layout.
-use crate::lists::entry;
+use gpio::array::entry;
 ghost use mathlib.Core.Path.{_≡_};
 ghost use lib.Dec.{leb};
-ghost use lib.ListN.{getD};
 ghost use Rattle.gpio.specs.Each.{each};
-ghost use Prim.Native.Nat.{ℕ, _+_};
+ghost use Prim.Native.Nat.{_+_};
 ghost use Rattle.domain.specs.Domain.{qualifierGpio, qualifierIn, qualifiersIn};
 
 // The GPIO of the `k`-th qualifier's line.

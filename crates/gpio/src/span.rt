@@ -29,6 +29,7 @@ impl Span {
         Span { low: 255, high: 0 }
     }
 
+    // With one GPIO more.
     pub fn widen(self, g: u8) -> Span
         ensures { λ r. ⌜ r ≡ widened self g ⌝ }
     {

@@ -1,13 +1,13 @@
-// The select and data layout record.
+// The select and data layout record: written where the search answers, read where a build is handed one.
 use bytes::copy;
 use cs_data_layout::layout::CsDataLayout;
 use cs_data_layout::layout::IgnoreIndex;
 use cs_data_layout::layout::Qualifiers;
 use cs_data_layout::layout::SelectLine;
+use gpio::array::one_if;
 use record::bytes::byte_at;
 use record::bytes::sixteen_at;
 ghost use mathlib.Core.Path.{_≡_};
-ghost use mathlib.Core.Bool.{Bool, cond};
 ghost use mathlib.Core.List.{_++_};
 ghost use Prim.Native.Nat.{_+_, _<_, _/_, _%_, _≤_};
 ghost use lib.ListN.{length, drop};
@@ -21,15 +21,6 @@ fn ignore_byte(index: IgnoreIndex) -> u8
         IgnoreIndex::None => 255,
         IgnoreIndex::At(k) => k,
     }
-}
-
-fn flag_byte(flag: bool) -> u8
-    ensures { λ r. ⌜ r ≡ cond flag 1 0 ⌝ }
-{
-    if flag {
-        return 1;
-    }
-    0
 }
 
 fn head(l: CsDataLayout) -> [u8; 12]
@@ -46,7 +37,7 @@ fn head(l: CsDataLayout) -> [u8; 12]
         ignore_byte(index),
         l.num_select_lines,
         l.num_commoned_lines,
-        flag_byte(qualifiers.present),
+        one_if(qualifiers.present),
         qualifiers.base_qualifier_pin,
         qualifiers.num_qualifier_pins,
         qualifiers.qualifier_inactive_pattern,

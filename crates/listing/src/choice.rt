@@ -3,7 +3,7 @@
 use crate::Listing;
 use gpio::candidates::Candidates;
 ghost use mathlib.Core.Path.{_≡_};
-ghost use Prim.Native.Nat.{ℕ, _≤_};
+ghost use mathlib.Core.Bool.{cond};
 ghost use Rattle.gpio.specs.Tab.{tab};
 ghost use Rattle.listing.specs.Listing.{listOf};
 ghost use Rattle.listing.specs.Choice.{chosen, leftBy, pinAt, gpioAt, inPart};
@@ -14,6 +14,7 @@ pub struct Picked {
     pub rest: u32,
 }
 
+// What a pin with these candidates takes of what is left of a choice number.
 pub fn pick(gpios: Candidates, rest: u32) -> Picked
     ensures { λ r. ⌜ r ≡ record { gpio = chosen gpios rest; rest = leftBy gpios rest } ⌝ }
 {
@@ -73,4 +74,11 @@ pub fn resolve(l: Listing, choice: u32) -> [u8; 30]
         k += 1;
     }
     out
+}
+
+// The GPIO of a line that is there; 0 past the lines.
+pub fn gpio_if(there: bool, g: u8) -> u8
+    ensures { λ r. ⌜ r ≡ cond there g 0 ⌝ }
+{
+    if there { g } else { 0 }
 }

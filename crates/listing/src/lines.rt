@@ -1,6 +1,6 @@
 // A chip's pins in the socket, and its control lines by kind.
 use domain::chip::control_line;
-use domain::lists::entry;
+use gpio::array::entry;
 use gpio::candidates::Candidates;
 use slot::description::ControlLine;
 use slot::description::ControlLines;

@@ -1,13 +1,11 @@
 // Where a line stands in an index or in an entry: its GPIO less the base.
-use addr_layout::layout::AddrLayout;
 use addr_layout::layout::XGpio;
 use cs_data_layout::layout::CsDataLayout;
 ghost use mathlib.Core.Path.{_≡_};
-ghost use mathlib.Core.Bool.{true};
-ghost use Prim.Native.Nat.{ℕ, _≤_};
+ghost use Prim.Native.Nat.{_≤_};
 ghost use lib.ListN.{getD};
 ghost use Rattle.gpio.specs.Each.{each};
-ghost use Rattle.rom_slot.specs.Positions.{position, positionIn, xPositionIn, xPosition, dataBase, dataPositionIn};
+ghost use Rattle.rom_slot.specs.Positions.{position, positionIn, xPositionIn, xPosition, dataBase};
 
 // The position of a GPIO from a base; 0 below it.
 pub fn position(base: u8, gpio: u8) -> u8
@@ -19,6 +17,7 @@ pub fn position(base: u8, gpio: u8) -> u8
     gpio - base
 }
 
+// Whether a GPIO has a position from a base that an index of 32 bits has.
 pub fn position_in(base: u8, gpio: u8) -> bool
     ensures { λ r. ⌜ r ≡ positionIn base gpio ⌝ }
 {
@@ -35,6 +34,7 @@ pub fn x_position_in(base: u8, x: XGpio) -> bool
     }
 }
 
+// The position of an X pin's GPIO; 0 where it has none.
 pub fn x_position(base: u8, x: XGpio) -> u8
     ensures { λ r. ⌜ r ≡ xPosition base x ⌝ }
 {
@@ -52,7 +52,7 @@ pub fn positions_in(gpios: &[u8], n: u8, base: u8) -> bool
     let mut ok = true;
     let mut k: usize = 0;
     while k < count {
-        let gpio = domain::lists::entry(gpios, k);
+        let gpio = gpio::array::entry(gpios, k);
         ok = ok & position_in(base, gpio);
         k += 1;
     }

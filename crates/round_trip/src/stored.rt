@@ -2,7 +2,7 @@
 use addr_layout::layout::AddrLayout;
 use addr_layout::layout::XGpio;
 use cs_data_layout::layout::CsDataLayout;
-use domain::lists::entry;
+use gpio::array::entry;
 use rom_slot::faults::chip_size;
 use rom_slot::faults::table_size;
 use rom_slot::picks::first_select;

@@ -2,7 +2,7 @@
 // number of chips, in 8 and in 16-bit mode. That each is well wired is tested by `well_wired`, whose law gives the premise of demand 3.
 // Each pin has one GPIO and no GPIO two pins. The lent buffers hold JUNK before.
 use addr_layout::derive_addr_layout;
-use domain::lists::entry;
+use gpio::array::entry;
 use gpio::candidates::Candidates;
 use gpio::candidates::Pin;
 use libc::STDOUT_FILENO;

@@ -1,4 +1,4 @@
-// The ROMs' maps and words.
+// The ROMs: where their maps lead, how many words each has, and what a ROM is refused for.
 use crate::stored::Rom;
 use crate::stored::StoredSlot;
 use crate::window::addr_base;
@@ -69,7 +69,7 @@ fn map_within(map: [u8; 32], base: u32, n: u32) -> bool
     let mut ok = true;
     let mut k: usize = 0;
     while k < count {
-        ok = ok & within(base, n, domain::lists::entry(&map, k) as u32);
+        ok = ok & within(base, n, gpio::array::entry(&map, k) as u32);
         k += 1;
     }
     ok
