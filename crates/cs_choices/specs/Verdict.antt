@@ -27,9 +27,13 @@ baseOf all = baseOver (lowest all)
 abbrev pub inWindow : ℕ → Bool
 inWindow all = fits (baseOf all) (end all - baseOf all)
 
+-- the preference that a choice comes to: with qualifiers or not, and with an ignore index or not
+abbrev pub preferenceBy : ℕ → ℕ → ℕ
+preferenceBy selectGpios qualifiers = preferenceOf (not (eqb qualifiers 0)) (not (gapless selectGpios))
+
 -- "Score: preference, then total span.": a span is below 1000, so that the preference decides
 abbrev pub scoreOf : ℕ → ℕ → ℕ → ℕ
-scoreOf selectGpios qualifiers all = preferenceOf (not (eqb qualifiers 0)) (not (gapless selectGpios)) * 1000 + width all
+scoreOf selectGpios qualifiers all = preferenceBy selectGpios qualifiers * 1000 + width all
 
 -- "A choice needs data GPIOs without a gap; select, excess and commoned GPIOs likewise ..; and all .. in one window"
 unfoldable pub verdictOf : Bool → ℕ → ℕ → ℕ → Verdict

@@ -12,7 +12,6 @@ use lib.ListN.{length, getD}
 use lib.Pow.{pow-mono}
 use borrow.Author.Tests.{ltb-true, ltb-false, lt-ltb}
 use Rattle.gpio.specs.Set.{setOf, lowest, end, gapless}
-use Rattle.gpio.specs.Tab.{tab}
 use Rattle.gpio.proofs.Bools.{and-left, and-right}
 use Rattle.gpio.proofs.Fits.{fits-width}
 use Rattle.gpio.proofs.Members.{held, held-left, held-right, set-held, held-low, held-high, lowest-or, lowest-of, member-low, gapless-below}
@@ -25,7 +24,7 @@ use Rattle.domain.proofs.Bounds.{chip0-in, data-pins, commoned-lines}
 use Rattle.listing.specs.Choice.{CandidateOf, pinAt, gpioAt}
 use Rattle.listing.specs.declared.Listed.{Listed}
 use Rattle.listing.proofs.InDomain.{gpio-in}
-use Rattle.cs_pins.specs.Pins.{kindListed, commonedListed, numbered, inDomain}
+use Rattle.cs_pins.specs.Pins.{kindListed, multiCommoned, commonedListed, numbered, inDomain}
 use Rattle.cs_pins.specs.Roles.{selectRoles}
 use Rattle.cs_pins.proofs.InDomain.{numbered-in}
 use Rattle.cs_pins.proofs.Counts.{few-roles, numbered-length, data-pin, select-pin, kind-on}
@@ -59,7 +58,7 @@ commoned-length : (d : Description) → length (commonedListed d) ≡ numCommone
 unfolding commonedListed
 commoned-length d = by (isMulti (d .«set_type»))
   where
-    by : (t : Bool) → length (cond t (tab (d .multi .«num_commoned») (λ k. kindListed d (getD (d .multi .commoned) k 0))) []) ≡ cond t (d .multi .«num_commoned») 0
+    by : (t : Bool) → length (cond t (multiCommoned d) []) ≡ cond t (d .multi .«num_commoned») 0
     by true = tab-length (λ k. kindListed d (getD (d .multi .commoned) k 0)) (d .multi .«num_commoned»)
     by false = refl
 

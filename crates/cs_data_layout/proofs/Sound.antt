@@ -4,8 +4,7 @@ use mathlib.Core.Bool.{Bool, true, false}
 use mathlib.Core.List.{List, [], _∷_, _++_}
 use Prim.Native.Nat.{ℕ, _<_}
 use lib.Dec.{leb}
-use lib.ListN.{length, getD}
-use Rattle.gpio.specs.Tab.{tab}
+use lib.ListN.{length}
 use Rattle.slot.specs.Description.{isMulti, chip0}
 use Rattle.slot.specs.declared.description.Description.{Description}
 use Rattle.listing.specs.Listing.{xPins, faultFrom, firstFault}
@@ -14,7 +13,7 @@ use Rattle.listing.specs.declared.Listed.{Listed}
 use Rattle.listing.specs.declared.FirstFault.the-variants.{None}
 use Rattle.listing.proofs.Candidate.{candidate-at}
 use Rattle.listing.proofs.Faults.{no-fault-at, or-none, append-none, none-append}
-use Rattle.cs_pins.specs.Pins.{dataListed, activeListed, kindListed, selectListed, commonedListed, numbered}
+use Rattle.cs_pins.specs.Pins.{dataListed, activeListed, kindListed, selectListed, multiCommoned, commonedListed, numbered}
 use Rattle.cs_pins.specs.Checked.{orNoActive, ignoredListed, multiChecked, checked}
 use Rattle.cs_choices.specs.Sets.{dataSet}
 use Rattle.cs_choices.specs.declared.verdict.Verdict.the-variants.{Fits}
@@ -36,9 +35,6 @@ module _ (d : Description) where
   abbrev selectLine : List Listed
   selectLine = kindListed d (d .multi .select) ∷ []
 
-  abbrev commonedPins : List Listed
-  commonedPins = tab (d .multi .«num_commoned») (λ k. kindListed d (getD (d .multi .commoned) k 0))
-
   abbrev xs : List Listed
   xs = xPins (d .board) (leb 2 (d .«num_chips»)) (leb 3 (d .«num_chips»))
 
@@ -46,9 +42,9 @@ module _ (d : Description) where
   select-none : (m : Bool) → isMulti (d .«set_type») ≡ m → firstFault (checked d) ≡ None → (firstFault (selectListed d) ≡ None) × (firstFault (commonedListed d) ≡ None)
   unfolding selectListed commonedListed checked multiChecked faultFrom
   select-none true m e =
-      let all : firstFault (((selectLine ++ commonedPins) ++ ignoredListed d) ++ xs) ≡ None = rw m at e in
-      let (lines, x) = append-none ((selectLine ++ commonedPins) ++ ignoredListed d) xs all in
-      let (s, c) = append-none selectLine commonedPins (append-none (selectLine ++ commonedPins) (ignoredListed d) lines .0) in
+      let all : firstFault (((selectLine ++ multiCommoned d) ++ ignoredListed d) ++ xs) ≡ None = rw m at e in
+      let (lines, x) = append-none ((selectLine ++ multiCommoned d) ++ ignoredListed d) xs all in
+      let (s, c) = append-none selectLine (multiCommoned d) (append-none (selectLine ++ multiCommoned d) (ignoredListed d) lines .0) in
       rw m (none-append selectLine xs s x, c)
   select-none false m e =
       let active : firstFault (orNoActive (activeListed d (chip0 d .control .count))) ≡ None = rw m at e in

@@ -1,17 +1,15 @@
 -- Demand 2's law of the select search, why a search in which nothing fits refuses, and what a found layout keeps. Assumes nothing.
 use mathlib.Core.Path.{_≡_}
-use mathlib.Core.Bool.{true, not, _&&_}
+use mathlib.Core.Bool.{true, _&&_}
 use mathlib.Core.Logic.{_⊎_}
 use Prim.Native.Nat.{ℕ, _+_, _-_, _^_, _≤_, _<_}
 use lib.Bits.{bitAnd}
-use lib.Dec.{eqb}
 use lib.ListN.{length, getD}
 use Rattle.gpio.specs.Set.{Distinct, lowest, width, gapless, gap}
 use Rattle.slot.specs.Description.{isMulti, chip0}
 use Rattle.slot.specs.declared.description.Description.{Description}
 use Rattle.slot.specs.declared.refusal.Refusal.{Refusal}
 use Rattle.slot.specs.declared.refusal.Refusal.the-variants.{NonContiguousSelect, InteriorIgnoredLine, NoValidLayout}
-use Rattle.control.specs.AlgPreference.{preferenceOf}
 use Rattle.listing.specs.Listing.{twos}
 use Rattle.listing.specs.Lines.{kindPin, pinCandidates}
 use Rattle.listing.specs.Choice.{CandidateOf, pinAt, gpioAt}
@@ -19,7 +17,7 @@ use Rattle.listing.specs.declared.FirstFault.the-variants.{None}
 use Rattle.search.specs.Law.{Best}
 use Rattle.cs_pins.specs.Pins.{numbered, inDomain}
 use Rattle.cs_choices.specs.Sets.{dataSet, selectSet}
-use Rattle.cs_choices.specs.Verdict.{selectable, allOf, inWindow, trialOf}
+use Rattle.cs_choices.specs.Verdict.{selectable, allOf, inWindow, preferenceBy, trialOf}
 use Rattle.cs_choices.specs.declared.verdict.Verdict.{Verdict}
 use Rattle.cs_choices.specs.declared.verdict.Verdict.the-variants.{SelectGap, Fits}
 use Rattle.cs_data_layout.specs.Layout.{line, handed}
@@ -59,7 +57,7 @@ allAt d a c = allOf (dataSet (numbered d) (numData d) c) (selectsAt d a c) (qual
 
 -- "Score: preference, then total span."
 abbrev pub preferenceAt : Description → GivenLayout → ℕ → ℕ
-preferenceAt d a c = preferenceOf (not (eqb (qualifierSet d (handed a)) 0)) (not (gapless (selectsAt d a c)))
+preferenceAt d a c = preferenceBy (selectsAt d a c) (qualifierSet d (handed a))
 
 abbrev pub totalSpan : Description → GivenLayout → ℕ → ℕ
 totalSpan d a c = width (allAt d a c)

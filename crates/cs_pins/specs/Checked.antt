@@ -10,7 +10,7 @@ use Rattle.slot.specs.declared.description.Description.{Description}
 use Rattle.slot.specs.declared.refusal.Refusal.the-variants.{NoSelectLine}
 use Rattle.listing.specs.Listing.{listed, xPins}
 use Rattle.listing.specs.declared.Listed.{Listed}
-use Rattle.cs_pins.specs.Pins.{activeListed, kindListed}
+use Rattle.cs_pins.specs.Pins.{activeListed, kindListed, multiCommoned}
 
 -- "no active line in Single or Banked": the line that is missing stands for it
 unfoldable pub orNoActive : List Listed → List Listed
@@ -24,8 +24,7 @@ ignoredListed d = tab (d .multi .«num_ignored») (λ k. kindListed d (getD (d .
 -- or more, X2 with 3 or more (4)"
 unfoldable pub multiChecked : Description → List Listed
 multiChecked d =
-    (((kindListed d (d .multi .select) ∷ []) ++ tab (d .multi .«num_commoned») (λ k. kindListed d (getD (d .multi .commoned) k 0)))
-    ++ ignoredListed d)
+    (((kindListed d (d .multi .select) ∷ []) ++ multiCommoned d) ++ ignoredListed d)
     ++ xPins (d .board) (leb 2 (d .«num_chips»)) (leb 3 (d .«num_chips»))
 
 unfoldable pub checked : Description → List Listed

@@ -48,9 +48,12 @@ selectListed d =
     (kindListed d (d .multi .select) ∷ xPins (d .board) (leb 2 (d .«num_chips»)) (leb 3 (d .«num_chips»)))
     (activeListed d (chip0 d .control .count))
 
+-- the commoned lines of a Multi set
+abbrev pub multiCommoned : Description → List Listed
+multiCommoned d = tab (d .multi .«num_commoned») (λ k. kindListed d (getD (d .multi .commoned) k 0))
+
 unfoldable pub commonedListed : Description → List Listed
-commonedListed d =
-    cond (isMulti (d .«set_type»)) (tab (d .multi .«num_commoned») (λ k. kindListed d (getD (d .multi .commoned) k 0))) []
+commonedListed d = cond (isMulti (d .«set_type»)) (multiCommoned d) []
 
 -- "Choices number the pins in the order data, select with X1 and X2, commoned."
 unfoldable pub numbered : Description → List Listed

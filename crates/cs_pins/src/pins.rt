@@ -4,7 +4,7 @@ use control::cs_config::line_ignored;
 use domain::chip::control_line;
 use domain::chip::kind_at;
 use domain::description::description_in;
-use domain::lists::entry;
+use gpio::array::entry;
 use gpio::candidates::Candidates;
 use listing::Listed;
 use listing::Listing;
@@ -15,13 +15,12 @@ use slot::description::Description;
 use slot::refusal::Refusal;
 ghost use mathlib.Core.Path.{_≡_};
 ghost use mathlib.Core.List.{_++_};
-ghost use Prim.Native.Nat.{ℕ, _+_, _≤_};
+ghost use Prim.Native.Nat.{_+_, _≤_};
 ghost use lib.ListN.{getD};
-ghost use Rattle.gpio.specs.Tab.{tab};
 ghost use mathlib.Core.Bool.{true};
 ghost use Rattle.slot.specs.Description.{isMulti, chip0};
 ghost use Rattle.listing.specs.Listing.{listOf};
-ghost use Rattle.cs_pins.specs.Pins.{pinListed, dataListed, active, ifActive, activeListed, kindListed, selectListed, numbered, inDomain};
+ghost use Rattle.cs_pins.specs.Pins.{pinListed, dataListed, active, ifActive, activeListed, kindListed, selectListed, multiCommoned, numbered, inDomain};
 
 // A chip pin; one without GPIO or off the socket is a fault.
 fn pin_listed(d: Description, pin: u8) -> Listed
@@ -130,7 +129,7 @@ fn list_selects(d: Description, before: Listing) -> Listing
 // The list, with the commoned lines.
 pub fn push_commoned(d: Description, selects: Listing) -> Listing
     requires { ⌜ (selects .count ≤ 24) × (d .multi .«num_commoned» ≤ 6) ⌝ }
-    ensures { λ r. ⌜ (listOf r ≡ listOf selects ++ tab (d .multi .«num_commoned») (λ k. kindListed d (getD (d .multi .commoned) k 0))) × (r .count ≤ selects .count + 6) ⌝ }
+    ensures { λ r. ⌜ (listOf r ≡ listOf selects ++ multiCommoned d) × (r .count ≤ selects .count + 6) ⌝ }
 {
     let multi = d.multi;
     let count = multi.num_commoned as usize;

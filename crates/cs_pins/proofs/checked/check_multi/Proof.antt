@@ -3,12 +3,10 @@ use mathlib.Core.Path.{_≡_}
 use mathlib.Core.List.{List, [], _∷_, _++_}
 use native.Mathlib.Omega.{arith}
 use lib.Dec.{leb}
-use lib.ListN.{getD}
-use Rattle.gpio.specs.Tab.{tab}
 use Rattle.slot.specs.declared.description.Description.{Description}
 use Rattle.listing.specs.Listing.{xPins}
 use Rattle.listing.specs.declared.Listed.{Listed}
-use Rattle.cs_pins.specs.Pins.{kindListed}
+use Rattle.cs_pins.specs.Pins.{kindListed, multiCommoned}
 use Rattle.cs_pins.specs.Checked.{ignoredListed, multiChecked}
 use borrow.Author.Needs.{needs}
 use Rattle.cs_pins.proofs.checked.check_multi.Statement.{statement}
@@ -17,7 +15,7 @@ use Rattle.cs_pins.proofs.checked.check_multi.Tie as tie
 -- the parts in their order, from the last to the first
 parts : (d : Description) (none select commoned lines all : List Listed) (p : Listed)
     → all ≡ lines ++ xPins (d .board) (leb 2 (d .«num_chips»)) (leb 3 (d .«num_chips»)) → lines ≡ commoned ++ ignoredListed d
-    → commoned ≡ select ++ tab (d .multi .«num_commoned») (λ k. kindListed d (getD (d .multi .commoned) k 0)) → select ≡ none ++ (p ∷ []) → none ≡ []
+    → commoned ≡ select ++ multiCommoned d → select ≡ none ++ (p ∷ []) → none ≡ []
     → p ≡ kindListed d (d .multi .select) → all ≡ multiChecked d
 unfolding multiChecked
 parts d none select commoned lines all p x i c s n e = rw (x, i, c, s, n, e)

@@ -2,13 +2,11 @@
 use mathlib.Core.Path.{_≡_, sym, _∙_}
 use mathlib.Core.Bool.{true, false}
 use mathlib.Core.List.{List, _++_, append-nil}
-use lib.ListN.{getD}
-use Rattle.gpio.specs.Tab.{tab}
 use native.Mathlib.Omega.{arith}
 use Rattle.slot.specs.Description.{isMulti}
 use Rattle.slot.specs.declared.description.Description.{Description}
 use Rattle.listing.specs.declared.Listed.{Listed}
-use Rattle.cs_pins.specs.Pins.{kindListed, dataListed, selectListed, commonedListed, numbered}
+use Rattle.cs_pins.specs.Pins.{dataListed, selectListed, multiCommoned, commonedListed, numbered}
 use borrow.Author.Needs.{needs}
 use Rattle.cs_pins.proofs.pins.list.Statement.{statement}
 use Rattle.cs_pins.proofs.pins.list.Tie as tie
@@ -18,8 +16,7 @@ with-commoned : (d : Description) (ls ms ns cs : List Listed) → ls ≡ dataLis
 unfolding numbered
 with-commoned d ls ms ns cs e f g h = rw (h, f, e, g)
 
-commoned-is : (d : Description)
-    → isMulti (d .«set_type») ≡ true → tab (d .multi .«num_commoned») (λ k. kindListed d (getD (d .multi .commoned) k 0)) ≡ commonedListed d
+commoned-is : (d : Description) → isMulti (d .«set_type») ≡ true → multiCommoned d ≡ commonedListed d
 unfolding commonedListed
 commoned-is d e = rw e
 
