@@ -78,7 +78,3 @@ module _ (trial : ℕ → Trial) where
   -- what is found is the best
   pub found-best : (k c s : ℕ) → best trial k ≡ At c s → Best trial k c s
   found-best k c s e = rw e at (best-right k)
-
-  -- where some choice fits, something is found
-  pub fits-found : (k j t : ℕ) → j < k → trial j ≡ Score t → best trial k ≡ Nothing → ⊥
-  fits-found k j t l p e = nothing-fits k e j t l p

@@ -24,10 +24,6 @@ word-in (suc w) front rest v at l h =
     let ih = rw append-snoc at (word-in w (front ++ (v % 256 ∷ [])) rest (v / 256) (at + 1) next (byte-less w v h)) in
     rw (getD-at front (v % 256) (bytesOf w (v / 256) ++ rest) 0 at l, ih) (omega arith)
 
--- and at its front
-pub word-back : (w v : ℕ) (rest : List ℕ) → v < 2 ^ (8 * w) → wordFrom w (bytesOf w v ++ rest) 0 ≡ v
-word-back w v rest h = word-in w [] rest v 0 refl h
-
 -- a word of those written one after the other
 pub word-of-words : (w : ℕ) (f : ℕ → ℕ) (n : ℕ) (rest : List ℕ) (i : ℕ) → i < n → f i < 2 ^ (8 * w) → word w (wordsBytes w f n ++ rest) i ≡ f i
 unfolding joined
