@@ -2,11 +2,11 @@
 use Prim.Native.Nat.{ℕ, _+_, _*_}
 use mathlib.Core.Bool.{Bool, _&&_}
 use mathlib.Core.List.{List}
-use lib.Dec.{leb, eqb}
+use lib.Dec.{eqb}
 use lib.ListN.{length}
 use Rattle.gpio.specs.Each.{each}
 use Rattle.gpio.specs.Tab.{tab}
-use Rattle.record.specs.Record.{byteAt, fourAt}
+use Rattle.record.specs.Record.{byteAt, fourAt, flagFormed}
 use Rattle.rom_slot.specs.declared.images.ImageSpan.{ImageSpan}
 
 -- "48 bytes"
@@ -21,9 +21,6 @@ spanFrom b p = record { present = eqb (byteAt b p) 1; start = fourAt b (p + 4); 
 abbrev pub spansAt : List ℕ → List ImageSpan
 spansAt b = tab 4 (λ k. spanFrom b (12 * k))
 
--- "0 no, 1 yes", and the places that must be 0
-abbrev pub spanFormed : List ℕ → ℕ → Bool
-spanFormed b p = leb (byteAt b p) 1 && eqb (byteAt b (p + 1)) 0 && eqb (byteAt b (p + 2)) 0 && eqb (byteAt b (p + 3)) 0
-
+-- the length, and whether each chip has bytes
 unfoldable pub spansFormed : List ℕ → Bool
-spansFormed b = eqb (length b) spansSize && each 4 (λ k. spanFormed b (12 * k))
+spansFormed b = eqb (length b) spansSize && each 4 (λ k. flagFormed b (12 * k))

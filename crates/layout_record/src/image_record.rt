@@ -1,10 +1,11 @@
-// The image spans record.
+// The image spans record: where in the lent bytes each chip's stand.
 use record::bytes::byte_at;
+use record::bytes::flag_formed;
 use record::bytes::four_at;
 use rom_slot::images::ImageSpan;
 ghost use mathlib.Core.Path.{_≡_};
 ghost use Prim.Native.Nat.{_+_, _≤_};
-ghost use Rattle.layout_record.specs.ImageRecord.{spansSize, spanFrom, spansAt, spanFormed, spansFormed};
+ghost use Rattle.layout_record.specs.ImageRecord.{spansSize, spanFrom, spansAt, spansFormed};
 
 fn span_from(b: &[u8], p: usize) -> ImageSpan
     requires { ⌜ p + 12 ≤ spansSize ⌝ }
@@ -29,24 +30,13 @@ pub fn spans_at(b: &[u8]) -> [ImageSpan; 4]
     ]
 }
 
-fn span_formed(b: &[u8], p: usize) -> bool
-    requires { ⌜ p + 12 ≤ spansSize ⌝ }
-    ensures { λ r. ⌜ r ≡ spanFormed (now (b .entry)) p ⌝ }
-{
-    let present = byte_at(b, p);
-    let spare = byte_at(b, p + 1);
-    let spare_2 = byte_at(b, p + 2);
-    let spare_3 = byte_at(b, p + 3);
-    (present <= 1) & (spare == 0) & (spare_2 == 0) & (spare_3 == 0)
-}
-
 // Whether the bytes are a record.
 pub fn formed(b: &[u8]) -> bool
     ensures { λ r. ⌜ r ≡ spansFormed (now (b .entry)) ⌝ }
 {
-    let first = span_formed(b, 0);
-    let second = span_formed(b, 12);
-    let third = span_formed(b, 24);
-    let fourth = span_formed(b, 36);
+    let first = flag_formed(b, 0);
+    let second = flag_formed(b, 12);
+    let third = flag_formed(b, 24);
+    let fourth = flag_formed(b, 36);
     (b.len() == 48) & (first & second & third & fourth)
 }

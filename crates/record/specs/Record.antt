@@ -3,7 +3,7 @@
 use Prim.Native.Nat.{ℕ, _+_, _*_, _-_}
 use mathlib.Core.Bool.{Bool, _&&_, _||_, not, cond}
 use mathlib.Core.List.{List}
-use lib.Dec.{leb, ltb, eqb}
+use lib.Dec.{leb, eqb}
 use lib.IntN.{ℤ, pos, negsuc}
 use lib.ListN.{length, getD}
 use Rattle.gpio.specs.Each.{each}
@@ -26,7 +26,6 @@ use Rattle.slot.specs.declared.description.CsConfig.the-variants.{ChipSelect, C
 use Rattle.slot.specs.declared.description.MultiCsConfig.{MultiCsConfig}
 use Rattle.slot.specs.declared.description.Description.{Description}
 use Rattle.slot.specs.declared.refusal.Refusal.the-variants.{OutOfDomain}
-use Rattle.record.specs.declared.Answer.{Answer}
 use Rattle.record.specs.declared.Answer.the-variants.{Described, Refused}
 use Rattle.record.specs.declared.Decoded.{Decoded}
 
@@ -56,6 +55,10 @@ candidatesAt b p = candidatesOf (byteAt b p) (byteAt b (p + 1))
 -- a second candidate without a first is none of these
 abbrev pub pairIn : List ℕ → ℕ → Bool
 pairIn b p = not (eqb (byteAt b p) 255) || eqb (byteAt b (p + 1)) 255
+
+-- "0 no, 1 yes", and three places behind it that must be 0
+abbrev pub flagFormed : List ℕ → ℕ → Bool
+flagFormed b p = leb (byteAt b p) 1 && eqb (byteAt b (p + 1)) 0 && eqb (byteAt b (p + 2)) 0 && eqb (byteAt b (p + 3)) 0
 
 -- "0 Single, 1 Banked, 2 Multi"
 abbrev pub setTypeOf : ℕ → ChipSetType

@@ -2,10 +2,11 @@
 // answers for any length; `shape` refuses such a record.
 use gpio::candidates::Candidates;
 ghost use mathlib.Core.Path.{_≡_};
-ghost use Prim.Native.Nat.{ℕ, _<_};
+ghost use Prim.Native.Nat.{_<_};
 ghost use lib.ListN.{length};
-ghost use Rattle.record.specs.Record.{size, byteAt, bytesAt, fourAt, candidatesAt, pairIn};
+ghost use Rattle.record.specs.Record.{size, byteAt, bytesAt, fourAt, candidatesAt, pairIn, flagFormed};
 
+// The byte at a place.
 pub fn byte_at(b: &[u8], p: usize) -> u8
     ensures { λ r. ⌜ r ≡ byteAt (now (b .entry)) p ⌝ }
 {
@@ -22,6 +23,7 @@ fn wide(x: u8) -> u32
     x as u32
 }
 
+// The number of four bytes from a place, low byte first.
 pub fn four_at(b: &[u8], p: usize) -> u32
     requires { ⌜ p < size ⌝ }
     ensures { λ r. ⌜ r ≡ fourAt (now (b .entry)) p ⌝ }
@@ -45,6 +47,7 @@ pub fn fill(b: &[u8], p: usize, out: &mut [u8])
     }
 }
 
+// The eight bytes from a place.
 pub fn eight_at(b: &[u8], p: usize) -> [u8; 8]
     requires { ⌜ p < size ⌝ }
     ensures { λ r. ⌜ r ≡ bytesAt (now (b .entry)) p 8 ⌝ }
@@ -54,6 +57,7 @@ pub fn eight_at(b: &[u8], p: usize) -> [u8; 8]
     out
 }
 
+// The sixteen bytes from a place.
 pub fn sixteen_at(b: &[u8], p: usize) -> [u8; 16]
     requires { ⌜ p < size ⌝ }
     ensures { λ r. ⌜ r ≡ bytesAt (now (b .entry)) p 16 ⌝ }
@@ -63,6 +67,7 @@ pub fn sixteen_at(b: &[u8], p: usize) -> [u8; 16]
     out
 }
 
+// The twenty-four bytes from a place.
 pub fn twenty_four_at(b: &[u8], p: usize) -> [u8; 24]
     requires { ⌜ p < size ⌝ }
     ensures { λ r. ⌜ r ≡ bytesAt (now (b .entry)) p 24 ⌝ }
@@ -72,6 +77,7 @@ pub fn twenty_four_at(b: &[u8], p: usize) -> [u8; 24]
     out
 }
 
+// The candidates of a pin, two bytes from a place.
 pub fn candidates_at(b: &[u8], p: usize) -> Candidates
     requires { ⌜ p < size ⌝ }
     ensures { λ r. ⌜ r ≡ candidatesAt (now (b .entry)) p ⌝ }
@@ -87,6 +93,7 @@ pub fn candidates_at(b: &[u8], p: usize) -> Candidates
     Candidates::Two(g, h)
 }
 
+// Whether the two bytes are candidates: no second without a first.
 pub fn pair_in(b: &[u8], p: usize) -> bool
     requires { ⌜ p < size ⌝ }
     ensures { λ r. ⌜ r ≡ pairIn (now (b .entry)) p ⌝ }
@@ -94,4 +101,16 @@ pub fn pair_in(b: &[u8], p: usize) -> bool
     let g = byte_at(b, p);
     let h = byte_at(b, p + 1);
     (g != 255) | (h == 255)
+}
+
+// Whether a flag is 0 or 1, and the three places kept behind it are 0.
+pub fn flag_formed(b: &[u8], p: usize) -> bool
+    requires { ⌜ p < size ⌝ }
+    ensures { λ r. ⌜ r ≡ flagFormed (now (b .entry)) p ⌝ }
+{
+    let flag = byte_at(b, p);
+    let spare = byte_at(b, p + 1);
+    let spare_2 = byte_at(b, p + 2);
+    let spare_3 = byte_at(b, p + 3);
+    (flag <= 1) & (spare == 0) & (spare_2 == 0) & (spare_3 == 0)
 }

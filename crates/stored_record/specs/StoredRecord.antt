@@ -8,7 +8,7 @@ use lib.ListN.{length}
 use Rattle.gpio.specs.Each.{each}
 use Rattle.gpio.specs.Tab.{tab}
 use Rattle.slot.specs.declared.description.ChipSetType.the-variants.{Single, Banked, Multi}
-use Rattle.record.specs.Record.{byteAt, bytesAt, fourAt, candidatesAt, pairIn}
+use Rattle.record.specs.Record.{byteAt, bytesAt, fourAt, candidatesAt, pairIn, flagFormed}
 use Rattle.unscramble.specs.declared.stored.SlotType.{SlotType}
 use Rattle.unscramble.specs.declared.stored.SlotType.the-variants.{Unknown, Plugin, Roms}
 use Rattle.unscramble.specs.declared.stored.AlgAddr.{AlgAddr}
@@ -82,12 +82,9 @@ storedAt b = record {
   «num_roms» = byteAt b 87;
 }
 
--- a ROM's "0 no, 1 yes", and its places that must be 0
-abbrev pub romFormed : List ℕ → ℕ → Bool
-romFormed b p = leb (byteAt b p) 1 && eqb (byteAt b (p + 1)) 0 && eqb (byteAt b (p + 2)) 0 && eqb (byteAt b (p + 3)) 0
-
+-- whether each ROM has a map
 abbrev pub romsFormed : List ℕ → Bool
-romsFormed b = each 4 (λ k. romFormed b (88 + 72 * k))
+romsFormed b = each 4 (λ k. flagFormed b (88 + 72 * k))
 
 -- the length, whether there is a layout, the candidates of X1 and of X2, and each ROM
 unfoldable pub storedFormed : List ℕ → Bool

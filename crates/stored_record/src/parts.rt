@@ -1,6 +1,7 @@
 // The parts of a stored slot at their places in the record.
 use record::bytes::byte_at;
 use record::bytes::fill;
+use record::bytes::flag_formed;
 use record::bytes::four_at;
 use slot::description::ChipSetType;
 use unscramble::stored::AlgAddr;
@@ -13,8 +14,9 @@ ghost use mathlib.Core.Path.{_≡_};
 ghost use Prim.Native.Nat.{_+_, _≤_};
 ghost use Rattle.record.specs.Record.{bytesAt};
 ghost use Rattle.stored_record.specs.StoredRecord.{storedSize, slotTypeOf, algAddrAt, algDataAt, algDmaAt, algCsAt};
-ghost use Rattle.stored_record.specs.StoredRecord.{romFrom, romsAt, romFormed, romsFormed};
+ghost use Rattle.stored_record.specs.StoredRecord.{romFrom, romsAt, romsFormed};
 
+// What the slot's kind byte says.
 pub fn slot_type(x: u8) -> SlotType
     ensures { λ r. ⌜ r ≡ slotTypeOf x ⌝ }
 {
@@ -33,6 +35,7 @@ pub fn slot_type(x: u8) -> SlotType
     SlotType::Unknown
 }
 
+// The address PIO: places 6 to 9.
 pub fn alg_addr(b: &[u8]) -> AlgAddr
     ensures { λ r. ⌜ r ≡ algAddrAt (now (b .entry)) ⌝ }
 {
@@ -44,6 +47,7 @@ pub fn alg_addr(b: &[u8]) -> AlgAddr
     }
 }
 
+// The data PIO: places 10 to 12.
 pub fn alg_data(b: &[u8]) -> AlgData
     ensures { λ r. ⌜ r ≡ algDataAt (now (b .entry)) ⌝ }
 {
@@ -54,6 +58,7 @@ pub fn alg_data(b: &[u8]) -> AlgData
     }
 }
 
+// The DMA: places 13 and 14.
 pub fn alg_dma(b: &[u8]) -> AlgDma
     ensures { λ r. ⌜ r ≡ algDmaAt (now (b .entry)) ⌝ }
 {
@@ -63,6 +68,7 @@ pub fn alg_dma(b: &[u8]) -> AlgDma
     }
 }
 
+// The select detection: places 15 to 17.
 pub fn alg_cs(b: &[u8]) -> AlgCs
     ensures { λ r. ⌜ r ≡ algCsAt (now (b .entry)) ⌝ }
 {
@@ -73,6 +79,7 @@ pub fn alg_cs(b: &[u8]) -> AlgCs
     }
 }
 
+// The overrides: places 19 to 82.
 pub fn overrides(b: &[u8]) -> [u8; 64]
     ensures { λ r. ⌜ r ≡ bytesAt (now (b .entry)) 19 64 ⌝ }
 {
@@ -110,23 +117,13 @@ pub fn roms(b: &[u8]) -> [Rom; 4]
     [rom(b, 88), rom(b, 160), rom(b, 232), rom(b, 304)]
 }
 
-fn rom_formed(b: &[u8], p: usize) -> bool
-    requires { ⌜ p + 72 ≤ storedSize ⌝ }
-    ensures { λ r. ⌜ r ≡ romFormed (now (b .entry)) p ⌝ }
-{
-    let has_map = byte_at(b, p);
-    let spare = byte_at(b, p + 1);
-    let spare_2 = byte_at(b, p + 2);
-    let spare_3 = byte_at(b, p + 3);
-    (has_map <= 1) & (spare == 0) & (spare_2 == 0) & (spare_3 == 0)
-}
-
+// Whether each ROM's flag is 0 or 1, and its kept places are 0.
 pub fn roms_formed(b: &[u8]) -> bool
     ensures { λ r. ⌜ r ≡ romsFormed (now (b .entry)) ⌝ }
 {
-    let first = rom_formed(b, 88);
-    let second = rom_formed(b, 160);
-    let third = rom_formed(b, 232);
-    let fourth = rom_formed(b, 304);
+    let first = flag_formed(b, 88);
+    let second = flag_formed(b, 160);
+    let third = flag_formed(b, 232);
+    let fourth = flag_formed(b, 304);
     first & second & third & fourth
 }
