@@ -4,7 +4,7 @@ use Rattle.layout_record.proofs.addr_record.given_at.Statement.{stateme
 use Rattle.layout_record.proofs.addr_record.given_at.Tie as tie
 
 returns : tie.Need-returns
-returns c = cc
+returns c = rw (c .layout-at .ensures)
 
 pub given-at-spec : {M : Type 1} → statement M
 given-at-spec =

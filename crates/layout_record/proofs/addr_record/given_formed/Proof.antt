@@ -4,7 +4,7 @@ use Rattle.layout_record.proofs.addr_record.given_formed.Statement.{sta
 use Rattle.layout_record.proofs.addr_record.given_formed.Tie as tie
 
 returns : tie.Need-returns
-returns c = cc
+returns c = rw (c .formed .ensures)
 
 pub given-formed-spec : {M : Type 1} → statement M
 given-formed-spec =

@@ -6,7 +6,7 @@ use Rattle.layout_record.proofs.addr_record.layout_at.Tie as tie
 
 returns : tie.Need-returns
 unfolding layoutAt
-returns c = cc
+returns c = rw (c .byte-at6 .ensures, c .before .byte-at5 .ensures, c .before .before .twenty-four-at .ensures, c .before .before .before .x-of2 .ensures, c .before .before .before .before .byte-at4 .ensures, c .before .before .before .before .before .x-of .ensures, c .before .before .before .before .before .before .byte-at3 .ensures, c .before .before .before .before .before .before .before .byte-at2 .ensures, c .before .before .before .before .before .before .before .before .byte-at .ensures)
 
 pub layout-at-spec : {M : Type 1} → statement M
 layout-at-spec =

@@ -6,7 +6,7 @@ use Rattle.layout_record.proofs.cs_data_record.commoned_lines.Tie as ti
 
 returns : tie.Need-returns
 unfolding tab
-returns c = cc
+returns c = rw (c .line-from6 .ensures, c .before .line-from5 .ensures, c .before .before .line-from4 .ensures, c .before .before .before .line-from3 .ensures, c .before .before .before .before .line-from2 .ensures, c .before .before .before .before .before .line-from .ensures)
 
 pub commoned-lines-spec : {M : Type 1} → statement M
 commoned-lines-spec =

@@ -4,7 +4,7 @@ use Rattle.layout_record.proofs.cs_data_record.head.Statement.{statemen
 use Rattle.layout_record.proofs.cs_data_record.head.Tie as tie
 
 returns : tie.Need-returns
-returns c = cc
+returns c = rw (c .one-if .ensures .0, c .before .ignore-byte .ensures)
 
 pub head-spec : {M : Type 1} → statement M
 head-spec =

@@ -7,7 +7,7 @@ use Rattle.layout_record.proofs.image_record.formed.Tie as tie
 
 returns : tie.Need-returns
 unfolding spansFormed each
-returns c = cc
+returns c = rw (c .flag-formed4 .ensures, c .before .flag-formed3 .ensures, c .before .before .flag-formed2 .ensures, c .before .before .before .flag-formed .ensures)
 
 pub formed-spec : {M : Type 1} → statement M
 formed-spec =

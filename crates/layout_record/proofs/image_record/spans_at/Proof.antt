@@ -6,7 +6,7 @@ use Rattle.layout_record.proofs.image_record.spans_at.Tie as tie
 
 returns : tie.Need-returns
 unfolding tab
-returns c = cc
+returns c = rw (c .span-from4 .ensures, c .before .span-from3 .ensures, c .before .before .span-from2 .ensures, c .before .before .before .span-from .ensures)
 
 pub spans-at-spec : {M : Type 1} → statement M
 spans-at-spec =

@@ -4,7 +4,7 @@ use Rattle.onerom.proofs.build.formed.Statement.{statement}
 use Rattle.onerom.proofs.build.formed.Tie as tie
 
 returns : tie.Need-returns
-returns c = cc
+returns c = rw (c .formed3 .ensures, c .before .formed2 .ensures, c .before .before .formed .ensures)
 
 pub formed-spec : {M : Type 1} → statement M
 formed-spec =

@@ -4,7 +4,7 @@ use Rattle.record.proofs.bytes.pair_in.Statement.{statement}
 use Rattle.record.proofs.bytes.pair_in.Tie as tie
 
 returns : tie.Need-returns
-returns c = cc
+returns c = rw (c .byte-at2 .ensures, c .before .byte-at .ensures)
 
 pub pair-in-spec : {M : Type 1} → statement M
 pair-in-spec =

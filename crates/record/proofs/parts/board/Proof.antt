@@ -6,7 +6,7 @@ use Rattle.record.proofs.parts.board.Tie as tie
 
 returns : tie.Need-returns
 unfolding boardAt
-returns c = cc
+returns c = rw (c .candidates-at2 .ensures, c .before .candidates-at .ensures, c .before .before .byte-at .ensures, c .before .before .before .socket .ensures)
 
 pub board-spec : {M : Type 1} → statement M
 board-spec =

@@ -6,7 +6,7 @@ use Rattle.record.proofs.parts.chip.Tie as tie
 
 returns : tie.Need-returns
 unfolding chipAt
-returns c = cc
+returns c = rw (c .four-at .ensures, c .before .control-lines .ensures, c .before .before .byte-at2 .ensures, c .before .before .before .sixteen-at .ensures, c .before .before .before .before .byte-at .ensures, c .before .before .before .before .before .twenty-four-at .ensures)
 
 pub chip-spec : {M : Type 1} → statement M
 chip-spec =

@@ -6,7 +6,7 @@ use Rattle.record.proofs.parts.chips.Tie as tie
 
 returns : tie.Need-returns
 unfolding tab
-returns c = cc
+returns c = rw (c .chip4 .ensures, c .before .chip3 .ensures, c .before .before .chip2 .ensures, c .before .before .before .chip .ensures)
 
 pub chips-spec : {M : Type 1} → statement M
 chips-spec =

@@ -4,7 +4,7 @@ use Rattle.record.proofs.parts.control_lines.Statement.{statement}
 use Rattle.record.proofs.parts.control_lines.Tie as tie
 
 returns : tie.Need-returns
-returns c = cc
+returns c = rw (c .byte-at .ensures, c .before .lines .ensures)
 
 pub control-lines-spec : {M : Type 1} → statement M
 control-lines-spec =

@@ -4,7 +4,7 @@ use Rattle.record.proofs.parts.line.Statement.{statement}
 use Rattle.record.proofs.parts.line.Tie as tie
 
 returns : tie.Need-returns
-returns c = cc
+returns c = rw (c .byte-at2 .ensures, c .before .byte-at .ensures)
 
 pub line-spec : {M : Type 1} → statement M
 line-spec =

@@ -6,7 +6,7 @@ use Rattle.record.proofs.parts.multi.Tie as tie
 
 returns : tie.Need-returns
 unfolding multiAt
-returns c = cc
+returns c = rw (c .byte-at3 .ensures, c .before .eight-at2 .ensures, c .before .before .byte-at2 .ensures, c .before .before .before .eight-at .ensures, c .before .before .before .before .byte-at .ensures)
 
 pub multi-spec : {M : Type 1} → statement M
 multi-spec =

@@ -4,7 +4,7 @@ use Rattle.record.proofs.shape.chip_zeros.Statement.{statement}
 use Rattle.record.proofs.shape.chip_zeros.Tie as tie
 
 returns : tie.Need-returns
-returns c = cc
+returns c = rw (c .levels-in .ensures, c .before .byte-at .ensures)
 
 pub chip-zeros-spec : {M : Type 1} → statement M
 chip-zeros-spec =

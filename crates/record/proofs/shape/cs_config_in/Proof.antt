@@ -7,15 +7,15 @@ use Rattle.record.proofs.shape.cs_config_in.Tie as tie
 
 returns : tie.Need-returns
 unfolding csConfigIn
-returns c = rw (← c .before .before .before .before .before .before .before .before .before .before .before .byte-at .ensures, eq-eqb _ _ (c .before .before .before .before .if1 .taken)) (cc)
+returns c = rw (← c .before .before .before .before .before .before .before .before .before .before .before .byte-at .ensures, eq-eqb _ _ (c .before .before .before .before .if1 .taken), c .setting-in3 .ensures, c .before .setting-in2 .ensures, c .before .before .setting-in .ensures, c .before .before .before .logic-in .ensures, c .before .before .before .before .before .byte-at7 .ensures, c .before .before .before .before .before .before .byte-at6 .ensures, c .before .before .before .before .before .before .before .byte-at5 .ensures, c .before .before .before .before .before .before .before .before .byte-at4 .ensures, c .before .before .before .before .before .before .before .before .before .byte-at3 .ensures, c .before .before .before .before .before .before .before .before .before .before .byte-at2 .ensures)
 
 returns-2 : tie.Need-returns-2
 unfolding csConfigIn
-returns-2 c = rw (← c .before .before .before .before .before .before .before .before .byte-at .ensures, ne-eqb _ _ (c .before .if1 .left), eq-eqb _ _ (c .if2 .taken)) (cc)
+returns-2 c = rw (← c .before .before .before .before .before .before .before .before .byte-at .ensures, ne-eqb _ _ (c .before .if1 .left), eq-eqb _ _ (c .if2 .taken), c .before .before .byte-at7 .ensures, c .before .before .before .byte-at6 .ensures, c .before .before .before .before .byte-at5 .ensures, c .before .before .before .before .before .byte-at4 .ensures, c .before .before .before .before .before .before .byte-at3 .ensures, c .before .before .before .before .before .before .before .byte-at2 .ensures)
 
 returns-3 : tie.Need-returns-3
 unfolding csConfigIn
-returns-3 c = rw (← c .before .before .before .before .before .before .before .before .before .before .byte-at .ensures, ne-eqb _ _ (c .before .before .before .if1 .left), ne-eqb _ _ (c .before .before .if2 .left)) (cc)
+returns-3 c = rw (← c .before .before .before .before .before .before .before .before .before .before .byte-at .ensures, ne-eqb _ _ (c .before .before .before .if1 .left), ne-eqb _ _ (c .before .before .if2 .left), c .logic-in3 .ensures, c .before .logic-in2 .ensures, c .before .before .before .before .byte-at7 .ensures, c .before .before .before .before .before .byte-at6 .ensures, c .before .before .before .before .before .before .byte-at5 .ensures, c .before .before .before .before .before .before .before .byte-at4 .ensures, c .before .before .before .before .before .before .before .before .byte-at3 .ensures, c .before .before .before .before .before .before .before .before .before .byte-at2 .ensures)
 
 pub cs-config-in-spec : {M : Type 1} → statement M
 cs-config-in-spec =

@@ -6,7 +6,7 @@ use Rattle.record.proofs.shape.head_in.Tie as tie
 
 returns : tie.Need-returns
 unfolding headIn
-returns c = cc
+returns c = rw (c .offset-in .ensures, c .before .byte-at6 .ensures, c .before .before .byte-at5 .ensures, c .before .before .before .four-at .ensures, c .before .before .before .before .byte-at4 .ensures, c .before .before .before .before .before .byte-at3 .ensures, c .before .before .before .before .before .before .byte-at2 .ensures, c .before .before .before .before .before .before .before .byte-at .ensures)
 
 pub head-in-spec : {M : Type 1} → statement M
 head-in-spec =

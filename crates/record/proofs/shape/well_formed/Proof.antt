@@ -6,7 +6,7 @@ use Rattle.record.proofs.shape.well_formed.Tie as tie
 
 returns : tie.Need-returns
 unfolding wellFormed
-returns c = cc
+returns c = rw (c .chips-in .ensures, c .before .pairs-in .ensures, c .before .before .cs-config-in .ensures, c .before .before .before .head-in .ensures)
 
 pub well-formed-spec : {M : Type 1} → statement M
 well-formed-spec =

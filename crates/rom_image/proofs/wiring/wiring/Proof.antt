@@ -6,7 +6,7 @@ use Rattle.rom_image.proofs.wiring.wiring.Tie as tie
 
 returns : tie.Need-returns
 unfolding wiringOf
-returns c = cc
+returns c = rw (c .data-positions .ensures, c .before .num-picks .ensures .0, c .before .before .pick-positions .ensures, c .before .before .before .address-positions .ensures)
 
 pub wiring-spec : {M : Type 1} → statement M
 wiring-spec =

@@ -6,7 +6,7 @@ use Rattle.rom_slot.proofs.in_domain.in_domain.Tie as tie
 
 returns : tie.Need-returns
 unfolding inDomain
-returns c = cc
+returns c = rw (c .cs-data-in .ensures, c .before .layout-in .ensures, c .before .before .description-in .ensures, c .before .before .before .qualifiers-in .ensures)
 
 pub in-domain-spec : {M : Type 1} → statement M
 in-domain-spec =

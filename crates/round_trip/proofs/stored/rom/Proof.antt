@@ -4,7 +4,7 @@ use Rattle.round_trip.proofs.stored.rom.Statement.{statement}
 use Rattle.round_trip.proofs.stored.rom.Tie as tie
 
 returns : tie.Need-returns
-returns c = cc
+returns c = rw (c .data-map .ensures, c .before .addr-map .ensures, c .before .before .chip-size .ensures)
 
 pub rom-spec : {M : Type 1} → statement M
 rom-spec =

@@ -6,7 +6,7 @@ use Rattle.stored_record.proofs.parts.roms.Tie as tie
 
 returns : tie.Need-returns
 unfolding tab
-returns c = cc
+returns c = rw (c .rom4 .ensures, c .before .rom3 .ensures, c .before .before .rom2 .ensures, c .before .before .before .rom .ensures)
 
 pub roms-spec : {M : Type 1} → statement M
 roms-spec =

@@ -6,7 +6,7 @@ use Rattle.stored_record.proofs.parts.roms_formed.Tie as tie
 
 returns : tie.Need-returns
 unfolding each
-returns c = cc
+returns c = rw (c .flag-formed4 .ensures, c .before .flag-formed3 .ensures, c .before .before .flag-formed2 .ensures, c .before .before .before .flag-formed .ensures)
 
 pub roms-formed-spec : {M : Type 1} → statement M
 roms-formed-spec =

@@ -6,7 +6,7 @@ use Rattle.unscramble.proofs.in_domain.stored_in.Tie as tie
 
 returns : tie.Need-returns
 unfolding storedIn
-returns c = cc
+returns c = rw (c .sizes-in .ensures, c .before .before .in-domain2 .ensures, c .before .before .before .in-domain .ensures)
 
 pub stored-in-spec : {M : Type 1} → statement M
 stored-in-spec =

@@ -4,7 +4,7 @@ use Rattle.unscramble.proofs.picks.select_fault.Statement.{statement}
 use Rattle.unscramble.proofs.picks.select_fault.Tie as tie
 
 returns : tie.Need-returns
-returns c = cc
+returns c = rw (c .or-else .ensures, c .before .fault-if2 .ensures, c .before .before .in-window .ensures, c .before .before .before .fault-if .ensures, c .before .before .before .before .before .select-gpio .ensures)
 
 pub select-fault-spec : {M : Type 1} → statement M
 select-fault-spec =
