@@ -21,7 +21,8 @@ use Rattle.rom_slot.specs.Faults.{entriesOf, tableSize}
 use Rattle.rom_slot.specs.declared.images.ImageSpan.{ImageSpan}
 use Rattle.rom_slot.proofs.Picking.{picks-three, picked-below}
 use Rattle.rom_image.specs.Entry.{chipAddress, pickedAt, padOf, scrambled, entryAt, tableOf}
-use Rattle.rom_image.specs.Wiring.{wiringOf, sourceOf, sourcesOf, Buildable}
+use Rattle.rom_image.specs.Wiring.{wiringOf, sourceOf, sourcesOf}
+use Rattle.rom_image.proofs.Buildable.{Buildable}
 use Rattle.rom_image.proofs.Chips.{Lent, raw-word, source-in}
 
 module _ (d : Description) (a : AddrLayout) (c : CsDataLayout) (images : List ℕ) (spans : List ImageSpan) (b : Buildable d a c images spans) where

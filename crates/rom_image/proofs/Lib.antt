@@ -1,3 +1,4 @@
+pub mod Buildable
 pub mod Chips
 pub mod Entries
 pub mod Past

@@ -1,6 +1,6 @@
 -- What a slot keeps in which no fault is found. Assumes nothing.
 use mathlib.Core.Path.{_≡_, refl}
-use mathlib.Core.Bool.{Bool, true, false, not, cond, _&&_}
+use mathlib.Core.Bool.{Bool, true, false, not, _&&_}
 use mathlib.Core.List.{List}
 use Prim.Native.Nat.{ℕ, zero, suc, _*_, _^_, _≤_, _<_}
 use native.Mathlib.Nat.{mul-suc}
@@ -9,13 +9,12 @@ use lib.Dec.{ltb}
 use lib.ListN.{length, getD}
 use lib.Pow.{pow-mono}
 use borrow.Author.Tests.{ltb-true, ltb-false}
-use Rattle.domain.proofs.Bounds.{word-bytes, image-size, chip-count}
+use Rattle.domain.proofs.Bounds.{word-bytes, image-size}
 use Rattle.slot.specs.Description.{noChip}
 use Rattle.slot.specs.declared.description.Description.{Description}
 use Rattle.slot.specs.declared.refusal.Refusal.{Refusal}
 use Rattle.slot.specs.declared.refusal.Refusal.the-variants.{RomTableTooLarge, InvalidConfig, BadPosition, ShortBuffer}
-use Rattle.listing.specs.declared.FirstFault.{FirstFault}
-use Rattle.listing.specs.declared.FirstFault.the-variants.{None, Of}
+use Rattle.listing.specs.declared.FirstFault.the-variants.{None}
 use Rattle.addr_layout.specs.declared.layout.AddrLayout.{AddrLayout}
 use Rattle.cs_data_layout.specs.declared.layout.CsDataLayout.{CsDataLayout}
 use Rattle.rom_slot.specs.Images.{spanAt, chipBytes}
@@ -24,7 +23,7 @@ use Rattle.rom_slot.specs.Faults.{faultIf, firstOf, entriesOf, tableSize, tooLa
 use Rattle.rom_slot.specs.declared.images.ImageSpan.{ImageSpan}
 use Rattle.rom_slot.proofs.Firsts.{or-left, or-right, first-all}
 use Rattle.rom_slot.proofs.Facts.{described, selected, lines-few, data-count}
-use Rattle.rom_image.specs.Wiring.{Buildable}
+use Rattle.rom_image.proofs.Buildable.{Buildable}
 
 -- a test that found nothing
 none-bad : (bad : Bool) (why : Refusal) → faultIf bad why ≡ None → bad ≡ false

@@ -1,18 +1,13 @@
--- How the build goes about it: the lines' positions and where the chips' words stand, found once. Assumes nothing.
-use mathlib.Core.Path.{_≡_}
-use mathlib.Core.Bool.{true}
+-- How the build goes about it: the lines' positions and where the chips' words stand, found once. No answer is defined by it: `entryAt`
+-- says what an entry holds. Assumes nothing.
 use mathlib.Core.List.{List}
-use Prim.Native.Nat.{ℕ, _≤_, _<_}
-use lib.ListN.{length, getD}
 use Rattle.gpio.specs.Tab.{tab}
-use Rattle.slot.specs.Description.{noChip}
 use Rattle.slot.specs.declared.description.Description.{Description}
 use Rattle.addr_layout.specs.declared.layout.AddrLayout.{AddrLayout}
 use Rattle.cs_data_layout.specs.declared.layout.CsDataLayout.{CsDataLayout}
-use Rattle.rom_slot.specs.Images.{spanAt, chipBytes}
+use Rattle.rom_slot.specs.Images.{spanAt}
 use Rattle.rom_slot.specs.Positions.{linePosition, dataPosition}
 use Rattle.rom_slot.specs.Picks.{numPicks, pickPosition, picked}
-use Rattle.rom_slot.specs.Faults.{chipsFit}
 use Rattle.rom_slot.specs.declared.images.ImageSpan.{ImageSpan}
 use Rattle.rom_slot.specs.declared.picks.Picked.{Picked}
 use Rattle.rom_slot.specs.declared.picks.Picked.the-variants.{NoChip, Chip}
@@ -44,12 +39,3 @@ sourceOf d spans (Chip k) = record {
 
 abbrev pub sourcesOf : Description → List ImageSpan → List Source
 sourcesOf d spans = tab 8 (λ bits. sourceOf d spans (picked d bits))
-
--- what the tests before it say to a build
-pub record Buildable (d : Description) (a : AddrLayout) (c : CsDataLayout) (images : List ℕ) (spans : List ImageSpan) : Type 0 where
-  pub lines : a .«num_lines» ≤ 24
-  pub data-lines : c .«num_data_pins» ≤ 16
-  pub some-bytes : 1 ≤ d .«word_bytes»
-  pub bytes : d .«word_bytes» ≤ 2
-  pub chips : chipsFit (d .«set_type») (d .«num_chips») ≡ true
-  pub lent : (k : ℕ) → k < d .«num_chips» → getD (d .chips) k noChip .size ≤ length (chipBytes images (spanAt spans k))

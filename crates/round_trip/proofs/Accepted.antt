@@ -35,7 +35,7 @@ use Rattle.unscramble.specs.Faults.{layoutFault, romFault, xFault, xFaults, sel
 use Rattle.unscramble.specs.Words.{allWords}
 use Rattle.unscramble.specs.declared.stored.StoredSlot.{StoredSlot}
 use Rattle.round_trip.specs.WellWired.{OneInside, WellWired, Mapped, StoredAs}
-use Rattle.round_trip.specs.Fitted.{ToldApart}
+use Rattle.round_trip.proofs.Fitted.{ToldApart}
 use Rattle.round_trip.proofs.Given.{window-is, is-window}
 
 none-if : (b : Bool) (why : Refusal) → b ≡ false → faultIf b why ≡ None

@@ -26,7 +26,7 @@ use Rattle.rom_slot.specs.Positions.{linePosition, xPosition}
 use Rattle.rom_slot.specs.Picks.{xLines, picksOf, numPicks, firstSelect, xGpio, pickOf, pickPosition}
 use Rattle.round_trip.specs.WellWired.{BoardPin, candidatesOf, Unshared, addressPin, selectPin, WellWired}
 use Rattle.round_trip.specs.WellWired.BoardPin.{socket, x1, x2}
-use Rattle.round_trip.specs.Fitted.{indexPosition}
+use Rattle.round_trip.proofs.Fitted.{indexPosition}
 use Rattle.round_trip.proofs.Pins.{Behind, line-behind, linePin, pinBehind, lines-own, same-place, same-x, apart-x}
 
 -- a line at a position: its GPIO is a candidate of its pin, and in the window

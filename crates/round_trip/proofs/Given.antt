@@ -27,7 +27,7 @@ use Rattle.unscramble.specs.Stored as stored
 use Rattle.unscramble.specs.Words as read
 use Rattle.unscramble.specs.declared.stored.StoredSlot.{StoredSlot}
 use Rattle.round_trip.specs.WellWired.{OneInside, WellWired, StoredAs}
-use Rattle.round_trip.specs.Fitted.{Fitted}
+use Rattle.round_trip.proofs.Fitted.{Fitted}
 use Rattle.round_trip.proofs.Apart.{x-few, x-third}
 
 suc-less : (k : ℕ) → suc k - 1 ≡ k

@@ -1,3 +1,4 @@
+pub mod Fitted
 pub mod Served
 pub mod Codes
 pub mod Values

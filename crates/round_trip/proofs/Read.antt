@@ -28,7 +28,7 @@ use Rattle.unscramble.specs.Recovered.{firstFor, keptValue, disagreesFor, incon
 use Rattle.unscramble.specs.declared.stored.StoredSlot.{StoredSlot}
 use Rattle.unscramble.proofs.Serves as serves
 use Rattle.unscramble.proofs.Serves.{serves-picks, serves-address, serves-counted, serves-is}
-use Rattle.round_trip.specs.Fitted.{Fitted, ToldApart}
+use Rattle.round_trip.proofs.Fitted.{Fitted, ToldApart}
 use Rattle.round_trip.proofs.Values.{value-is, index, index-lt, index-picks, index-address}
 
 -- a test of two that fails by its second

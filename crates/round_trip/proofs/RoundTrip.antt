@@ -46,10 +46,10 @@ use Rattle.unscramble.specs.Recovered as recover
 use Rattle.unscramble.specs.Recovered.{readBack, front, inconsistent, unserved, recovered, unscrambled}
 use Rattle.unscramble.specs.declared.stored.StoredSlot.{StoredSlot}
 use Rattle.round_trip.specs.WellWired.{WellWired, StoredAs}
-use Rattle.round_trip.specs.Fitted.{Fitted, ToldApart}
+use Rattle.round_trip.proofs.Fitted.{Fitted, ToldApart}
 use Rattle.round_trip.specs.RoundTrip.{Accepted, tableBuilt, chipWords, wordsTo, words, Room, firstBytes, asBefore, ReadsBack}
 use Rattle.rom_slot.proofs.Facts.{described, selected, data-base}
-use Rattle.rom_image.specs.Wiring.{Buildable}
+use Rattle.rom_image.proofs.Buildable.{Buildable}
 use Rattle.rom_image.proofs.Past.{buildable, pins-few}
 use Rattle.round_trip.proofs.Laid.{Found-at, addr-found, Cs-found-at, cs-found}
 use Rattle.round_trip.proofs.Told.{told-apart, select-at}

@@ -27,7 +27,7 @@ use Rattle.rom_slot.specs.Positions.{dataPosition}
 use Rattle.rom_slot.specs.Picks.{firstSelect}
 use Rattle.round_trip.specs.WellWired.{BoardPin, candidatesOf, dataPin, selectPin, WellWired}
 use Rattle.round_trip.specs.WellWired.BoardPin.{socket, x1, x2}
-use Rattle.round_trip.specs.Fitted.{ToldApart}
+use Rattle.round_trip.proofs.Fitted.{ToldApart}
 use Rattle.round_trip.proofs.Pins.{same-place}
 use Rattle.round_trip.proofs.Apart.{SelectAt, index-in, index-own}
 

@@ -27,7 +27,7 @@ use Rattle.rom_image.specs.Entry.{chipAddress, pickedAt, wordCount, scrambled, 
 use Rattle.unscramble.specs.Stored as stored
 use Rattle.unscramble.specs.Words as read
 use Rattle.unscramble.specs.declared.stored.StoredSlot.{StoredSlot}
-use Rattle.round_trip.specs.Fitted.{Fitted, ToldApart}
+use Rattle.round_trip.proofs.Fitted.{Fitted, ToldApart}
 use Rattle.round_trip.proofs.Served as served
 use Rattle.round_trip.proofs.Codes.{codeOf, code-lt, code-picks}
 

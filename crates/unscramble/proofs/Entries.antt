@@ -15,7 +15,7 @@ use Rattle.kept.proofs.First.{first-passes, first-cong}
 use Rattle.unscramble.specs.Stored.{free, pinsOf}
 use Rattle.unscramble.specs.Words.{romWords, wordsBefore, allWords, pickedAt, addressAt, valueAt, serves}
 use Rattle.unscramble.specs.Recovered.{firstFor, keptValue}
-use Rattle.unscramble.specs.Walk.{wordOf, wordAt, saidAt}
+use Rattle.unscramble.proofs.WordAt.{wordOf, wordAt, saidAt}
 use Rattle.unscramble.specs.declared.stored.StoredSlot.{StoredSlot}
 use Rattle.unscramble.proofs.Serves.{picked-there, serves-free, serves-picks, serves-address, serves-counted, serves-is}
 use Rattle.unscramble.proofs.Flat.{Flat, flat-counted, flat-one}

@@ -22,7 +22,8 @@ use Rattle.kept.proofs.Cong.{output-length, marks-cong, output-cong, outcome-co
 use Rattle.unscramble.specs.Stored.{storedIn, romAt, wordBytes, pinsOf, dataLines}
 use Rattle.unscramble.specs.Faults.{romsFault}
 use Rattle.unscramble.specs.Words.{allWords}
-use Rattle.unscramble.specs.Walk.{wordAt, saidAt, faultOf}
+use Rattle.unscramble.specs.Place.{faultOf}
+use Rattle.unscramble.proofs.WordAt.{wordAt, saidAt}
 use Rattle.unscramble.specs.Reading.{Readable, readingOf}
 use Rattle.unscramble.specs.Recovered.{ReadBack, readBack, front, inconsistent, unserved, recovered, afterEntries}
 use Rattle.unscramble.specs.declared.stored.StoredSlot.{StoredSlot}

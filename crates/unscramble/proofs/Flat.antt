@@ -9,7 +9,7 @@ use mathlib.Core.Logic.{inl, inr}
 use borrow.Author.Tests.{le-leb, lt-leb}
 use Rattle.gpio.specs.Each.{tally}
 use Rattle.unscramble.specs.Words.{romWords, wordsBefore, allWords}
-use Rattle.unscramble.specs.Walk.{romOf, addressOf}
+use Rattle.unscramble.specs.Place.{romOf, addressOf}
 use Rattle.unscramble.specs.declared.stored.StoredSlot.{StoredSlot}
 
 -- a test that passes below r and not from there on
@@ -68,19 +68,7 @@ module _ (s : StoredSlot) where
     pub flat-address : addressOf s f ≡ n
     flat-address = let g = w .flat in ap (λ (r : ℕ). f - wordsBefore s r) flat-rom ∙ omega arith
 
-  -- every word is one
-  pair-below : (m f : ℕ) → f < wordsBefore s m → (rom : ℕ) × (n : ℕ) × (rom < m) × (n < romWords s rom) × (f ≡ wordsBefore s rom + n)
-  unfolding wordsBefore
-  pair-below zero f l = absurd (omega arith)
-  pair-below (suc m) f l = elim (decLt f (wordsBefore s m)) [
-    | yes h ↦ let (rom, n, a, b, c) = pair-below m f h in (rom, n, omega arith, b, c)
-    | no h ↦ (m, f - wordsBefore s m, omega arith, omega arith, omega arith)
-  ]
-
-  pub flat-pair : (f : ℕ) → f < allWords s → (rom : ℕ) × (n : ℕ) × Flat s f rom n
-  flat-pair f l = let (rom, n, a, b, c) = pair-below (s .«num_roms») f l in (rom, n, record { there = a; counted = b; flat = c })
-
-  -- and of one ROM only
+  -- a word is of one ROM only
   pub flat-one : (f rom rom′ n n′ : ℕ) → Flat s f rom n → Flat s f rom′ n′ → (rom ≡ rom′) × (n ≡ n′)
   flat-one f rom rom′ n n′ w x =
       (sym (flat-rom f rom n w) ∙ flat-rom f rom′ n′ x, sym (flat-address f rom n w) ∙ flat-address f rom′ n′ x)

@@ -1,3 +1,4 @@
+pub mod WordAt
 pub mod Serves
 pub mod Flat
 pub mod Entries

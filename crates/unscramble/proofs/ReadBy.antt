@@ -27,7 +27,7 @@ use Rattle.kept.specs.declared.reading.Extent.{Extent}
 use Rattle.kept.specs.declared.reading.Reading.{Reading}
 use Rattle.unscramble.specs.Stored.{romAt, wordBytes, addrBase, dataBase, listed, dataLines, dataPosition, free}
 use Rattle.unscramble.specs.Words.{romWords, wordsBefore, allWords, pickPosition, pickedAt, addressAt, valueAt}
-use Rattle.unscramble.specs.Walk.{wordOf, wordAt, saidOf, saidAt}
+use Rattle.unscramble.proofs.WordAt.{wordOf, wordAt, saidOf, saidAt}
 use Rattle.unscramble.specs.Reading.{Readable, mapOf, pickMap, noLines, addressMap, dataMap, placeOf, extentOf, readingOf}
 use Rattle.unscramble.specs.declared.stored.StoredSlot.{StoredSlot}
 use Rattle.unscramble.proofs.Listed.{listed-most}

@@ -23,7 +23,8 @@ use Rattle.kept.proofs.Whole.{disagrees-first, whole-told, whole-marks}
 use Rattle.unscramble.specs.Stored.{wordBytes, pinsOf}
 use Rattle.unscramble.specs.Words.{wordsBefore, allWords, pickedAt, addressAt, valueAt, serves}
 use Rattle.unscramble.specs.Recovered.{keptValue, disagreesFor, inconsistent, unservedIn, unserved, recovered}
-use Rattle.unscramble.specs.Walk.{wordAt, saidAt, romOf, addressOf, faultOf}
+use Rattle.unscramble.specs.Place.{romOf, addressOf, faultOf}
+use Rattle.unscramble.proofs.WordAt.{wordAt, saidAt}
 use Rattle.unscramble.specs.declared.stored.StoredSlot.{StoredSlot}
 use Rattle.unscramble.proofs.Serves.{serves-picks}
 use Rattle.unscramble.proofs.Flat.{Flat, flat-of, flat-counted, flat-rom, flat-address}

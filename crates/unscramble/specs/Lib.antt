@@ -2,5 +2,5 @@ pub mod Stored
 pub mod Faults
 pub mod Words
 pub mod Recovered
-pub mod Walk
+pub mod Place
 pub mod Reading

@@ -1,24 +1,12 @@
 // A word's ROM and address, of words counted through all ROMs.
 use crate::roms::words_before;
 use crate::stored::StoredSlot;
+use gpio::array::one_if;
 use kept::Outcome;
 use listing::FirstFault;
 use slot::refusal::Refusal;
 ghost use mathlib.Core.Path.{_≡_};
-ghost use mathlib.Core.Bool.{cond};
-ghost use Prim.Native.Nat.{_≤_};
-ghost use Rattle.unscramble.specs.Walk.{romOf, addressOf, faultOf};
-
-// 1 where a test passes, 0 where it does not.
-fn one_if(b: bool) -> u8
-    ensures { λ r. ⌜ r ≡ cond b 1 0 ⌝ }
-    ensures { λ r. ⌜ r ≤ 1 ⌝ }
-{
-    if b {
-        return 1;
-    }
-    0
-}
+ghost use Rattle.unscramble.specs.Place.{romOf, addressOf, faultOf};
 
 // The ROM of a word: as many ROMs end before it.
 fn rom_of(s: StoredSlot, f: u32) -> u8

@@ -17,7 +17,8 @@ use Rattle.rom_slot.proofs.Facts.{selected, data-base}
 use Rattle.rom_slot.specs.Faults.{entriesOf, tableSize}
 use Rattle.rom_slot.specs.declared.images.ImageSpan.{ImageSpan}
 use Rattle.rom_image.specs.Entry.{padByte, padOf, tableOf}
-use Rattle.rom_image.specs.Wiring.{wiringOf, sourcesOf, Buildable}
+use Rattle.rom_image.specs.Wiring.{wiringOf, sourcesOf}
+use Rattle.rom_image.proofs.Buildable.{Buildable}
 use Rattle.rom_image.proofs.Entries.{wiring-in, sources-in, table-is}
 use Rattle.rom_image.proofs.Past.{entries-few, pins-few, table-fits, buildable}
 use Rattle.rom_image.proofs.table.fill.Statement.{statement}
