@@ -54,6 +54,7 @@ pub fn no_layout() -> AddrLayout
     }
 }
 
+// A refused call: nothing is laid out.
 pub fn refused(why: Refusal) -> AddrAnswer
     ensures { λ r. ⌜ r ≡ refusedFor why ⌝ }
 {

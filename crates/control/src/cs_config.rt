@@ -15,6 +15,7 @@ fn given_or_low(s: Setting) -> CsLogic
     }
 }
 
+// Whether a setting is to be ignored.
 pub fn is_ignore(logic: CsLogic) -> bool
     ensures { λ r. ⌜ r ≡ isIgnore logic ⌝ }
 {
@@ -62,6 +63,7 @@ pub fn control_line_logic(kind: u8, config: CsConfig) -> CsLogic
     }
 }
 
+// Whether the line of a kind is ignored, its setting read as `control_line_logic` reads it.
 pub fn line_ignored(kind: u8, config: CsConfig) -> bool
     ensures { λ r. ⌜ r ≡ ignores config kind ⌝ }
 {

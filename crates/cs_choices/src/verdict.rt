@@ -7,7 +7,7 @@ use gpio::set::size;
 use gpio::set::width;
 use gpio::window::Window;
 ghost use mathlib.Core.Path.{_≡_};
-ghost use Prim.Native.Nat.{ℕ, _-_, _≤_};
+ghost use Prim.Native.Nat.{_-_, _≤_};
 ghost use Rattle.cs_choices.specs.Verdict.{selectable, baseOf, inWindow, scoreOf, verdictOf};
 
 pub enum Verdict {
@@ -59,6 +59,7 @@ fn score(select_gpios: u64, qualifiers: u64, all: u64) -> u32
     preference as u32 * 1000 + width(all)
 }
 
+// What a choice with these sets of GPIOs comes to.
 pub fn judge(multi: bool, qualifiers: u64, data_gpios: u64, select_gpios: u64) -> Verdict
     ensures { λ r. ⌜ r ≡ verdictOf multi qualifiers «data_gpios» «select_gpios» ⌝ }
 {

@@ -60,6 +60,7 @@ pub struct CsDataAnswer {
     pub layout: CsDataLayout,
 }
 
+// A refused call: nothing is laid out.
 pub fn refused(why: Refusal) -> CsDataAnswer
     ensures { λ r. ⌜ r ≡ refusedFor why ⌝ }
 {

@@ -4,7 +4,7 @@ use domain::chip::kind_at;
 use slot::description::Description;
 ghost use mathlib.Core.Path.{_≡_};
 ghost use mathlib.Core.List.{[], _∷_, _++_};
-ghost use Prim.Native.Nat.{ℕ, _+_, _≤_, _<_};
+ghost use Prim.Native.Nat.{_+_, _≤_, _<_};
 ghost use Rattle.slot.specs.Description.{chip0};
 ghost use Rattle.cs_pins.specs.Roles.{rolesOf, ifActiveKind, activeKinds, xRoles, selectRoles};
 
@@ -78,6 +78,7 @@ fn x_roles(r: Roles, one: bool, both: bool) -> Roles
     push_role(with_x1, 7)
 }
 
+// The roles of all select lines but the excess ones.
 pub fn select_roles(d: Description) -> Roles
     requires { ⌜ chip0 d .control .count ≤ 8 ⌝ }
     ensures { λ q. ⌜ (rolesOf q ≡ selectRoles d) × (q .count ≤ 8) ⌝ }

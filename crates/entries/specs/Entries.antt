@@ -1,4 +1,5 @@
--- How a table is filled: positions of the lines, where the words of the chips stand, and an entry by them. Assumes nothing.
+-- How a table is filled: positions of the lines, where the words of the chips stand, and an entry by them. What an entry holds is not
+-- defined by it, but by rom_image's `entryAt`, and that both say the same is proved there. Assumes nothing.
 use mathlib.Core.Path.{_≡_}
 use Prim.Native.Nat.{ℕ, _+_, _*_, _%_, _^_, _≤_, _<_}
 use mathlib.Core.Bool.{true, false, cond}

@@ -24,6 +24,7 @@ pub struct Part {
     pub picks: u32,
 }
 
+// What one part of an index says: the lines that pick, and the address.
 pub fn part_of(w: Wiring, i: u32) -> Part
     requires { ⌜ WiringIn w ⌝ }
     ensures { λ r. ⌜ r ≡ partOf w i ⌝ }

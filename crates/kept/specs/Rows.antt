@@ -1,4 +1,5 @@
--- Rows of 256 entries, and the tables of what eight bits come to. Assumes nothing.
+-- How the entries are read: rows of 256, and the tables of what eight bits come to. No answer is defined by it: `collectedOf` says what
+-- the entries come to. Assumes nothing.
 use mathlib.Core.Path.{_≡_}
 use Prim.Native.Nat.{ℕ, _+_, _*_, _/_, _%_, _^_, _≤_}
 use mathlib.Core.List.{List}

@@ -1,4 +1,4 @@
-// The address layout record.
+// The address layout record: written where a search answers, read where a layout is handed in.
 use addr_layout::layout::AddrLayout;
 use addr_layout::layout::XGpio;
 use bytes::copy;
@@ -95,6 +95,7 @@ pub fn given_at(b: &[u8]) -> GivenLayout
     }
 }
 
+// Whether the bytes are a record or none.
 pub fn given_formed(b: &[u8]) -> bool
     ensures { λ r. ⌜ r ≡ givenFormed (now (b .entry)) ⌝ }
 {

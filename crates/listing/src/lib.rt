@@ -7,7 +7,7 @@ use slot::description::Board;
 use slot::refusal::Refusal;
 ghost use mathlib.Core.Path.{_≡_};
 ghost use mathlib.Core.List.{[], _∷_, _++_};
-ghost use Prim.Native.Nat.{ℕ, _+_, _≤_, _<_};
+ghost use Prim.Native.Nat.{_+_, _≤_, _<_};
 ghost use Rattle.listing.specs.Listing.{candidatesAt, xListed, xPins, twoListed, count, twos, listOf, orElse, keepFault, firstFault};
 
 // A listed pin.
@@ -76,6 +76,7 @@ pub fn none() -> Listing
     }
 }
 
+// The list, with one pin more.
 pub fn push(l: Listing, pin: Listed) -> Listing
     requires { ⌜ l .count < 30 ⌝ }
     ensures { λ r. ⌜ (listOf r ≡ listOf l ++ (pin ∷ [])) × (r .count ≡ l .count + 1) ⌝ }
@@ -156,6 +157,7 @@ fn keep_fault(before: FirstFault, pin: Listed) -> FirstFault
     }
 }
 
+// The fault of the first listed pin without candidates.
 pub fn first_fault(l: Listing) -> FirstFault
     requires { ⌜ l .count ≤ 30 ⌝ }
     ensures { λ r. ⌜ r ≡ firstFault (listOf l) ⌝ }

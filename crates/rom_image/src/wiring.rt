@@ -56,6 +56,7 @@ fn pick_positions(d: Description, a: AddrLayout, c: CsDataLayout) -> [u8; 3]
     out
 }
 
+// The positions that the lines of both layouts have in an index and in an entry.
 pub fn wiring(d: Description, a: AddrLayout, c: CsDataLayout) -> Wiring
     requires { ⌜ dataBase c ≤ 255 ⌝ }
     ensures { λ r. ⌜ r ≡ wiringOf d a c ⌝ }

@@ -14,13 +14,14 @@ use slot::description::Description;
 use slot::refusal::Refusal;
 ghost use mathlib.Core.Path.{_≡_};
 ghost use mathlib.Core.Bool.{true, false};
-ghost use Prim.Native.Nat.{ℕ, _≤_, _<_, _^_};
+ghost use Prim.Native.Nat.{_≤_, _<_, _^_};
 ghost use lib.ListN.{getD};
 ghost use Rattle.slot.specs.Description.{noChip};
 ghost use Rattle.rom_slot.specs.Positions.{dataBase};
 ghost use Rattle.rom_slot.specs.Domain.{inDomain};
-ghost use Rattle.rom_slot.specs.Faults.{faultIf, firstOf, tableSize, tooLarge, tooShort, addressIn, chipsFit, linesIn, missingAt, shortAt, linesFault, lentFault, buildFault};
+ghost use Rattle.rom_slot.specs.Faults.{faultIf, firstOf, tableSize, tooLarge, addressIn, chipsFit, linesIn, missingAt, shortAt, linesFault, lentFault, buildFault};
 
+// A fault where something is wrong.
 pub fn fault_if(bad: bool, why: Refusal) -> FirstFault
     ensures { λ r. ⌜ r ≡ faultIf bad why ⌝ }
 {
@@ -68,6 +69,7 @@ fn lines_in(c: CsDataLayout) -> bool
     positions_in(&gpios, c.num_data_pins, data_base(c))
 }
 
+// Whether a set of this kind has so many chips.
 pub fn chips_fit(set_type: ChipSetType, n: u8) -> bool
     ensures { λ r. ⌜ r ≡ chipsFit «set_type» n ⌝ }
 {

@@ -8,7 +8,7 @@ use domain::lists::all_between;
 use domain::qualifiers::qualifiers_in;
 use slot::description::Description;
 ghost use mathlib.Core.Path.{_≡_};
-ghost use mathlib.Core.Bool.{Bool, true, false};
+ghost use mathlib.Core.Bool.{true, false};
 ghost use Rattle.rom_slot.specs.Domain.{lineOf, selectLineIn, selectLinesIn, csDataIn, inDomain};
 
 fn select_line(c: CsDataLayout, k: usize) -> SelectLine
@@ -75,6 +75,7 @@ fn cs_data_in(c: CsDataLayout) -> bool
     bases_in & qualifiers_in & data_in & selects_in & commoned_in
 }
 
+// Whether all that a build is handed keeps to the domain.
 pub fn in_domain(d: Description, a: AddrLayout, c: CsDataLayout) -> bool
     ensures { λ r. ⌜ r ≡ inDomain d a c ⌝ }
 {

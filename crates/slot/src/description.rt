@@ -42,6 +42,7 @@ pub enum ChipSetType {
 }
 
 impl ChipSetType {
+    // Whether the set is one chip.
     pub fn is_single(self) -> bool
         ensures { λ r. ⌜ r ≡ isSingle self ⌝ }
     {
@@ -52,6 +53,7 @@ impl ChipSetType {
         }
     }
 
+    // Whether chips of the set are told apart by select lines.
     pub fn is_multi(self) -> bool
         ensures { λ r. ⌜ r ≡ isMulti self ⌝ }
     {

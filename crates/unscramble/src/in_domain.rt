@@ -1,4 +1,4 @@
-// Number 1 in a read-back.
+// Number 1 in a read-back: which stored slots it takes at all.
 use crate::roms::rom_at;
 use crate::stored::StoredSlot;
 ghost use mathlib.Core.Path.{_≡_};

@@ -1,4 +1,5 @@
-// Read-back: the chips' bytes from a stored table.
+// Read-back: the chips' bytes from a stored table, so that a fitted board can be held against the ROMs that it stands for. A word is
+// what the entries for it say; where they disagree, or there is none, the slot is refused.
 pub mod stored; // the slot as it is stored
 mod in_domain; // number 1
 mod window; // its windows, and what is wrong with its algorithms

@@ -1,4 +1,4 @@
-// The lines that pick a ROM.
+// The lines that pick a ROM: their GPIOs, and what they are refused for.
 use crate::stored::StoredSlot;
 use crate::window::in_window;
 use crate::window::select_gpio;

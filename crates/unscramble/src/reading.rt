@@ -1,4 +1,4 @@
-// What the entries are read by.
+// What the entries are read by: positions of all lines, the words of each ROM among all, and the forced bits, found once a slot.
 use crate::forced::forced;
 use crate::forced::forced_high;
 use crate::picks::pick_gpio;

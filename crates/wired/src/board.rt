@@ -55,6 +55,7 @@ fn alone_at(b: Board, i: u8) -> bool
     ok
 }
 
+// Whether no two pins of the board, X pins included, share a candidate.
 pub fn unshared(b: Board) -> bool
     ensures { λ r. ⌜ r ≡ unshared b ⌝ }
 {

@@ -1,5 +1,5 @@
 // Whether a description and its found address layout are well wired, so that the round trip's theorem applies. specs/ has the test,
-// proofs/Law.antt that what it passes is well wired.
+// proofs/ that a slot passes just if it is well wired.
 mod board; // the pins of the board
 mod apart; // lines on different pins
 
@@ -85,6 +85,7 @@ fn one_inside(a: AddrLayout, gpios: Candidates) -> bool
     }
 }
 
+// Whether the round trip's theorem applies to a slot with this address layout.
 pub fn well_wired(d: Description, a: AddrLayout) -> bool
     ensures { λ r. ⌜ r ≡ wired d a ⌝ }
 {
