@@ -46,6 +46,16 @@ pub(crate) fn refused(case: &[u64], ours: &mut [u64], why: Refusal) -> usize {
     head(case, ours, why.number() as u64, why.place())
 }
 
+// What a call of the C interface returned: number above place, 0 on success.
+pub(crate) fn returned(case: &[u64], ours: &mut [u64], result: u64) -> usize {
+    head(
+        case,
+        ours,
+        result / 0x1_0000_0000_0000,
+        result % 0x1_0000_0000_0000,
+    )
+}
+
 // Whether the list's answer is the first n numbers of ours.
 pub(crate) fn same(theirs: &[u64], ours: &[u64], n: usize) -> bool {
     let mut ok = theirs.len() == n;

@@ -1,6 +1,6 @@
 // The images of a case, and the checksum of bytes.
 use crate::case::number_at;
-use rom_slot::images::ImageSpan;
+use gpio::array::one_if;
 use std::num::wrapping_add_u64;
 ghost use Prim.Native.Nat.{_≤_, _<_};
 
@@ -14,22 +14,38 @@ fn length(case: &[u64], chip: usize) -> u32
     (number_at(case, 556 + 3 * chip) % ROOM) as u32
 }
 
-// Chip k's bytes stand from k * 8192 on.
-pub(crate) fn spans(case: &[u64]) -> [ImageSpan; 4] {
-    let none = ImageSpan {
-        present: false,
-        start: 0,
-        length: 0,
-    };
-    let mut out = [none; 4];
-    let mut k: usize = 0;
-    while k < 4 {
-        out[k] = ImageSpan {
-            present: number_at(case, 555 + 3 * k) == 1,
-            start: k as u32 * 8192,
-            length: length(case, k),
-        };
-        k += 1;
+// Byte k of a number, low byte first.
+fn byte_of(x: u32, k: usize) -> u8
+    requires { ⌜ k < 4 ⌝ }
+{
+    ((x >> (8 * k as u32)) % 0x100) as u8
+}
+
+// Byte j of the spans' record. Chip k's bytes stand from k * 8192 on.
+fn span_byte(case: &[u64], j: usize) -> u8
+    requires { ⌜ j < 48 ⌝ }
+{
+    let chip = j / 12;
+    let place = j % 12;
+    if place == 0 {
+        return one_if(number_at(case, 555 + 3 * chip) == 1);
+    }
+    if place < 4 {
+        return 0;
+    }
+    if place < 8 {
+        return byte_of(chip as u32 * 8192, place - 4);
+    }
+    byte_of(length(case, chip), place - 8)
+}
+
+// The record of the spans.
+pub(crate) fn span_bytes(case: &[u64]) -> [u8; 48] {
+    let mut out = [0u8; 48];
+    let mut j: usize = 0;
+    while j < 48 {
+        out[j] = span_byte(case, j);
+        j += 1;
     }
     out
 }

@@ -1,10 +1,6 @@
 // The layouts of a case, and of an answer: the numbers of their records in another order, without the places that are kept.
 use crate::answer::put;
 use crate::case::byte_at;
-use addr_layout::layout::AddrLayout;
-use cs_data_layout::layout::CsDataLayout;
-use layout_record::addr_record;
-use layout_record::cs_data_record;
 ghost use Prim.Native.Nat.{_≤_, _<_};
 
 // The record's place of an address layout's number j.
@@ -35,7 +31,8 @@ fn select_place(j: usize) -> usize
     j
 }
 
-fn addr_bytes(case: &[u64], at: usize) -> [u8; 36]
+// The bytes of the address layout whose first number stands at a place of the case.
+pub(crate) fn addr_bytes(case: &[u64], at: usize) -> [u8; 36]
     requires { ⌜ at ≤ 1000 ⌝ }
 {
     let mut out = [0u8; 36];
@@ -47,15 +44,8 @@ fn addr_bytes(case: &[u64], at: usize) -> [u8; 36]
     out
 }
 
-// The address layout whose first number stands at a place of the case.
-pub(crate) fn addr_layout_at(case: &[u64], at: usize) -> AddrLayout
-    requires { ⌜ at ≤ 1000 ⌝ }
-{
-    let bytes = addr_bytes(case, at);
-    addr_record::layout_at(&bytes)
-}
-
-fn select_bytes(case: &[u64], at: usize) -> [u8; 100]
+// The bytes of the select layout whose first number stands at a place of the case.
+pub(crate) fn select_bytes(case: &[u64], at: usize) -> [u8; 100]
     requires { ⌜ at ≤ 1000 ⌝ }
 {
     let mut out = [0u8; 100];
@@ -67,43 +57,21 @@ fn select_bytes(case: &[u64], at: usize) -> [u8; 100]
     out
 }
 
-// The select layout whose first number stands at a place of the case.
-pub(crate) fn select_layout_at(case: &[u64], at: usize) -> CsDataLayout
-    requires { ⌜ at ≤ 1000 ⌝ }
-{
-    let bytes = select_bytes(case, at);
-    cs_data_record::layout_at(&bytes)
-}
-
-fn addr_stored(layout: AddrLayout) -> [u8; 36] {
-    let mut out = [0u8; 36];
-    addr_record::store(layout, &mut out);
-    out
-}
-
-pub(crate) fn put_addr_layout(ours: &mut [u64], at: usize, layout: AddrLayout) -> usize {
-    let bytes = addr_stored(layout);
+pub(crate) fn put_addr_layout(ours: &mut [u64], at: usize, layout: [u8; 36]) -> usize {
     let mut end = at;
     let mut j: usize = 0;
     while j < 30 {
-        end = put(ours, end, bytes[addr_place(j)] as u64);
+        end = put(ours, end, layout[addr_place(j)] as u64);
         j += 1;
     }
     end
 }
 
-fn select_stored(layout: CsDataLayout) -> [u8; 100] {
-    let mut out = [0u8; 100];
-    cs_data_record::store(layout, &mut out);
-    out
-}
-
-pub(crate) fn put_select_layout(ours: &mut [u64], at: usize, layout: CsDataLayout) -> usize {
-    let bytes = select_stored(layout);
+pub(crate) fn put_select_layout(ours: &mut [u64], at: usize, layout: [u8; 100]) -> usize {
     let mut end = at;
     let mut j: usize = 0;
     while j < 100 {
-        end = put(ours, end, bytes[select_place(j)] as u64);
+        end = put(ours, end, layout[select_place(j)] as u64);
         j += 1;
     }
     end

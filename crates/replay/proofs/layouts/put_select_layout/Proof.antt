@@ -7,10 +7,10 @@ use Rattle.replay.proofs.layouts.put_select_layout.Statement.{statement
 use Rattle.replay.proofs.layouts.put_select_layout.Tie as tie
 
 abbrev Inv-loop : tie.InvT-loop
-Inv-loop ours₀ at bytes end₀ j₀ ours end j = length ours ≡ length ours₀
+Inv-loop ours₀ at layout end₀ j₀ ours end j = length ours ≡ length ours₀
 
 abbrev μ-loop : tie.MeasureT-loop
-μ-loop ours₀ at bytes end₀ j₀ ours end j = 100 - j
+μ-loop ours₀ at layout end₀ j₀ ours end j = 100 - j
 
 pub put-select-layout-spec : {M : Type 1} → statement M
 put-select-layout-spec =
@@ -18,7 +18,6 @@ put-select-layout-spec =
     (tie.spec
     Inv-loop
     μ-loop
-    (λ c κs. search needs)
     (λ c. search needs)
     (λ c κs. search needs)
     (λ c. search needs)
