@@ -88,6 +88,14 @@ fn place(file: &Path) -> Option<PathBuf> {
     Some(fs::canonicalize(folder).ok()?.join(file.file_name()?))
 }
 
+/// Makes a folder if it is not there, and those above it; no name is the one that is there.
+pub fn make_folder(folder: &Path) -> Result<(), Fault> {
+    if folder == Path::new("") {
+        return Ok(());
+    }
+    fs::create_dir_all(folder).map_err(|why| Fault::of_file(folder, why))
+}
+
 /// Writes files of which none is there yet, all of them or none.
 pub fn write_new(outputs: &[Output]) -> Result<(), Fault> {
     let mut own = Vec::new();

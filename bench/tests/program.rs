@@ -267,7 +267,8 @@ fn the_program_has_help() {
 fn words_that_are_no_text() {
     let other = OsStr::from_bytes(b"\xff\xfe");
     assert_eq!(bench(&[other]).status.code(), Some(2));
-    for command in COMMANDS {
+    // A folder may have such a name, and `sample` would make it.
+    for command in COMMANDS.into_iter().filter(|&command| command != "sample") {
         for count in 1..=3 {
             let words = [[OsStr::new(command)].as_slice(), &vec![other; count]].concat();
             let told = bench(&words);

@@ -12,7 +12,7 @@ use super::layout::print_layouts;
 use super::verify::verified;
 use crate::SAMPLE;
 use crate::ending::{Done, Fault, say};
-use crate::outputs::write_new;
+use crate::outputs::{make_folder, write_new};
 
 /// What the program does without a command.
 pub const SUMMARY: &str = "Runs the sample, a 2764, to a table that reads back";
@@ -23,9 +23,10 @@ pub const SAMPLE_FILES: Command = Command {
     summary: "Writes the sample's files, to try the commands on",
     help: "\
 Reads no file. Writes 2764.txt, the sample's description, and 2764.bin, its
-ROM's 8192 bytes, to FOLDER or else to the folder that it runs in. The byte at
-an address is the address's low byte plus 31 times its high byte, modulo 256. No
-file is replaced: where one of the two is there already, none is written.
+ROM's 8192 bytes, to FOLDER, which is made if it is not there, or else to the
+folder that it runs in. The byte at an address is the address's low byte plus 31
+times its high byte, modulo 256. No file is replaced: where one of the two is
+there already, none is written.
 
 Exit codes: 0 written; 2 other words, or a file that cannot be written.
 
@@ -69,6 +70,7 @@ fn run(words: &[OsString]) -> Done {
         [folder] => Path::new(folder),
         _ => return Err(Fault::Words),
     };
+    make_folder(folder)?;
     let [description, rom] = [DESCRIPTION, ROM].map(|name| folder.join(name));
     write_new(&[(&description, SAMPLE.as_bytes()), (&rom, &rom_bytes())])?;
     let (text, bytes) = (description.display(), rom.display());
