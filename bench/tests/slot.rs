@@ -1,13 +1,16 @@
 //! The stored slot's record, place by place, and the answers of the read-back and the round trip.
 
+mod slots;
+
 use onerom_bench::description::{Candidates, SetType};
 use onerom_bench::images;
-use onerom_bench::slot::{Layout, Map, Rom, SlotKind, StoredSlot};
+use onerom_bench::slot::{Map, Rom, SlotKind, StoredSlot};
 use onerom_bench::{
     AddrLayout, Call, CsDataLayout, Description, Refusal, build_rom_image, derive_addr_layout,
     derive_cs_data_layout, round_trip, round_trip_into, text, unscramble_slot,
     unscramble_slot_into,
 };
+use slots::NUMBERED;
 
 /// The kind of an override in its top bits.
 const LOW: u8 = 2 << 6;
@@ -69,20 +72,7 @@ fn numbered() -> StoredSlot {
     StoredSlot {
         size: 0x0403_0201,
         kind: SlotKind::Multi,
-        layout: Some(Layout {
-            addr_algorithm: 6,
-            addr_base: 7,
-            base_addr_pin: 8,
-            addr_pins: 9,
-            data_algorithm: 10,
-            data_base: 11,
-            base_data_pin: 12,
-            dma_algorithm: 13,
-            bit_mode: 14,
-            cs_algorithm: 15,
-            cs_base: 16,
-            first_cs_pin: 17,
-        }),
+        layout: Some(NUMBERED),
         overrides: vec![200, 201],
         x: [Candidates::One(24), Candidates::Two(25, 37)],
         roms: vec![

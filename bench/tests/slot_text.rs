@@ -1,8 +1,11 @@
 //! Stored slots as text: what is written reads back as it was, what is read, and what an error says.
 
+mod slots;
+
 use onerom_bench::description::Candidates;
 use onerom_bench::slot::{Layout, Map, Rom, SlotKind, StoredSlot};
 use onerom_bench::text::{is_slot, read_slot, write_slot};
+use slots::NUMBERED;
 
 /// Every fact once.
 const WHOLE: &str = "slot multi
@@ -31,20 +34,7 @@ fn whole() -> StoredSlot {
     StoredSlot {
         size: 0x0403_0201,
         kind: SlotKind::Multi,
-        layout: Some(Layout {
-            addr_algorithm: 6,
-            addr_base: 7,
-            base_addr_pin: 8,
-            addr_pins: 9,
-            data_algorithm: 10,
-            data_base: 11,
-            base_data_pin: 12,
-            dma_algorithm: 13,
-            bit_mode: 14,
-            cs_algorithm: 15,
-            cs_base: 16,
-            first_cs_pin: 17,
-        }),
+        layout: Some(NUMBERED),
         overrides: vec![200, 63],
         x: [Candidates::One(24), Candidates::Two(25, 37)],
         roms: vec![Rom { size: 5, map: None }, mapped, mapped],

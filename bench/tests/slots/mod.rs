@@ -1,8 +1,26 @@
-//! Descriptions that the tests share.
+//! Descriptions and a layout that the tests share.
 
 #![allow(dead_code, reason = "each test takes what it needs")]
 
+use onerom_bench::slot::Layout;
+
 pub const SAMPLE: &str = include_str!("../../sample/2764.txt");
+
+/// A layout whose numbers are those of their places in the record.
+pub const NUMBERED: Layout = Layout {
+    addr_algorithm: 6,
+    addr_base: 7,
+    base_addr_pin: 8,
+    addr_pins: 9,
+    data_algorithm: 10,
+    data_base: 11,
+    base_data_pin: 12,
+    dma_algorithm: 13,
+    bit_mode: 14,
+    cs_algorithm: 15,
+    cs_base: 16,
+    first_cs_pin: 17,
+};
 
 /// The sample with some of its lines changed.
 pub fn changed(changes: &[(&str, &str)]) -> String {
