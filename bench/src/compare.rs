@@ -14,6 +14,7 @@ use std::collections::BTreeMap;
 use std::fmt;
 use std::process::ExitCode;
 
+use onerom_bench::interface::refusals;
 use oracle::case::{Case, line_of};
 use oracle::engine::Engine;
 use oracle::model::Model;
@@ -31,11 +32,12 @@ use searches::{AddressSearch, SelectSearch};
 use crate::ending::{Done, Fault, say};
 use crate::progress::Progress;
 
-const OUT_OF_DOMAIN: u64 = 1;
-const SHORT_BUFFER: u64 = 16;
-const WRONG_SIZE: u64 = 17;
-const INCONSISTENT: u64 = 23;
-const UNSERVED: u64 = 24;
+/// Numbers as a result has them.
+const OUT_OF_DOMAIN: u64 = refusals::OUT_OF_DOMAIN as u64;
+const SHORT_BUFFER: u64 = refusals::SHORT_BUFFER as u64;
+const WRONG_SIZE: u64 = refusals::WRONG_SIZE as u64;
+const INCONSISTENT: u64 = refusals::INCONSISTENT as u64;
+const UNSERVED: u64 = refusals::UNSERVED as u64;
 
 /// A result has the refusal's number from this bit on, and its place below.
 const PLACES: u32 = 48;

@@ -2,6 +2,8 @@
 //! long, at both guard pages: what docs/INTERFACE.md says is told, and what stands in every byte of
 //! the lent buffers afterwards.
 
+mod slots;
+
 use onerom_bench::description::{Candidates, SetType};
 use onerom_bench::fence::{Lent, Shown, Side};
 use onerom_bench::slot::{Map, SlotKind};
@@ -10,8 +12,7 @@ use onerom_bench::{
     derive_cs_data_layout, derive_cs_data_layout_into, images, round_trip_into, table_length, text,
     unscramble_slot_into,
 };
-
-const SAMPLE: &str = include_str!("../sample/2764.txt");
+use slots::{SAMPLE, changed, wide};
 
 const SUCCESS: u64 = 0;
 const OUT_OF_DOMAIN: u64 = 1 << 48;
@@ -36,20 +37,9 @@ fn banked() -> Description {
 /// Ce, oe and X1 side by side.
 fn multi() -> Description {
     let set = "set multi\nmulti select ce commoned oe";
-    let mut slot = described(&SAMPLE.replace("set single", set));
+    let mut slot = described(&changed(&[("set single", set)]));
     slot.chips.push(slot.chips[0].clone());
     slot
-}
-
-/// 512 words of 16 bits; the first address pin counts for nothing.
-fn wide() -> Description {
-    let head = "socket 40\nword 2\nchip size 1024\naddress 27 1 2 3 4 5 6 7 8 9\n\
-        data 10 11 12 13 14 15 16 17 18 19 20 21 22 23 24 25\ncontrol ce 26\n";
-    let gpios = (0..9).chain(16..33);
-    let pins = (1..)
-        .zip(gpios)
-        .map(|(pin, gpio)| format!("pin {pin} gpio {gpio}\n"));
-    described(&(head.to_string() + &pins.collect::<String>()))
 }
 
 /// A slot that all calls take, with what they are handed and what they write.
@@ -117,7 +107,7 @@ impl Good {
             Self::of("Single", &described(SAMPLE)),
             Self::of("Banked", &banked()),
             Self::of("Multi", &multi()),
-            Self::of("16 bits", &wide()),
+            Self::of("16 bits", &described(&wide([30, 31]))),
         ]
     }
 }
