@@ -15,6 +15,7 @@ pub enum XGpio {
     At(u8),
 }
 
+// Which GPIOs the address PIO reads, and which line each serves.
 pub struct AddrLayout {
     pub gpio_base: u8,
     pub num_addr_pins: u8,
@@ -28,6 +29,7 @@ pub struct AddrLayout {
     pub num_excess: u8,
 }
 
+// Whether there is a layout, and if not why.
 pub enum AddrOutcome {
     LaidOut,
     Refused(Refusal),

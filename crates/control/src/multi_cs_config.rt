@@ -26,6 +26,7 @@ pub struct Sorted {
     pub found: bool,
 }
 
+// Whether a configuration is derived, and if not why.
 pub enum MultiOutcome {
     Derived,
     Refused(Refusal),

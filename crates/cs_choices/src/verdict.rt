@@ -10,6 +10,7 @@ ghost use mathlib.Core.Path.{_≡_};
 ghost use Prim.Native.Nat.{_-_, _≤_};
 ghost use Rattle.cs_choices.specs.Verdict.{selectable, baseOf, inWindow, scoreOf, verdictOf};
 
+// What a choice fails on first, or that it fits.
 pub enum Verdict {
     DataGap,
     // The refused set.

@@ -31,6 +31,7 @@ pub struct Qualifiers {
     pub qualifier_inactive_pattern: u8,
 }
 
+// Which GPIOs select the chip and carry its data, and which line each serves; base pins are counted from the base.
 pub struct CsDataLayout {
     // 0 or 16.
     pub gpio_base: u8,
@@ -49,6 +50,7 @@ pub struct CsDataLayout {
     pub qualifiers: Qualifiers,
 }
 
+// Whether there is a layout, and if not why.
 pub enum CsDataOutcome {
     LaidOut,
     Refused(Refusal),

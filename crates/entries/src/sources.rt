@@ -6,6 +6,7 @@ ghost use lib.ListN.{length};
 ghost use Rattle.words.specs.Words.{wordFrom};
 ghost use Rattle.entries.specs.Entries.{rawFrom, SourceIn};
 
+// A chip's words: where the first stands, how many there are, and what is read past them.
 pub struct Source {
     pub start: u32,
     // Words of the chip.

@@ -5,6 +5,7 @@ ghost use Prim.Native.Nat.{_+_, _*_, _/_, _<_, _^_};
 ghost use Rattle.gpio.specs.Tab.{tab};
 ghost use Rattle.entries.specs.Entries.{WiringIn, partOf};
 
+// All that an entry takes of the layouts.
 pub struct Wiring {
     // Address lines in use: positions in the index.
     pub address: [u8; 24],

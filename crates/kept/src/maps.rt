@@ -5,6 +5,7 @@ ghost use Prim.Native.Nat.{_≤_, _<_};
 ghost use Rattle.kept.specs.Reading.{MapsIn, gathered, partBy};
 ghost use Rattle.kept.specs.Rows.{tableOf, highOf};
 
+// The positions of so many lines, lowest line first.
 pub struct Map {
     pub positions: [u8; 32],
     pub lines: u8,

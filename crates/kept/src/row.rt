@@ -19,6 +19,7 @@ pub struct Row {
     pub count: u32,
 }
 
+// Whether a row is read to its end, or stops at a word.
 pub enum Walked {
     Through,
     // The word that an entry says another value of than the one kept.

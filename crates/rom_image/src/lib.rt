@@ -14,6 +14,7 @@ use slot::refusal::Refusal;
 ghost use mathlib.Core.Path.{_≡_};
 ghost use Rattle.rom_image.specs.Build.{built, buildOf};
 
+// Whether the table is built, and if not why.
 pub enum BuildAnswer {
     Built,
     Refused(Refusal),

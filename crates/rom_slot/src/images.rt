@@ -3,6 +3,7 @@ ghost use mathlib.Core.Path.{_≡_};
 ghost use lib.ListN.{length};
 ghost use Rattle.rom_slot.specs.Images.{chipBytes, spanAt};
 
+// Where a chip's bytes stand in the lent ones; those past the end are not there.
 pub struct ImageSpan {
     // Whether the chip has bytes at all.
     pub present: bool,

@@ -20,6 +20,7 @@ pub struct ControlLine {
     pub pin: u8,
 }
 
+// A chip's control lines: the first `count` of the places.
 pub struct ControlLines {
     pub lines: [ControlLine; 8],
     pub count: u8,
@@ -35,6 +36,7 @@ pub struct Chip {
     pub size: u32,
 }
 
+// How many chips share the socket, and what picks one: none, the X pins as a bank's bits, or select lines.
 pub enum ChipSetType {
     Single,
     Banked,
@@ -103,6 +105,7 @@ pub struct MultiCsConfig {
     pub num_ignored: u8,
 }
 
+// A slot as every call takes it: the board, the chips on it and how they are selected.
 pub struct Description {
     pub board: Board,
     pub set_type: ChipSetType,

@@ -4,6 +4,7 @@ use gpio::set::GpioSet;
 ghost use mathlib.Core.Path.{_≡_};
 ghost use Rattle.slot.specs.Refusal.{numberOf, placeOf};
 
+// The refusals in the order of their numbers, from 1; a field is the place.
 pub enum Refusal {
     OutOfDomain,
     NoSelectLine,

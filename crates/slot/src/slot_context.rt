@@ -64,6 +64,7 @@ const KNOWN_PAIRS: [KnownPair; 10] = [
     },
 ];
 
+// The offset, socket pin less chip pin, or why there is none.
 pub enum OffsetAnswer {
     Offset(i8),
     Refused(Refusal),

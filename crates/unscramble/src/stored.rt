@@ -46,6 +46,7 @@ pub struct Rom {
     pub data_lines: [u8; 32],
 }
 
+// A slot as read-back takes it; counts say how many overrides and ROMs there are.
 pub struct StoredSlot {
     // Declared size in bytes.
     pub size: u32,
