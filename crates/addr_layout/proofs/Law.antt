@@ -3,7 +3,7 @@ use mathlib.Core.Path.{_≡_, refl, sym, _∙_, ap}
 use Prim.Native.Nat.{ℕ, _<_}
 use native.Mathlib.Omega.{arith}
 use Rattle.slot.specs.declared.description.Description.{Description}
-use Rattle.slot.specs.declared.refusal.Refusal.the-variants.{NoValidLayout}
+use Rattle.refusal.specs.declared.Refusal.the-variants.{NoValidLayout}
 use Rattle.search.specs.Search.{best}
 use Rattle.search.specs.Law.{Right}
 use Rattle.search.specs.declared.Trial.the-variants.{Score}

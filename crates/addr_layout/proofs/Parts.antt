@@ -8,7 +8,7 @@ use lib.Dec.{ltb}
 use borrow.Author.Tests.{le-ltb, ltb-true, ltb-false}
 use Rattle.gpio.specs.Span.{joined}
 use Rattle.gpio.specs.declared.span.Span.{Span}
-use Rattle.gpio.proofs.Bools.{and-true}
+use Rattle.lists.proofs.Bools.{and-true}
 use Rattle.gpio.proofs.Spans.{joined-turn, joined-same}
 use Rattle.listing.specs.Choice.{gpioAt, bitOf}
 use Rattle.listing.specs.declared.Listed.{Listed}

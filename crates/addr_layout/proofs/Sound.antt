@@ -11,18 +11,18 @@ use lib.ListN.{length, getD, length-append, List·getD-append}
 use lib.Seq.{getD-append-add}
 use borrow.Author.Tests.{ltb-true, ltb-false, lt-ltb, le-ltb, le-leb}
 use Rattle.gpio.specs.Window.{fits}
-use Rattle.gpio.specs.Tab.{tab}
+use Rattle.lists.specs.Tab.{tab}
 use Rattle.gpio.specs.Span.{empty, widened}
 use Rattle.gpio.specs.declared.span.Span.{Span}
 use Rattle.gpio.specs.declared.candidates.Candidates.{Candidates}
 use Rattle.gpio.specs.declared.candidates.Candidates.the-variants.{Absent, One, Two}
-use Rattle.gpio.proofs.Bools.{and-left}
+use Rattle.lists.proofs.Bools.{and-left}
 use Rattle.gpio.proofs.Fits.{fits-within, fits-width}
-use Rattle.gpio.proofs.Tab.{tab-length, getD-tab}
+use Rattle.lists.proofs.Tab.{tab-length, getD-tab}
 use Rattle.gpio.proofs.Spans.{least-both, most-both}
 use Rattle.slot.specs.Description.{isSingle, isMulti, chip0}
 use Rattle.slot.specs.declared.description.Description.{Description}
-use Rattle.slot.specs.declared.refusal.Refusal.the-variants.{OutOfDomain}
+use Rattle.refusal.specs.declared.Refusal.the-variants.{OutOfDomain}
 use Rattle.domain.specs.Domain.{descriptionIn}
 use Rattle.domain.proofs.Bounds.{chip0-in, address-pins}
 use Rattle.listing.specs.Choice.{CandidateOf, pinAt, gpioAt}
@@ -34,8 +34,8 @@ use Rattle.search.specs.declared.Trial.the-variants.{Misfit, Score}
 use Rattle.addr_layout.specs.Lines.{lines, lineListed, addrListed}
 use Rattle.addr_layout.specs.Choices.{reach, inRange, widenedFirst, kindCandidates, selectSpan, fixedSpan, spanned, spanAt, choiceSpan, width, pinsOf, trialOf, addrTrial, layoutOf}
 use Rattle.addr_layout.specs.Law.{FirstOf, PastTests, Spanned, of-pin, of-select, of-commoned, InWindow, XLaid, SoundLayout, Sound}
-use Rattle.addr_layout.specs.declared.layout.XGpio.{XGpio}
-use Rattle.addr_layout.specs.declared.layout.XGpio.the-variants.{At}
+use Rattle.gpio.specs.declared.line.LineGpio.{LineGpio}
+use Rattle.gpio.specs.declared.line.LineGpio.the-variants.{At}
 use Rattle.addr_layout.specs.declared.layout.AddrLayout.{AddrLayout}
 
 -- a GPIO within a span
@@ -216,7 +216,7 @@ module _ (d : Description) (c : ℕ) (e : descriptionIn d ≡ true)
   line-spanned n l = of-pin n (omega (arith, listed-length, few)) (rw (lt-ltb n (inRange d) l)) refl
 
   -- an X pin behind the lines
-  x-laid : (k : ℕ) (x : Candidates) (used : XGpio) → k < length xs → pinAt xs k ≡ x → used ≡ At (gpioAt (addrListed d) c (lines d + k)) → XLaid laid x used
+  x-laid : (k : ℕ) (x : Candidates) (used : LineGpio) → k < length xs → pinAt xs k ≡ x → used ≡ At (gpioAt (addrListed d) c (lines d + k)) → XLaid laid x used
   x-laid k x used l p u =
       let past : inRange d ≤ lines d + k = omega (arith, few) in
       let from : lines d ≤ lines d + k = omega arith in

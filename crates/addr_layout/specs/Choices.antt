@@ -4,8 +4,8 @@ use mathlib.Core.Bool.{Bool, not, _&&_, _||_, cond}
 use mathlib.Core.List.{List}
 use lib.Dec.{leb, ltb, eqb}
 use lib.ListN.{length, getD}
-use Rattle.gpio.specs.Each.{tally}
-use Rattle.gpio.specs.Tab.{tab}
+use Rattle.lists.specs.Each.{tally}
+use Rattle.lists.specs.Tab.{tab}
 use Rattle.gpio.specs.Window.{fits}
 use Rattle.gpio.specs.Span.{empty, widened}
 use Rattle.gpio.specs.declared.candidates.Candidates.{Candidates}
@@ -19,40 +19,47 @@ use Rattle.listing.specs.declared.Listed.{Listed}
 use Rattle.search.specs.declared.Trial.{Trial}
 use Rattle.search.specs.declared.Trial.the-variants.{Misfit, Score}
 use Rattle.addr_layout.specs.Lines.{lines, addrListed}
-use Rattle.addr_layout.specs.declared.layout.XGpio.{XGpio}
-use Rattle.addr_layout.specs.declared.layout.XGpio.the-variants.{Unused, At}
+use Rattle.gpio.specs.declared.line.LineGpio.{LineGpio}
+use Rattle.gpio.specs.declared.line.LineGpio.the-variants.{Unused, At}
 use Rattle.addr_layout.specs.declared.layout.AddrLayout.{AddrLayout}
 
 -- L / w, w being 1 or 2
+-- 01 Shape 8: L is read from the description
 abbrev pub mostEntries : Description → ℕ
 mostEntries d = cond (eqb (d .«word_bytes») 2) (d .«max_image_size» / 2) (d .«max_image_size»)
 
--- floor(log2(L / w)): how many of 2^1, 2^2, .. are at most L / w, L being at most 2^20
+-- 01 addr_layout 2: floor(log2(L / w)), got as how many of 2^1, 2^2, .. are at most L / w, L being at most 2^20
 unfoldable pub reach : Description → ℕ
 reach d = tally 20 (λ k. leb (2 ^ (k + 1)) (mostEntries d))
 
--- "In range: the first floor(log2(L / w)) lines; the rest are excess."
+-- 01 addr_layout 2: floor(log2(L / w)) lines, counted from the first, are in range, or all if there are fewer
 abbrev pub inRange : Description → ℕ
 inRange d = cond (ltb (lines d) (reach d)) (lines d) (reach d)
 
--- "in Multi, the first candidates of select and commoned lines; those off the socket, not on the chip or without GPIO are
--- passed over"
+-- 01 addr_layout 8: a select or commoned line widens the span by its first candidate, or not at all if it has none
 abbrev pub widenedFirst : Span → Candidates → Span
 widenedFirst s Absent = s
 widenedFirst s (One g) = widened s g
 widenedFirst s (Two g h) = widened s g
 
+-- 01 addr_layout 8: a line that chip 0 lacks has no candidates, nor has one whose pin is off the socket
 abbrev pub kindCandidates : Description → ℕ → Candidates
+-- 01 addr_layout 8: a line that chip 0 lacks has no candidates, nor has one whose pin is off the socket
 kindCandidates d kind = cond (eqb (kindPin d kind) 0) Absent (pinCandidates d (kindPin d kind))
 
+-- 01 addr_layout 8: the span of the select line and of the first k commoned lines
 unfoldable pub selectSpan : Description → ℕ → Span
+-- 01 addr_layout 8: the span of the select line and of the first k commoned lines
 selectSpan d zero = widenedFirst empty (kindCandidates d (d .multi .select))
+-- 01 addr_layout 8: the span of the select line and of the first k commoned lines
 selectSpan d (suc k) = widenedFirst (selectSpan d k) (kindCandidates d (getD (d .multi .commoned) k 0))
 
+-- 01 addr_layout 8: select and commoned lines are spanned in Multi only
 unfoldable pub fixedSpan : Description → Span
+-- 01 addr_layout 8: select and commoned lines are spanned in Multi only
 fixedSpan d = cond (isMulti (d .«set_type»)) (selectSpan d (d .multi .«num_commoned»)) empty
 
--- "over in-range lines, X pins": not over excess lines. Of n lines r are in range
+-- 01 addr_layout 8: of n lines the first r are in range and are spanned, as are the X pins behind the n; excess lines are not
 abbrev pub spanned : ℕ → ℕ → ℕ → Bool
 spanned r n k = ltb k r || leb n k
 
@@ -65,14 +72,18 @@ spanAt ls r n fixed c (suc k) =
 abbrev pub choiceSpan : List Listed → ℕ → ℕ → Span → ℕ → Span
 choiceSpan ls r n fixed c = spanAt ls r n fixed c (length ls)
 
--- "Pins are max(span, 8)"
+-- 01 addr_layout 8: the span is how many GPIOs there are from the lowest to the highest
 abbrev pub width : Span → ℕ
 width s = s .high - s .low + 1
 
+-- 01 addr_layout 8: the pins are as many as the span, but never fewer than 8
 abbrev pub pinsOf : Span → ℕ
+-- 01 addr_layout 8: the pins are as many as the span, but never fewer than 8
 pinsOf s = cond (ltb 8 (width s)) (width s) 8
 
--- "Base is the lowest GPIO. Score: pins × 1000 + base."
+-- 01 gpio_window 1: a choice fits if one window holds its pins, counted from its base
+-- 01 addr_layout 9: the base of a choice is the lowest of the GPIOs that it spans
+-- 01 addr_layout 10: a choice scores 1000 for each pin, and its base on top
 unfoldable pub trialOf : Span → Trial
 trialOf s = cond (fits (s .low) (pinsOf s)) (Score (pinsOf s * 1000 + s .low)) Misfit
 
@@ -81,10 +92,14 @@ abbrev pub addrTrial : Description → ℕ → Trial
 addrTrial d c = trialOf (choiceSpan (addrListed d) (inRange d) (lines d) (fixedSpan d) c)
 
 -- the X pins that pick a bank or a chip, behind the lines
-abbrev pub xGpio : Bool → ℕ → XGpio
+-- 01 Shape 4: an X GPIO of a layout is unused, or is at a GPIO
+abbrev pub xGpio : Bool → ℕ → LineGpio
 xGpio used g = cond used (At g) Unused
 
 -- the layout of pins resolved to GPIOs, of n lines u in use
+-- 01 addr_layout 2: the lines behind those in use are the excess ones
+-- 01 addr_layout 8: a layout has as many pins as its GPIOs span, but never fewer than 8
+-- 01 addr_layout 9: the base of a layout is the lowest GPIO of its span
 abbrev pub layoutFrom : Span → (ℕ → ℕ) → Bool → Bool → ℕ → ℕ → AddrLayout
 layoutFrom s gpio one both n u = record {
   «gpio_base» = s .low;
@@ -96,8 +111,11 @@ layoutFrom s gpio one both n u = record {
   «num_excess» = n - u;
 }
 
--- the layout that choice c makes: X1 behind the lines "for Banked and Multi", X2 behind it "with 3 chips or more"
+-- the layout that choice c makes
+-- 01 Well wired 1: a layout uses as many lines as are in range
+-- 01 addr_layout 5: X1 is behind the lines in any set but Single, and X2 behind X1 if there are at least 3 chips
 abbrev pub layoutOf : Description → List Listed → ℕ → AddrLayout
+-- 01 cs_data_layout 3: the layout that choice c makes has the base of the window that holds all its GPIOs
 layoutOf d ls c =
     layoutFrom (choiceSpan ls (inRange d) (lines d) (fixedSpan d) c) (λ k. gpioAt ls c k) (not (isSingle (d .«set_type»)))
     (not (isSingle (d .«set_type»)) && leb 3 (d .«num_chips»)) (lines d) (inRange d)

@@ -10,17 +10,17 @@ use Rattle.slot.specs.Description.{isSingle, isMulti}
 use Rattle.slot.specs.declared.description.Description.{Description}
 use Rattle.listing.specs.Listing.{twos, firstFault}
 use Rattle.listing.specs.Choice.{CandidateOf, pinAt, gpioAt}
-use Rattle.listing.specs.declared.FirstFault.the-variants.{None}
+use Rattle.refusal.specs.declared.first.FirstFault.the-variants.{None}
 use Rattle.search.specs.Law.{Best}
 use Rattle.addr_layout.specs.Lines.{lines, lineListed, addrListed}
 use Rattle.addr_layout.specs.Choices.{inRange, kindCandidates, spanned, addrTrial, layoutOf}
 use Rattle.addr_layout.specs.Search.{inDomain, addrAnswer}
-use Rattle.addr_layout.specs.declared.layout.XGpio.{XGpio}
-use Rattle.addr_layout.specs.declared.layout.XGpio.the-variants.{At}
+use Rattle.gpio.specs.declared.line.LineGpio.{LineGpio}
+use Rattle.gpio.specs.declared.line.LineGpio.the-variants.{At}
 use Rattle.addr_layout.specs.declared.layout.AddrLayout.{AddrLayout}
 use Rattle.addr_layout.specs.declared.layout.AddrOutcome.the-variants.{LaidOut}
 
--- "once 01's earlier tests are past"
+-- 00 Demand 2: the tests before the search are past: the description is in the domain, and every listed pin has a candidate
 pub record PastTests (d : Description) : Type 0 where
   pub domain : inDomain d ≡ true
   pub no-fault : firstFault (addrListed d) ≡ None
@@ -29,7 +29,8 @@ pub record PastTests (d : Description) : Type 0 where
 abbrev pub choices : Description → ℕ
 choices d = 2 ^ twos (addrListed d)
 
--- the layout found is that of choice c, which fits with score s; no fitting choice scores lower, every earlier one higher
+-- 00 Demand 2: the layout found is that of choice c, which fits with score s; no fitting choice scores lower, every earlier one
+-- higher
 pub record LaidOutBest (d : Description) (c s : ℕ) : Type 0 where
   pub answer : addrAnswer d ≡ record { outcome = LaidOut; layout = layoutOf d (addrListed d) c }
   pub best : Best (addrTrial d) (choices d) c s
@@ -40,8 +41,8 @@ FirstOf Absent g = ⊥
 FirstOf (One a) g = g ≡ a
 FirstOf (Two a b) g = g ≡ a
 
--- a GPIO that choice c spans: that of an in-range line or of an X pin; in Multi, the first candidate of the select line or of
--- a commoned line
+-- 01 addr_layout 8: a GPIO that choice c spans: that of an in-range line or of an X pin behind the lines; in Multi, also the one
+-- that comes first among the candidates of the select line or of a commoned line
 pub data Spanned (d : Description) (c g : ℕ) : Type 0 where
   of-pin : (k : ℕ) → k < length (addrListed d) → spanned (inRange d) (lines d) k ≡ true
       → g ≡ gpioAt (addrListed d) c k → Spanned d c g
@@ -54,29 +55,32 @@ abbrev pub InWindow : AddrLayout → ℕ → Type 0
 InWindow l g = (l .«gpio_base» ≤ g) × (g < l .«gpio_base» + l .«num_addr_pins»)
 
 -- the GPIO of an X pin that picks: a candidate of the pin, in the window
-abbrev pub XLaid : AddrLayout → Candidates → XGpio → Type 0
+abbrev pub XLaid : AddrLayout → Candidates → LineGpio → Type 0
 XLaid l x used = (g : ℕ) × (used ≡ At g) × CandidateOf x g × InWindow l g
 
 -- what a found layout's own fields keep, l being the layout of choice c
 pub record SoundLayout (d : Description) (c : ℕ) (l : AddrLayout) : Type 0 where
   pub pins-most : l .«num_addr_pins» ≤ 32
-  -- the lines in use are the in-range ones; the GPIO of each is a candidate of its pin or of the X pin that it took, in the window
+  -- 01 Well wired 1: as many lines are in use as are in range
   pub in-use : l .«num_lines» ≡ inRange d
+  -- the GPIO of each is a candidate of its pin or of the X pin that it took, in the window
   pub line-gpio : (n : ℕ) → n < l .«num_lines» → getD (l .gpios) n 0 ≡ gpioAt (addrListed d) c n
   pub line-candidate : (n : ℕ) → n < l .«num_lines» → CandidateOf (lineListed d n .gpios) (getD (l .gpios) n 0)
   pub line-window : (n : ℕ) → n < l .«num_lines» → InWindow l (getD (l .gpios) n 0)
-  -- "Banked and Multi add X1, and X2 with 3 chips or more."
+  -- 01 addr_layout 5: in any set but Single the layout has X1, at a candidate in the window
   pub x1 : isSingle (d .«set_type») ≡ false → XLaid l (d .board .x1) (l .«x1_gpio»)
+  -- 01 addr_layout 5: in such a set of at least 3 chips it has X2, likewise
   pub x2 : isSingle (d .«set_type») ≡ false → 3 ≤ d .«num_chips» → XLaid l (d .board .x2) (l .«x2_gpio»)
 
 -- what the layout of a choice that fits keeps
 pub record Sound (d : Description) (c : ℕ) : Type 0 where
-  -- the window is one of the PIO's, and at least 8 wide
+  -- 01 gpio_window 1: base and pins fit one of the PIO's windows
   pub window : fits (layoutOf d (addrListed d) c .«gpio_base») (layoutOf d (addrListed d) c .«num_addr_pins») ≡ true
+  -- 01 addr_layout 8: there are at least 8 pins
   pub wide : 8 ≤ layoutOf d (addrListed d) c .«num_addr_pins»
-  -- the base is one of the GPIOs that the choice spans
+  -- 01 addr_layout 9: the base is one of the GPIOs that the choice spans
   pub attained : Spanned d c (layoutOf d (addrListed d) c .«gpio_base»)
-  -- none of them is below the base, and each is in the window
+  -- 01 addr_layout 9: no GPIO that the choice spans is below the base, and each is in the window
   pub inside : (g : ℕ) → Spanned d c g
       → (layoutOf d (addrListed d) c .«gpio_base» ≤ g)
       × (g < layoutOf d (addrListed d) c .«gpio_base» + layoutOf d (addrListed d) c .«num_addr_pins»)

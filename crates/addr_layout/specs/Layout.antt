@@ -1,14 +1,13 @@
 -- The address layout of a refused call, and the domain of a layout handed in. Assumes nothing.
 use Prim.Native.Nat.{ℕ, _+_}
-use mathlib.Core.Bool.{Bool, true, _&&_}
+use mathlib.Core.Bool.{Bool, _&&_}
 use lib.Dec.{leb}
 use lib.ListN.{getD, replicate}
-use Rattle.gpio.specs.Each.{each}
+use Rattle.lists.specs.Each.{each, between}
 use Rattle.gpio.specs.Candidates.{gpioIn}
-use Rattle.domain.specs.Domain.{between}
-use Rattle.slot.specs.declared.refusal.Refusal.{Refusal}
-use Rattle.addr_layout.specs.declared.layout.XGpio.{XGpio}
-use Rattle.addr_layout.specs.declared.layout.XGpio.the-variants.{Unused, At}
+use Rattle.gpio.specs.Line.{lineGpioIn}
+use Rattle.refusal.specs.declared.Refusal.{Refusal}
+use Rattle.gpio.specs.declared.line.LineGpio.the-variants.{Unused}
 use Rattle.addr_layout.specs.declared.layout.AddrLayout.{AddrLayout}
 use Rattle.addr_layout.specs.declared.layout.AddrOutcome.the-variants.{Refused}
 use Rattle.addr_layout.specs.declared.layout.AddrAnswer.{AddrAnswer}
@@ -27,17 +26,15 @@ noLayout = record {
 abbrev pub refusedFor : Refusal → AddrAnswer
 refusedFor why = record { outcome = Refused why; layout = noLayout }
 
--- "GPIO 0 to 47."
-abbrev pub xIn : XGpio → Bool
-xIn Unused = true
-xIn (At g) = gpioIn g
-
+-- 01 Domain 13: all address lines are those in use and the excess ones
 abbrev pub allLines : AddrLayout → ℕ
+-- 01 Domain 13: all address lines are those in use and the excess ones
 allLines l = l .«num_lines» + l .«num_excess»
 
--- "A layout handed in has up to 24 address lines in all, 0 to 48 address pins"; "Outside read-back a layout's bases and base
--- pins are 0 to 47."
+-- 01 Domain 2: the GPIOs of the X pins and of all address lines are at most 47
+-- 01 Domain 13: there are at most 24 address lines and at most 48 address pins
+-- 01 Domain 14: the base is at most 47
 unfoldable pub layoutIn : AddrLayout → Bool
 layoutIn l =
-    gpioIn (l .«gpio_base») && leb (l .«num_addr_pins») 48 && (xIn (l .«x1_gpio») && xIn (l .«x2_gpio»))
+    gpioIn (l .«gpio_base») && leb (l .«num_addr_pins») 48 && (lineGpioIn (l .«x1_gpio») && lineGpioIn (l .«x2_gpio»))
     && (leb (allLines l) 24 && each (allLines l) (λ k. between 0 47 (getD (l .gpios) k 0)))

@@ -3,11 +3,11 @@ use Prim.Native.Nat.{_^_}
 use mathlib.Core.Bool.{Bool, _&&_, cond}
 use lib.Dec.{leb}
 use Rattle.slot.specs.declared.description.Description.{Description}
-use Rattle.slot.specs.declared.refusal.Refusal.the-variants.{OutOfDomain, NoValidLayout}
+use Rattle.refusal.specs.declared.Refusal.the-variants.{OutOfDomain, NoValidLayout}
 use Rattle.domain.specs.Domain.{descriptionIn}
 use Rattle.listing.specs.Listing.{twos, firstFault}
-use Rattle.listing.specs.declared.FirstFault.{FirstFault}
-use Rattle.listing.specs.declared.FirstFault.the-variants.{None, Of}
+use Rattle.refusal.specs.declared.first.FirstFault.{FirstFault}
+use Rattle.refusal.specs.declared.first.FirstFault.the-variants.{None, Of}
 use Rattle.search.specs.Search.{best}
 use Rattle.search.specs.declared.Found.{Found}
 use Rattle.search.specs.declared.Found.the-variants.{Nothing, At}
@@ -17,23 +17,27 @@ use Rattle.addr_layout.specs.Choices.{addrTrial, layoutOf}
 use Rattle.addr_layout.specs.declared.layout.AddrOutcome.the-variants.{LaidOut}
 use Rattle.addr_layout.specs.declared.layout.AddrAnswer.{AddrAnswer}
 
--- "At most 16 two-candidate pins among those a search lists"
+-- 01 Domain 8: of the pins that this search lists, no more than 16 have two candidates
 abbrev pub inDomain : Description → Bool
 inDomain d = descriptionIn d && leb (twos (addrListed d)) 16
 
--- the best of all choices
+-- 00 Demand 2: what is found is the best of all choices
 unfoldable pub addrBest : Description → Found
 addrBest d = best (addrTrial d) (2 ^ twos (addrListed d))
 
--- 9: "see both searches"
+-- 01 Number 9: no choice fits
 abbrev pub answerOf : Description → Found → AddrAnswer
 answerOf d Nothing = refusedFor NoValidLayout
 answerOf d (At c s) = record { outcome = LaidOut; layout = layoutOf d (addrListed d) c }
 
--- "the first fault answers"
+-- 01 addr_layout 6: if listed pins are at fault, the first such pin decides the answer, and no choice is tried
 abbrev pub afterFaults : Description → FirstFault → AddrAnswer
 afterFaults d (Of r) = refusedFor r
 afterFaults d None = answerOf d (addrBest d)
 
+-- 01 Number 1: the description is outside the domain
+-- 01 Numbers 2: the domain is tested before any pin is looked at
 abbrev pub addrAnswer : Description → AddrAnswer
+-- 01 Number 1: the description is outside the domain
+-- 01 Numbers 2: the domain is tested before any pin is looked at
 addrAnswer d = cond (inDomain d) (afterFaults d (firstFault (addrListed d))) (refusedFor OutOfDomain)

@@ -3,10 +3,9 @@
 use crate::layout::AddrAnswer;
 use crate::layout::AddrLayout;
 use crate::layout::AddrOutcome;
-use crate::layout::XGpio;
 use crate::lines::num_lines;
-use gpio::array::one_if;
 use gpio::candidates::Candidates;
+use gpio::line::LineGpio;
 use gpio::span::Span;
 use gpio::window::Window;
 use listing::Listing;
@@ -17,6 +16,7 @@ use listing::choice::resolve;
 use listing::lines::commoned_kind;
 use listing::lines::kind_pin;
 use listing::lines::pin_candidates;
+use lists::array::one_if;
 use search::Found;
 use search::Trial;
 use search::better;
@@ -27,7 +27,7 @@ ghost use mathlib.Core.Bool.{true, cond};
 ghost use Prim.Native.Nat.{_+_, _^_, _≤_};
 ghost use lib.Dec.{ltb};
 ghost use lib.ListN.{getD, take};
-ghost use Rattle.gpio.specs.Tab.{tab};
+ghost use Rattle.lists.specs.Tab.{tab};
 ghost use Rattle.gpio.specs.Span.{widened, joined};
 ghost use Rattle.listing.specs.Listing.{listOf};
 ghost use Rattle.search.specs.Search.{best, bestOnward};
@@ -262,10 +262,14 @@ fn line_gpios(all: [u8; 30], lines: usize) -> [u8; 24]
     out
 }
 
-fn x_gpio(used: bool, g: u8) -> XGpio
+fn x_gpio(used: bool, g: u8) -> LineGpio
     ensures { λ r. ⌜ r ≡ xGpio used g ⌝ }
 {
-    if used { XGpio::At(g) } else { XGpio::Unused }
+    if used {
+        LineGpio::At(g)
+    } else {
+        LineGpio::Unused
+    }
 }
 
 // The layout of resolved pins: the lines' GPIOs, then those of X1 and X2 where they pick a bank or a chip.

@@ -1,26 +1,20 @@
 // The address layout: the address PIO reads `num_addr_pins` GPIOs from `gpio_base`, and that number indexes the table.
-use domain::lists::all_between;
-use slot::refusal::Refusal;
+use gpio::line::LineGpio;
+use lists::array::all_between;
+use refusal::Refusal;
 ghost use mathlib.Core.Path.{_≡_};
 ghost use mathlib.Core.Bool.{_&&_};
 ghost use lib.Dec.{leb};
 ghost use lib.ListN.{getD};
-ghost use Rattle.gpio.specs.Each.{each};
-ghost use Rattle.domain.specs.Domain.{between};
-ghost use Rattle.addr_layout.specs.Layout.{noLayout, refusedFor, xIn, allLines, layoutIn};
-
-// The GPIO of an X pin that picks a bank or a chip.
-pub enum XGpio {
-    Unused,
-    At(u8),
-}
+ghost use Rattle.lists.specs.Each.{each, between};
+ghost use Rattle.addr_layout.specs.Layout.{noLayout, refusedFor, allLines, layoutIn};
 
 // Which GPIOs the address PIO reads, and which line each serves.
 pub struct AddrLayout {
     pub gpio_base: u8,
     pub num_addr_pins: u8,
-    pub x1_gpio: XGpio,
-    pub x2_gpio: XGpio,
+    pub x1_gpio: LineGpio,
+    pub x2_gpio: LineGpio,
     // GPIOs of the lines in use, then of the excess lines; 0 past them.
     pub gpios: [u8; 24],
     // Lines in use: their GPIOs are bits of the table's index.
@@ -48,8 +42,8 @@ pub fn no_layout() -> AddrLayout
     AddrLayout {
         gpio_base: 0,
         num_addr_pins: 0,
-        x1_gpio: XGpio::Unused,
-        x2_gpio: XGpio::Unused,
+        x1_gpio: LineGpio::Unused,
+        x2_gpio: LineGpio::Unused,
         gpios: [0u8; 24],
         num_lines: 0,
         num_excess: 0,
@@ -63,15 +57,6 @@ pub fn refused(why: Refusal) -> AddrAnswer
     AddrAnswer {
         outcome: AddrOutcome::Refused(why),
         layout: no_layout(),
-    }
-}
-
-fn x_in(x: XGpio) -> bool
-    ensures { λ r. ⌜ r ≡ xIn x ⌝ }
-{
-    match x {
-        XGpio::Unused => true,
-        XGpio::At(g) => g <= 47,
     }
 }
 
@@ -92,5 +77,5 @@ pub fn layout_in(l: AddrLayout) -> bool
 {
     let x1 = l.x1_gpio;
     let x2 = l.x2_gpio;
-    (l.gpio_base <= 47) & (l.num_addr_pins <= 48) & (x_in(x1) & x_in(x2)) & lines_in(l)
+    (l.gpio_base <= 47) & (l.num_addr_pins <= 48) & (x1.in_domain() & x2.in_domain()) & lines_in(l)
 }

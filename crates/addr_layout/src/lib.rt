@@ -7,10 +7,10 @@ pub mod choices; // the score of a choice, and the best
 use domain::description::description_in;
 use layout::AddrAnswer;
 use layout::refused;
-use listing::FirstFault;
+use refusal::Refusal;
+use refusal::first::FirstFault;
 use search::Found;
 use slot::description::Description;
-use slot::refusal::Refusal;
 ghost use mathlib.Core.Path.{_≡_};
 ghost use Rattle.addr_layout.specs.Search.{addrAnswer};
 

@@ -1,16 +1,16 @@
 // The pins that the address search lists: chip 0's address lines in order, those past the table's reach too, then X1 and
 // X2 where they pick a bank or a chip. An address line that overhangs the socket is fly-leaded to an X pin.
-use gpio::array::entry;
 use gpio::candidates::Candidates;
 use listing::Listed;
 use listing::Listing;
+use lists::array::entry;
+use refusal::Refusal;
 use slot::description::Board;
 use slot::description::Description;
-use slot::refusal::Refusal;
 use slot::slot_context::Socket;
 ghost use mathlib.Core.Path.{_≡_};
 ghost use Prim.Native.Nat.{_≤_};
-ghost use Rattle.gpio.specs.Tab.{tab};
+ghost use Rattle.lists.specs.Tab.{tab};
 ghost use Rattle.listing.specs.Listing.{listOf, count};
 ghost use Rattle.addr_layout.specs.Lines.{firstPin, lines, lineSocket, isOff, offBefore, flyLead, overhanging, lineListed, addrListed};
 

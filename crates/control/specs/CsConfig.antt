@@ -9,7 +9,7 @@ use Rattle.slot.specs.declared.description.Setting.the-variants.{NotGiven, Give
 use Rattle.slot.specs.declared.description.CsConfig.{CsConfig}
 use Rattle.slot.specs.declared.description.CsConfig.the-variants.{ChipSelect, CeOe, CeOeExplicit}
 
--- "Absent cs2, cs3 and cs4 count as active low, as does any line whose setting is not given."
+-- 01 multi_cs_config 4: a setting that was not given reads as active low
 abbrev pub givenOr : Setting → CsLogic
 givenOr NotGiven = ActiveLow
 givenOr (Given logic) = logic
@@ -19,7 +19,8 @@ isIgnore ActiveLow = false
 isIgnore ActiveHigh = false
 isIgnore Ignore = true
 
--- by kind: 2 to 5 are cs1 to cs4
+-- 01 Shape 5: kinds 2 to 5 are cs1 to cs4
+-- 01 multi_cs_config 4: cs2, cs3 and cs4 read as active low if they have no setting, and so do lines of other kinds
 unfoldable pub chipSelectLogic : CsLogic → Setting → Setting → Setting → ℕ → CsLogic
 chipSelectLogic cs1 cs2 cs3 cs4 kind =
     cond (eqb kind 2) cs1
@@ -27,7 +28,9 @@ chipSelectLogic cs1 cs2 cs3 cs4 kind =
     (cond (eqb kind 4) (givenOr cs3)
     (cond (eqb kind 5) (givenOr cs4) ActiveLow)))
 
--- "With explicit ce and oe, cs1 reads ce, or oe if ce is ignored, and cs2 reads the other."
+-- 01 Shape 5: kinds 0 and 1 are ce and oe, 2 and 3 are cs1 and cs2
+-- 01 multi_cs_config 4: with explicit ce and oe, a line of any other kind reads as active low
+-- 01 multi_cs_config 5: cs1 has the setting of ce and cs2 that of oe; it is the other way round where ce is ignored
 unfoldable pub explicitLogic : CsLogic → CsLogic → ℕ → CsLogic
 explicitLogic ce oe kind =
     cond (eqb kind 0) ce
@@ -36,6 +39,7 @@ explicitLogic ce oe kind =
     (cond (eqb kind 3) (cond (isIgnore ce) ce oe) ActiveLow)))
 
 -- the line of a kind under a chip's settings
+-- 01 multi_cs_config 4: ce and oe that are not explicit give no setting, so that every line reads as active low
 abbrev pub logicOf : CsConfig → ℕ → CsLogic
 logicOf (ChipSelect cs1 cs2 cs3 cs4) kind = chipSelectLogic cs1 cs2 cs3 cs4 kind
 logicOf CeOe kind = ActiveLow

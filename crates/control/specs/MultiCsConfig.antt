@@ -3,13 +3,13 @@ use Prim.Native.Nat.{ℕ, zero, suc, _+_}
 use mathlib.Core.Bool.{Bool, true, false, _||_, not, cond}
 use lib.Dec.{leb, eqb}
 use lib.ListN.{set, replicate}
-use Rattle.gpio.specs.Each.{tally}
+use Rattle.lists.specs.Each.{tally}
 use Rattle.slot.specs.Description.{kindAt}
 use Rattle.slot.specs.declared.description.ControlLines.{ControlLines}
 use Rattle.slot.specs.declared.description.CsConfig.{CsConfig}
 use Rattle.slot.specs.declared.description.MultiCsConfig.{MultiCsConfig}
-use Rattle.slot.specs.declared.refusal.Refusal.{Refusal}
-use Rattle.slot.specs.declared.refusal.Refusal.the-variants.{OutOfDomain, NoActiveLine}
+use Rattle.refusal.specs.declared.Refusal.{Refusal}
+use Rattle.refusal.specs.declared.Refusal.the-variants.{OutOfDomain, NoActiveLine}
 use Rattle.domain.specs.Domain.{controlIn}
 use Rattle.control.specs.CsConfig.{ignores}
 use Rattle.control.specs.declared.multi_cs_config.Part.{Part}
@@ -18,26 +18,32 @@ use Rattle.control.specs.declared.multi_cs_config.Sorted.{Sorted}
 use Rattle.control.specs.declared.multi_cs_config.MultiOutcome.the-variants.{Derived, Refused}
 use Rattle.control.specs.declared.multi_cs_config.MultiAnswer.{MultiAnswer}
 
+-- 01 Shape 5: a line has a name if its kind is at most 5
 abbrev pub named : ℕ → Bool
+-- 01 Shape 5: a line has a name if its kind is at most 5
 named kind = leb kind 5
 
--- how many lines are left when "Other lines are dropped."
+-- 01 multi_cs_config 1: how many lines are left once those without a name are gone
 abbrev pub namedCount : ControlLines → ℕ
 namedCount lines = tally (lines .count) (λ k. named (kindAt lines k))
 
--- "One named line left: it is the select, whatever its setting. Otherwise a line not ignored by the secondary is the
--- select, ..; a line ignored by both goes to ignored; the rest to commoned."
+-- 01 multi_cs_config 1: a line without a name has no part
+-- 01 multi_cs_config 2: the only line with a name is the select, and its setting is not looked at
+-- 01 multi_cs_config 3: where several have a name, a line is the select unless the secondary ignores it; if it does, the line is
+-- ignored where chip 0 ignores it too, and commoned where not
 abbrev pub partOf : Bool → CsConfig → CsConfig → ℕ → Part
 partOf single chip0 secondary kind =
     cond (named kind)
     (cond (single || not (ignores secondary kind)) Select (cond (ignores chip0 kind) Ignored Commoned))
     Dropped
 
--- a line joins the lines of its part: ".. the last winning, earlier ones going to no list"
+-- a line joins the lines of its part
+-- 01 multi_cs_config 3: a new select takes the place of the one before it, which joins no list
 abbrev pub placed : Part → ℕ → Sorted → Sorted
 placed Dropped kind s = s
 placed Select kind s = record {
   config = record {
+    -- 01 Well wired 12: in Multi the select is at the GPIO of the first select line
     select = kind;
     commoned = s .config .commoned;
     «num_commoned» = s .config .«num_commoned»;
@@ -48,6 +54,7 @@ placed Select kind s = record {
 }
 placed Commoned kind s = record {
   config = record {
+    -- 01 Well wired 12: in Multi the select is at the GPIO of the first select line
     select = s .config .select;
     commoned = set (s .config .commoned) (s .config .«num_commoned») kind;
     «num_commoned» = s .config .«num_commoned» + 1;
@@ -58,6 +65,7 @@ placed Commoned kind s = record {
 }
 placed Ignored kind s = record {
   config = record {
+    -- 01 Well wired 12: in Multi the select is at the GPIO of the first select line
     select = s .config .select;
     commoned = s .config .commoned;
     «num_commoned» = s .config .«num_commoned»;
@@ -69,6 +77,7 @@ placed Ignored kind s = record {
 
 abbrev pub nothing : MultiCsConfig
 nothing = record {
+  -- 01 Well wired 12: in Multi the select is at the GPIO of the first select line
   select = 0;
   commoned = replicate 8 0;
   «num_commoned» = 0;
@@ -85,10 +94,14 @@ sorted lines chip0 secondary (suc k) =
 abbrev pub refusedFor : Refusal → MultiAnswer
 refusedFor why = record { outcome = Refused why; config = nothing }
 
--- 25: "multi-chip select finds no active line"
+-- 01 Number 25: no line became the select
 abbrev pub answerOf : Sorted → MultiAnswer
 answerOf s = cond (s .found) (record { outcome = Derived; config = s .config }) (refusedFor NoActiveLine)
 
+-- 01 Number 1: the control lines are outside the domain
+-- 01 Numbers 2: the domain is tested before any line is sorted
 abbrev pub multiAnswer : ControlLines → CsConfig → CsConfig → MultiAnswer
+-- 01 Number 1: the control lines are outside the domain
+-- 01 Numbers 2: the domain is tested before any line is sorted
 multiAnswer lines chip0 secondary =
     cond (controlIn lines) (answerOf (sorted lines chip0 secondary (lines .count))) (refusedFor OutOfDomain)

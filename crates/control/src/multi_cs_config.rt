@@ -3,10 +3,10 @@
 use crate::cs_config::line_ignored;
 use domain::chip::control_in;
 use domain::chip::kind_at;
+use refusal::Refusal;
 use slot::description::ControlLines;
 use slot::description::CsConfig;
 use slot::description::MultiCsConfig;
-use slot::refusal::Refusal;
 ghost use mathlib.Core.Path.{_≡_};
 ghost use mathlib.Core.Bool.{cond};
 ghost use Prim.Native.Nat.{_≤_, _<_};

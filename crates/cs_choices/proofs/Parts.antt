@@ -10,7 +10,7 @@ use lib.Dec.{leb, ltb}
 use lib.ListN.{length}
 use borrow.Author.Tests.{le-leb, lt-leb, le-ltb, ltb-true, ltb-false}
 use Rattle.gpio.specs.Set.{with, setOf}
-use Rattle.gpio.proofs.Bools.{and-true}
+use Rattle.lists.proofs.Bools.{and-true}
 use Rattle.gpio.proofs.Sets.{union-turn, set-cong}
 use Rattle.listing.specs.Choice.{gpioAt, bitOf}
 use Rattle.listing.specs.declared.Listed.{Listed}

@@ -5,9 +5,9 @@ use mathlib.Core.List.{List}
 use Prim.Native.Nat.{ℕ, _+_, _*_, _%_, _^_, _≤_, _<_, _-_}
 use native.Mathlib.Omega.{arith}
 use lib.ListN.{length, getD, take, length-take}
-use Rattle.gpio.specs.Tab.{tab}
-use Rattle.gpio.proofs.Shifts.{shifted-one}
-use Rattle.gpio.proofs.Tab.{getD-begins}
+use Rattle.lists.specs.Tab.{tab}
+use Rattle.lists.proofs.Shifts.{shifted-one}
+use Rattle.lists.proofs.Tab.{getD-begins}
 use Rattle.listing.specs.Choice.{GpiosIn}
 use Rattle.listing.specs.Listing.{listOf}
 use Rattle.listing.specs.declared.Listing.{Listing}

@@ -8,11 +8,11 @@ use lib.Count.{ones, leadingZeros, trailingZeros}
 use lib.Dec.{eqb}
 use borrow.Author.Tests.{eqb-true}
 use Rattle.gpio.specs.Set.{lowest, gapless}
-use Rattle.slot.specs.declared.refusal.Refusal.{Refusal}
-use Rattle.slot.specs.declared.refusal.Refusal.the-variants.{NonContiguousSelect, InteriorIgnoredLine}
-use Rattle.listing.specs.Listing.{orElse}
-use Rattle.listing.specs.declared.FirstFault.{FirstFault}
-use Rattle.listing.specs.declared.FirstFault.the-variants.{None, Of}
+use Rattle.refusal.specs.declared.Refusal.{Refusal}
+use Rattle.refusal.specs.declared.Refusal.the-variants.{NonContiguousSelect, InteriorIgnoredLine}
+use Rattle.refusal.specs.First.{orElse}
+use Rattle.refusal.specs.declared.first.FirstFault.{FirstFault}
+use Rattle.refusal.specs.declared.first.FirstFault.the-variants.{None, Of}
 use Rattle.listing.specs.declared.Listed.{Listed}
 use Rattle.cs_choices.specs.Sets.{verdictOn}
 use Rattle.cs_choices.specs.Verdict.{selectable, allOf, inWindow, scoreOf, verdictOf}

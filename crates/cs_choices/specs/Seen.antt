@@ -5,9 +5,9 @@ use mathlib.Core.Bool.{cond}
 use lib.Bits.{bitAnd}
 use lib.Dec.{eqb}
 use Rattle.gpio.specs.Set.{gap}
-use Rattle.slot.specs.declared.refusal.Refusal.the-variants.{NonContiguousSelect}
-use Rattle.listing.specs.declared.FirstFault.{FirstFault}
-use Rattle.listing.specs.declared.FirstFault.the-variants.{None, Of}
+use Rattle.refusal.specs.declared.Refusal.the-variants.{NonContiguousSelect}
+use Rattle.refusal.specs.declared.first.FirstFault.{FirstFault}
+use Rattle.refusal.specs.declared.first.FirstFault.the-variants.{None, Of}
 use Rattle.cs_choices.specs.declared.nothing.Seen.{Seen}
 use Rattle.cs_choices.specs.declared.verdict.Verdict.{Verdict}
 use Rattle.cs_choices.specs.declared.verdict.Verdict.the-variants.{DataGap, SelectGap, OutsideWindow, Fits}

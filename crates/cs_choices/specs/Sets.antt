@@ -10,11 +10,11 @@ use Rattle.cs_choices.specs.Verdict.{verdictOf}
 use Rattle.cs_choices.specs.declared.choices.Fixed.{Fixed}
 use Rattle.cs_choices.specs.declared.verdict.Verdict.{Verdict}
 
--- the data GPIOs: of n data pins, the first that are numbered
+-- 01 cs_data_layout 5: the data GPIOs are those of the first n numbered pins, n being the number of data pins
 abbrev pub dataSet : List Listed → ℕ → ℕ → ℕ
 dataSet ls n c = setOf n (λ k. gpioAt ls c k)
 
--- "select, excess and commoned GPIOs": of the pins behind the data pins, and of the excess lines
+-- 01 cs_data_layout 3: the pins behind the data pins, select and commoned, make one set with the excess lines
 abbrev pub selectSet : List Listed → ℕ → ℕ → ℕ → ℕ
 selectSet ls n excess c = bitOr (setOf (length ls - n) (λ k. gpioAt ls c (n + k))) excess
 

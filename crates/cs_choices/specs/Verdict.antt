@@ -11,31 +11,34 @@ use Rattle.search.specs.declared.Trial.the-variants.{Misfit, Score}
 use Rattle.cs_choices.specs.declared.verdict.Verdict.{Verdict}
 use Rattle.cs_choices.specs.declared.verdict.Verdict.the-variants.{DataGap, SelectGap, OutsideWindow, Fits}
 
--- "likewise, or in Single and Banked with one missing"
+-- 01 cs_data_layout 3: the select GPIOs have no gap or, in any set but Multi, lack a single GPIO
 abbrev pub selectable : Bool → ℕ → Bool
 selectable multi selectGpios = gapless selectGpios || (not multi && eqb (width selectGpios) (size selectGpios + 1))
 
--- "all, qualifiers included"
+-- 01 cs_data_layout 3: what the window has to hold: data, select and qualifier GPIOs
 abbrev pub allOf : ℕ → ℕ → ℕ → ℕ
 allOf dataGpios selectGpios qualifiers = bitOr (bitOr dataGpios selectGpios) qualifiers
 
--- "base 0 if the lowest is under 16, else 16"
+-- 01 cs_data_layout 3: the base depends on the lowest GPIO that the window has to hold: 0 if it is below 16, and 16 if not
 abbrev pub baseOf : ℕ → ℕ
 baseOf all = baseOver (lowest all)
 
--- "in one window"
+-- 01 cs_data_layout 3: the window from the base on reaches the highest GPIO that it has to hold
 abbrev pub inWindow : ℕ → Bool
 inWindow all = fits (baseOf all) (end all - baseOf all)
 
--- the preference that a choice comes to: with qualifiers or not, and with an ignore index or not
+-- 01 alg_preference 1: a choice is with qualifiers if there is a qualifier GPIO, and with an ignore index if its select GPIOs
+-- have a gap
 abbrev pub preferenceBy : ℕ → ℕ → ℕ
 preferenceBy selectGpios qualifiers = preferenceOf (not (eqb qualifiers 0)) (not (gapless selectGpios))
 
--- "Score: preference, then total span.": a span is below 1000, so that the preference decides
+-- 01 cs_data_layout 4: 1000 for each step of preference, and the span of all GPIOs: a span is below 1000, so that the preference
+-- decides
 abbrev pub scoreOf : ℕ → ℕ → ℕ → ℕ
 scoreOf selectGpios qualifiers all = preferenceBy selectGpios qualifiers * 1000 + width all
 
--- "A choice needs data GPIOs without a gap; select, excess and commoned GPIOs likewise ..; and all .. in one window"
+-- 01 cs_data_layout 3: a choice fits if there is no gap in its data GPIOs, none in its select GPIOs but the one that is allowed,
+-- and one window for all; they are tested in this order
 unfoldable pub verdictOf : Bool → ℕ → ℕ → ℕ → Verdict
 verdictOf multi qualifiers dataGpios selectGpios =
     cond (gapless dataGpios)

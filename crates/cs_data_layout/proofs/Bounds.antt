@@ -7,14 +7,15 @@ use lib.Dec.{leb, ltb}
 use lib.ListN.{getD}
 use borrow.Author.Tests.{leb-true, ltb-true}
 use Rattle.gpio.specs.Candidates.{gpioIn}
-use Rattle.gpio.specs.Each.{each}
-use Rattle.gpio.proofs.Bools.{and-left, and-right}
-use Rattle.gpio.proofs.Each.{each-at}
+use Rattle.lists.specs.Each.{each, between}
+use Rattle.lists.proofs.Bools.{and-left, and-right}
+use Rattle.lists.proofs.Each.{each-at}
 use Rattle.slot.specs.declared.description.Description.{Description}
-use Rattle.domain.specs.Domain.{between, descriptionIn, qualifierGpio, qualifierIn, qualifiersIn}
+use Rattle.domain.specs.Domain.{descriptionIn, qualifierGpio, qualifierIn, qualifiersIn}
 use Rattle.domain.proofs.Bounds.{between-is}
 use Rattle.listing.specs.Listing.{twos}
-use Rattle.addr_layout.specs.Layout.{xIn, allLines, layoutIn}
+use Rattle.gpio.specs.Line.{lineGpioIn}
+use Rattle.addr_layout.specs.Layout.{allLines, layoutIn}
 use Rattle.addr_layout.specs.declared.layout.AddrLayout.{AddrLayout}
 use Rattle.cs_pins.specs.Pins.{numbered, inDomain}
 use Rattle.cs_data_layout.specs.Choices.{excessGpio}
@@ -33,7 +34,7 @@ module _ (h : AddrLayout) (e : layoutIn h ≡ true) where
   lines-in : leb (allLines h) 24 && each (allLines h) (λ k. between 0 47 (getD (h .gpios) k 0)) ≡ true
   unfolding layoutIn
   lines-in =
-      and-right (gpioIn (h .«gpio_base») && leb (h .«num_addr_pins») 48 && (xIn (h .«x1_gpio») && xIn (h .«x2_gpio»)))
+      and-right (gpioIn (h .«gpio_base») && leb (h .«num_addr_pins») 48 && (lineGpioIn (h .«x1_gpio») && lineGpioIn (h .«x2_gpio»)))
       (leb (allLines h) 24 && each (allLines h) (λ k. between 0 47 (getD (h .gpios) k 0))) e
 
   pub few-lines : allLines h ≤ 24

@@ -12,11 +12,11 @@ use lib.ListN.{length, getD}
 use lib.Pow.{pow-mono}
 use borrow.Author.Tests.{ltb-true, ltb-false, lt-ltb}
 use Rattle.gpio.specs.Set.{setOf, lowest, end, gapless}
-use Rattle.gpio.proofs.Bools.{and-left, and-right}
+use Rattle.lists.proofs.Bools.{and-left, and-right}
 use Rattle.gpio.proofs.Fits.{fits-width}
 use Rattle.gpio.proofs.Members.{held, held-left, held-right, set-held, held-low, held-high, lowest-or, lowest-of, member-low, gapless-below}
 use Rattle.gpio.proofs.Sets.{set-within}
-use Rattle.gpio.proofs.Tab.{tab-length, getD-tab}
+use Rattle.lists.proofs.Tab.{tab-length, getD-tab}
 use Rattle.slot.specs.Description.{isMulti, chip0}
 use Rattle.slot.specs.declared.description.Description.{Description}
 use Rattle.domain.specs.Domain.{descriptionIn, qualifierGpio}

@@ -6,11 +6,11 @@ use Rattle.gpio.specs.Set.{lowest}
 use Rattle.gpio.specs.declared.set.GpioSet.{GpioSet}
 use Rattle.slot.specs.Description.{isMulti}
 use Rattle.slot.specs.declared.description.Description.{Description}
-use Rattle.slot.specs.declared.refusal.Refusal.{Refusal}
-use Rattle.slot.specs.declared.refusal.Refusal.the-variants.{NonContiguousSelect, InteriorIgnoredLine, NoValidLayout}
-use Rattle.listing.specs.Listing.{orElse}
-use Rattle.listing.specs.declared.FirstFault.{FirstFault}
-use Rattle.listing.specs.declared.FirstFault.the-variants.{None, Of}
+use Rattle.refusal.specs.declared.Refusal.{Refusal}
+use Rattle.refusal.specs.declared.Refusal.the-variants.{NonContiguousSelect, InteriorIgnoredLine, NoValidLayout}
+use Rattle.refusal.specs.First.{orElse}
+use Rattle.refusal.specs.declared.first.FirstFault.{FirstFault}
+use Rattle.refusal.specs.declared.first.FirstFault.the-variants.{None, Of}
 use Rattle.search.specs.Search.{best}
 use Rattle.search.specs.Law.{Right}
 use Rattle.search.specs.declared.Trial.{Trial}

@@ -7,19 +7,19 @@ use native.Mathlib.Omega.{arith}
 use lib.Dec.{ltb}
 use lib.ListN.{length, length-append}
 use borrow.Author.Tests.{ltb-false}
-use Rattle.gpio.specs.Each.{each}
-use Rattle.gpio.proofs.Bools.{and-left, and-right, asked}
-use Rattle.gpio.proofs.Tab.{tab-length}
+use Rattle.lists.specs.Each.{each}
+use Rattle.lists.proofs.Bools.{and-left, and-right, asked}
+use Rattle.lists.proofs.Tab.{tab-length}
 use Rattle.slot.specs.Description.{isMulti}
 use Rattle.slot.specs.declared.description.Description.{Description}
-use Rattle.slot.specs.declared.refusal.Refusal.{Refusal}
-use Rattle.slot.specs.declared.refusal.Refusal.the-variants.{MissingAddrPinGpios}
+use Rattle.refusal.specs.declared.Refusal.{Refusal}
+use Rattle.refusal.specs.declared.Refusal.the-variants.{MissingAddrPinGpios}
 use Rattle.domain.specs.Domain.{qualifiersIn}
 use Rattle.listing.specs.Listing.{twos}
 use Rattle.listing.specs.declared.Listed.{Listed}
-use Rattle.listing.specs.declared.FirstFault.{FirstFault}
-use Rattle.listing.specs.declared.FirstFault.the-variants.{None, Of}
-use Rattle.listing.proofs.Faults.{or-none}
+use Rattle.refusal.specs.declared.first.FirstFault.{FirstFault}
+use Rattle.refusal.specs.declared.first.FirstFault.the-variants.{None, Of}
+use Rattle.refusal.proofs.Firsts.{or-none}
 use Rattle.search.specs.Search.{best}
 use Rattle.search.specs.declared.Found.{Found}
 use Rattle.addr_layout.specs.Layout.{noLayout, layoutIn}

@@ -10,9 +10,10 @@ use Rattle.slot.specs.declared.description.Description.{Description}
 use Rattle.listing.specs.Listing.{xPins, faultFrom, firstFault}
 use Rattle.listing.specs.Choice.{CandidateOf, pinAt, gpioAt}
 use Rattle.listing.specs.declared.Listed.{Listed}
-use Rattle.listing.specs.declared.FirstFault.the-variants.{None}
+use Rattle.refusal.specs.declared.first.FirstFault.the-variants.{None}
 use Rattle.listing.proofs.Candidate.{candidate-at}
-use Rattle.listing.proofs.Faults.{no-fault-at, or-none, append-none, none-append}
+use Rattle.listing.proofs.Faults.{no-fault-at, append-none, none-append}
+use Rattle.refusal.proofs.Firsts.{or-none}
 use Rattle.cs_pins.specs.Pins.{dataListed, activeListed, kindListed, selectListed, multiCommoned, commonedListed, numbered}
 use Rattle.cs_pins.specs.Checked.{orNoActive, ignoredListed, multiChecked, checked}
 use Rattle.cs_choices.specs.Sets.{dataSet}

@@ -8,10 +8,10 @@ use lib.Dec.{eqb}
 use borrow.Author.Count.{below-more}
 use borrow.Author.Tests.{eqb-true, eqb-false}
 use Rattle.gpio.specs.Set.{lowest, gap}
-use Rattle.slot.specs.declared.refusal.Refusal.the-variants.{NonContiguousSelect, InteriorIgnoredLine}
-use Rattle.listing.specs.Listing.{orElse}
-use Rattle.listing.specs.declared.FirstFault.{FirstFault}
-use Rattle.listing.specs.declared.FirstFault.the-variants.{None, Of}
+use Rattle.refusal.specs.declared.Refusal.the-variants.{NonContiguousSelect, InteriorIgnoredLine}
+use Rattle.refusal.specs.First.{orElse}
+use Rattle.refusal.specs.declared.first.FirstFault.{FirstFault}
+use Rattle.refusal.specs.declared.first.FirstFault.the-variants.{None, Of}
 use Rattle.cs_choices.specs.Nothing.{interiorOf, interior, refusedOf, lastRefused}
 use Rattle.cs_choices.specs.declared.verdict.Verdict.{Verdict}
 use Rattle.cs_choices.specs.declared.verdict.Verdict.the-variants.{DataGap, SelectGap, OutsideWindow, Fits}

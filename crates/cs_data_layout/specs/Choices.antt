@@ -5,7 +5,7 @@ use mathlib.Core.List.{List}
 use lib.Dec.{ltb, eqb}
 use lib.ListN.{length, getD}
 use Rattle.gpio.specs.Set.{with, setOf, lowest, width, gapless, gap}
-use Rattle.gpio.specs.Tab.{tab}
+use Rattle.lists.specs.Tab.{tab}
 use Rattle.gpio.specs.declared.candidates.Candidates.{Candidates}
 use Rattle.gpio.specs.declared.candidates.Candidates.the-variants.{Absent, One, Two}
 use Rattle.slot.specs.Description.{isMulti, chip0}
@@ -27,7 +27,9 @@ use Rattle.cs_data_layout.specs.declared.layout.Qualifiers.{Qualifiers}
 use Rattle.cs_data_layout.specs.declared.layout.CsDataLayout.{CsDataLayout}
 use Rattle.cs_choices.specs.declared.verdict.Verdict.{Verdict}
 
+-- 01 cs_data_layout 6: there are as many data lines as chip 0 has data pins
 abbrev pub numData : Description → ℕ
+-- 01 cs_data_layout 6: there are as many data lines as chip 0 has data pins
 numData d = chip0 d .«num_data_pins»
 
 -- the excess lines of the layout handed in, behind its lines in use
@@ -53,11 +55,13 @@ fixedOf d h = record {
 abbrev pub csVerdict : Description → AddrLayout → ℕ → Verdict
 csVerdict d h c = verdictOn (numbered d) (fixedOf d h) c
 
--- "its place being the ignore index", counted from the lowest select
+-- 01 cs_data_layout 3: the ignore index is the missing GPIO, counted from the lowest select; there is none without a gap
 abbrev pub ignoreIndex : ℕ → IgnoreIndex
 ignoreIndex selectGpios = cond (gapless selectGpios) None (At (lowest (gap selectGpios) - lowest selectGpios))
 
--- "The qualifier pattern has a bit per qualifier GPIO, counted from the lowest." It has 8 bits, and the GPIOs span at most 8
+-- 01 cs_data_layout 6: the base pin of the qualifiers is their lowest GPIO counted from the base, and their count is their span
+-- 01 cs_data_layout 7: each qualifier GPIO sets a bit of the pattern, the lowest of them bit 0; 8 bits will do, as they span at
+-- most 8
 abbrev pub qualifiersFrom : ℕ → ℕ → Qualifiers
 qualifiersFrom qualifiers base =
     cond (eqb qualifiers 0) noQualifiers (record {
@@ -67,7 +71,7 @@ qualifiersFrom qualifiers base =
       «qualifier_inactive_pattern» = qualifiers / 2 ^ lowest qualifiers % 0x100;
     })
 
--- "select lines come in that order with excess lines last": n of them with their roles, then the excess ones as half selects
+-- 01 cs_data_layout 6: the select lines are those of the select pins with their roles, then the excess ones as half selects
 abbrev pub selectLine : List ℕ → AddrLayout → (ℕ → ℕ) → ℕ → SelectLine
 selectLine roles h gpio k =
     cond (ltb k (length roles)) (line (getD roles k 0) (gpio k))
@@ -80,8 +84,9 @@ numCommoned d = cond (isMulti (d .«set_type»)) (d .multi .«num_commoned») 0
 abbrev pub commonedLine : Description → (ℕ → ℕ) → ℕ → SelectLine
 commonedLine d gpio k = cond (ltb k (numCommoned d)) (line (getD (d .multi .commoned) k 0) (gpio k)) (line 0 0)
 
--- "The layout has the fields of `CsDataLayout`: base pins are the lowest GPIO of their kind less the base, the select and
--- qualifier counts are spans, the data count is the chip's data pins", the numbered pins resolved to GPIOs
+-- the layout of numbered pins resolved to GPIOs
+-- 01 cs_data_layout 6: the base pins of data and select are their lowest GPIOs counted from the base, the select count is the span
+-- of the select GPIOs, and there are as many data lines as the chip has data pins
 abbrev pub layoutFrom : Description → AddrLayout → (ℕ → ℕ) → ℕ → ℕ → ℕ → CsDataLayout
 layoutFrom d h gpio dataGpios selectGpios base = record {
   «gpio_base» = base;
@@ -98,21 +103,26 @@ layoutFrom d h gpio dataGpios selectGpios base = record {
   qualifiers = qualifiersFrom (qualifierSet d h) base;
 }
 
+-- 01 cs_data_layout 3: the layout that choice c makes has the base of the window that holds all its GPIOs
 abbrev pub layoutOf : Description → AddrLayout → List Listed → ℕ → CsDataLayout
+-- 01 cs_data_layout 3: the layout that choice c makes has the base of the window that holds all its GPIOs
 layoutOf d h ls c =
     layoutFrom d h (λ k. gpioAt ls c k) (dataSet ls (numData d) c) (selectSet ls (numData d) (excessSet h) c)
     (baseOf (allOf (dataSet ls (numData d) c) (selectSet ls (numData d) (excessSet h) c) (qualifierSet d h)))
 
--- "An ignored GPIO is any candidate of an ignored line."
+-- 01 cs_data_layout 8: of an ignored line both candidates count, where it has two
 abbrev pub withCandidates : ℕ → Candidates → ℕ
 withCandidates s Absent = s
 withCandidates s (One g) = with s g
 withCandidates s (Two g h) = with (with s g) h
 
+-- 01 cs_data_layout 8: the candidates of the first k ignored lines
 unfoldable pub ignoredAt : Description → ℕ → ℕ
+-- 01 cs_data_layout 8: the candidates of the first k ignored lines
 ignoredAt d zero = 0
+-- 01 cs_data_layout 8: the candidates of the first k ignored lines
 ignoredAt d (suc k) = withCandidates (ignoredAt d k) (kindListed d (getD (d .multi .ignored) k 0) .gpios)
 
--- the ignored lines of a Multi set
+-- 01 cs_data_layout 8: the ignored lines are those of a Multi set; other sets have none
 abbrev pub ignoredSet : Description → ℕ
 ignoredSet d = cond (isMulti (d .«set_type»)) (ignoredAt d (d .multi .«num_ignored»)) 0

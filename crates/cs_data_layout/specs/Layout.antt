@@ -2,7 +2,7 @@
 use mathlib.Core.Bool.{false, cond}
 use Prim.Native.Nat.{ℕ}
 use lib.ListN.{replicate}
-use Rattle.slot.specs.declared.refusal.Refusal.{Refusal}
+use Rattle.refusal.specs.declared.Refusal.{Refusal}
 use Rattle.addr_layout.specs.Layout.{noLayout}
 use Rattle.addr_layout.specs.declared.layout.AddrLayout.{AddrLayout}
 use Rattle.cs_data_layout.specs.declared.layout.GivenLayout.{GivenLayout}
@@ -16,7 +16,9 @@ use Rattle.cs_data_layout.specs.declared.layout.CsDataAnswer.{CsDataAnsw
 abbrev pub line : ℕ → ℕ → SelectLine
 line role gpio = record { role = role; gpio = gpio }
 
+-- 01 Well wired 6: the list of qualifiers is empty
 abbrev pub noQualifiers : Qualifiers
+-- 01 Well wired 6: the list of qualifiers is empty
 noQualifiers = record { present = false; «base_qualifier_pin» = 0; «num_qualifier_pins» = 0; «qualifier_inactive_pattern» = 0 }
 
 abbrev pub noCsDataLayout : CsDataLayout

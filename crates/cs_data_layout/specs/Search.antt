@@ -3,12 +3,13 @@ use Prim.Native.Nat.{_^_}
 use mathlib.Core.Bool.{Bool, not, _&&_, _||_, cond}
 use lib.Dec.{ltb}
 use Rattle.slot.specs.declared.description.Description.{Description}
-use Rattle.slot.specs.declared.refusal.Refusal.the-variants.{OutOfDomain, MissingAddrPinGpios, RomTooLargeNoCsConfig, NoValidLayout}
+use Rattle.refusal.specs.declared.Refusal.the-variants.{OutOfDomain, MissingAddrPinGpios, RomTooLargeNoCsConfig, NoValidLayout}
 use Rattle.domain.specs.Domain.{qualifiersIn}
 use Rattle.control.specs.CsConfig.{ignores}
-use Rattle.listing.specs.Listing.{twos, orElse, firstFault}
-use Rattle.listing.specs.declared.FirstFault.{FirstFault}
-use Rattle.listing.specs.declared.FirstFault.the-variants.{None, Of}
+use Rattle.listing.specs.Listing.{twos, firstFault}
+use Rattle.refusal.specs.First.{orElse}
+use Rattle.refusal.specs.declared.first.FirstFault.{FirstFault}
+use Rattle.refusal.specs.declared.first.FirstFault.the-variants.{None, Of}
 use Rattle.search.specs.Search.{best}
 use Rattle.search.specs.declared.Found.{Found}
 use Rattle.search.specs.declared.Found.the-variants.{Nothing, At}
@@ -24,35 +25,41 @@ use Rattle.cs_data_layout.specs.declared.layout.GivenLayout.{GivenLayout
 use Rattle.cs_data_layout.specs.declared.layout.CsDataOutcome.the-variants.{LaidOut}
 use Rattle.cs_data_layout.specs.declared.layout.CsDataAnswer.{CsDataAnswer}
 
--- "The qualifier list is tested only where an address layout is given."
+-- 01 Domain 13: an address layout that is given is tested
+-- 01 Domain 15: qualifiers are tested along with the address layout, and go untested where none is given
 abbrev pub givenIn : Description → GivenLayout → Bool
 givenIn d a =
     not (a .given)
     || (layoutIn (a .layout) && qualifiersIn (d .qualifiers) (d .«num_qualifiers») (a .layout .gpios) (a .layout .«num_lines»))
 
--- 5: "qualifiers but no address layout"
+-- 01 Number 5: there are qualifiers, and no address layout is given
 abbrev pub missingLayout : Description → GivenLayout → FirstFault
 missingLayout d a = cond (not (a .given) && ltb 0 (d .«num_qualifiers»)) (Of MissingAddrPinGpios) None
 
--- 6: "excess address lines and cs1 reads as ignored"
+-- 01 Number 6: the address layout has excess lines, and the setting that is read for cs1 is to ignore it
 abbrev pub tooLarge : Description → AddrLayout → FirstFault
 tooLarge d h = cond (ltb 0 (h .«num_excess») && ignores (d .«cs_config») 2) (Of RomTooLargeNoCsConfig) None
 
--- "Order: 5, 6, data pins (3), then .."
+-- 01 cs_data_layout 1: 5 is tested first, then 6, then the data pins, then the select pins
 unfoldable pub earlier : Description → GivenLayout → FirstFault
 earlier d a =
     orElse (missingLayout d a)
     (orElse (tooLarge d (handed a)) (orElse (firstFault (dataListed d)) (firstFault (checked d))))
 
+-- 00 Demand 2: what is found is the best of all choices
 unfoldable pub csBest : Description → AddrLayout → Found
+-- 00 Demand 2: what is found is the best of all choices
 csBest d h = best (λ c. trialOf (csVerdict d h c)) (2 ^ twos (numbered d))
 
--- "If nothing fits: .. 8 .., else 7 .., else 9"
+-- 01 Number 9: no choice fits, and neither 8 nor 7 says why
+-- 01 cs_data_layout 9: 9 is what is left after 8 and 7
 abbrev pub orNoLayout : FirstFault → CsDataAnswer
 orNoLayout (Of r) = refusedFor r
 orNoLayout None = refusedFor NoValidLayout
 
+-- 01 cs_data_layout 9: the verdicts on all choices decide between 8, 7 and 9
 unfoldable pub noneFits : Description → AddrLayout → CsDataAnswer
+-- 01 cs_data_layout 9: the verdicts on all choices decide between 8, 7 and 9
 noneFits d h = orNoLayout (nothingFits (ignoredSet d) (csVerdict d h) (2 ^ twos (numbered d)))
 
 abbrev pub answerOf : Description → AddrLayout → Found → CsDataAnswer
@@ -63,6 +70,10 @@ abbrev pub afterEarlier : Description → AddrLayout → FirstFault → CsDataAn
 afterEarlier d h (Of r) = refusedFor r
 afterEarlier d h None = answerOf d h (csBest d h)
 
+-- 01 Number 1: the description, the address layout or the qualifiers are outside the domain
+-- 01 Numbers 2: the domain is tested before anything else
 abbrev pub csDataAnswer : Description → GivenLayout → CsDataAnswer
+-- 01 Number 1: the description, the address layout or the qualifiers are outside the domain
+-- 01 Numbers 2: the domain is tested before anything else
 csDataAnswer d a =
     cond (inDomain d && givenIn d a) (afterEarlier d (handed a) (earlier d a)) (refusedFor OutOfDomain)

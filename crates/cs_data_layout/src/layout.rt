@@ -1,7 +1,7 @@
 // The select and data layout: the PIO that detects the select and drives the data sees a window of GPIOs from `gpio_base`,
 // and the base pins are counted from there.
 use addr_layout::layout::AddrLayout;
-use slot::refusal::Refusal;
+use refusal::Refusal;
 ghost use mathlib.Core.Path.{_≡_};
 ghost use Rattle.cs_data_layout.specs.Layout.{refusedFor, handed};
 

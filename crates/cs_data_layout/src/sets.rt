@@ -3,9 +3,9 @@
 use addr_layout::layout::AddrLayout;
 use cs_pins::pins::kind_listed;
 use domain::qualifiers::qualifier_gpio;
-use gpio::array::entry;
 use gpio::candidates::Candidates;
 use gpio::set::with;
+use lists::array::entry;
 use slot::description::Description;
 ghost use mathlib.Core.Path.{_≡_};
 ghost use mathlib.Core.Bool.{true};

@@ -14,12 +14,13 @@ use lib.Seq.{getD-at}
 use borrow.Author.Tests.{leb-true, eqb-false}
 use Rattle.gpio.specs.Set.{with, size}
 use Rattle.gpio.specs.declared.candidates.Candidates.the-variants.{Absent}
-use Rattle.gpio.proofs.Bools.{and-left}
-use Rattle.gpio.proofs.Members.{held, held-or, held-other, with-size}
-use Rattle.gpio.proofs.Tab.{tab-length, getD-tab}
+use Rattle.lists.proofs.Bools.{and-left}
+use Rattle.bits.proofs.Or.{bit-or}
+use Rattle.gpio.proofs.Members.{held, held-other, with-size}
+use Rattle.lists.proofs.Tab.{tab-length, getD-tab}
 use Rattle.slot.specs.Description.{isMulti, chip0, lineAt, kindAt}
 use Rattle.slot.specs.declared.description.Description.{Description}
-use Rattle.slot.specs.declared.refusal.Refusal.the-variants.{OutOfDomain, NoSelectLine}
+use Rattle.refusal.specs.declared.Refusal.the-variants.{OutOfDomain, NoSelectLine}
 use Rattle.domain.specs.Domain.{descriptionIn}
 use Rattle.domain.proofs.Bounds.{chip0-in, kinds-differ}
 use Rattle.control.specs.CsConfig.{ignores}
@@ -45,7 +46,7 @@ within-turn s g true l h = let five = h refl in or-lt 6 s (2 ^ g) l (pow-lt {j =
 within-turn s g false l h = l
 
 other-turn : (s g h : ℕ) (t : Bool) → held s h ≡ 0 → (t ≡ true → g ≡ h → ⊥) → held (cond t (with s g) s) h ≡ 0
-other-turn s g h true e n = rw (held-or, e, held-other g h (n refl))
+other-turn s g h true e n = rw (bit-or, e, held-other g h (n refl))
 other-turn s g h false e n = e
 
 roles-turn : (ks : List ℕ) (ls : List Listed) (g : ℕ) (l : Listed) (t : Bool) → length ks ≡ length ls → length (ks ++ cond t (g ∷ []) []) ≡ length (ls ++ cond t (l ∷ []) [])

@@ -10,7 +10,7 @@ use Rattle.gpio.specs.Candidates.{candidatesIn}
 use Rattle.gpio.specs.declared.candidates.Candidates.the-variants.{Absent}
 use Rattle.slot.specs.Description.{isMulti, chip0, lineAt}
 use Rattle.slot.specs.declared.description.Description.{Description}
-use Rattle.slot.specs.declared.refusal.Refusal.the-variants.{NoSelectLine}
+use Rattle.refusal.specs.declared.Refusal.the-variants.{NoSelectLine}
 use Rattle.domain.specs.Domain.{descriptionIn}
 use Rattle.domain.proofs.Bounds.{board-in}
 use Rattle.listing.specs.Choice.{GpiosIn}

@@ -3,16 +3,16 @@ use mathlib.Core.Bool.{cond}
 use mathlib.Core.List.{List, [], _∷_, _++_}
 use lib.Dec.{leb}
 use lib.ListN.{getD}
-use Rattle.gpio.specs.Tab.{tab}
+use Rattle.lists.specs.Tab.{tab}
 use Rattle.gpio.specs.declared.candidates.Candidates.the-variants.{Absent}
 use Rattle.slot.specs.Description.{isMulti, chip0}
 use Rattle.slot.specs.declared.description.Description.{Description}
-use Rattle.slot.specs.declared.refusal.Refusal.the-variants.{NoSelectLine}
+use Rattle.refusal.specs.declared.Refusal.the-variants.{NoSelectLine}
 use Rattle.listing.specs.Listing.{listed, xPins}
 use Rattle.listing.specs.declared.Listed.{Listed}
 use Rattle.cs_pins.specs.Pins.{activeListed, kindListed, multiCommoned}
 
--- "no active line in Single or Banked": the line that is missing stands for it
+-- 01 Number 2: there is no active line: the line that is missing stands for it
 unfoldable pub orNoActive : List Listed → List Listed
 orNoActive [] = listed Absent NoSelectLine ∷ []
 orNoActive (l ∷ ls) = l ∷ ls
@@ -20,13 +20,15 @@ orNoActive (l ∷ ls) = l ∷ ls
 unfoldable pub ignoredListed : Description → List Listed
 ignoredListed d = tab (d .multi .«num_ignored») (λ k. kindListed d (getD (d .multi .ignored) k 0))
 
--- "in Single or Banked 2 before select pins (3); in Multi select, commoned and ignored lines (2 then 3 each), X1 with 2 chips
--- or more, X2 with 3 or more (4)"
+-- 01 cs_data_layout 1: in Multi the select line is tested first, then the commoned lines, then the ignored ones, then X1 if there
+-- are at least 2 chips, and X2 if there are at least 3
 unfoldable pub multiChecked : Description → List Listed
 multiChecked d =
     (((kindListed d (d .multi .select) ∷ []) ++ multiCommoned d) ++ ignoredListed d)
     ++ xPins (d .board) (leb 2 (d .«num_chips»)) (leb 3 (d .«num_chips»))
 
+-- 01 cs_data_layout 1: in Single and Banked it is tested first whether a line is active, then the pins of the active lines
 unfoldable pub checked : Description → List Listed
+-- 01 cs_data_layout 1: in Single and Banked it is tested first whether a line is active, then the pins of the active lines
 checked d =
     cond (isMulti (d .«set_type»)) (multiChecked d) (orNoActive (activeListed d (chip0 d .control .count)))

@@ -2,12 +2,12 @@
 use crate::pins::kind_listed;
 use crate::pins::list_active;
 use crate::pins::push_commoned;
-use gpio::array::entry;
 use gpio::candidates::Candidates;
 use listing::Listed;
 use listing::Listing;
+use lists::array::entry;
+use refusal::Refusal;
 use slot::description::Description;
-use slot::refusal::Refusal;
 ghost use mathlib.Core.Path.{_≡_};
 ghost use mathlib.Core.Bool.{true};
 ghost use mathlib.Core.List.{_++_};

@@ -6,28 +6,14 @@ use native.Mathlib.Omega.{arith}
 use lib.Dec.{leb, eqb}
 use lib.ListN.{getD}
 use borrow.Author.Tests.{leb-true, eqb-true, eqb-false, ne-eqb, lt-leb, not-true}
-use Rattle.gpio.specs.Each.{each}
-use Rattle.gpio.proofs.Bools.{and-left, and-right, asked}
-use Rattle.gpio.proofs.Each.{each-at}
+use Rattle.lists.specs.Each.{each, between}
+use Rattle.lists.proofs.Bools.{and-left, and-right, asked}
+use Rattle.lists.proofs.Each.{each-at}
 use Rattle.slot.specs.Description.{chip0, noChip, isMulti, lineAt, kindAt}
 use Rattle.slot.specs.SlotContext.{raisedOf}
 use Rattle.slot.specs.declared.description.Chip.{Chip}
 use Rattle.slot.specs.declared.description.Description.{Description}
-use Rattle.domain.specs.Domain.{
-  between,
-  pinsIn,
-  kindsIn,
-  boardIn,
-  wordBytesIn,
-  maxImageSizeIn,
-  lineIn,
-  linesIn,
-  controlIn,
-  chipIn,
-  chipsIn,
-  multiIn,
-  descriptionIn,
-}
+use Rattle.domain.specs.Domain.{pinsIn, kindsIn, boardIn, wordBytesIn, maxImageSizeIn, lineIn, linesIn, controlIn, chipIn, chipsIn, multiIn, descriptionIn}
 
 -- a number between two others
 pub between-is : (low high x : ℕ) → between low high x ≡ true → (low ≤ x) × (x ≤ high)

@@ -1,12 +1,12 @@
 // A chip in the domain: its pin numbers, its control lines, its size.
-use crate::lists::all_between;
+use lists::array::all_between;
 use slot::description::Chip;
 use slot::description::ControlLine;
 use slot::description::ControlLines;
 ghost use mathlib.Core.Path.{_≡_};
 ghost use mathlib.Core.Bool.{not};
 ghost use lib.Dec.{eqb};
-ghost use Rattle.gpio.specs.Each.{each};
+ghost use Rattle.lists.specs.Each.{each};
 ghost use Rattle.slot.specs.Description.{lineAt, kindAt};
 ghost use Rattle.domain.specs.Domain.{lineIn, linesIn, controlIn, chipIn};
 

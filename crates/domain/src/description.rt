@@ -1,6 +1,6 @@
 // A description in the domain. Every number of it is tested, whether or not the call uses it.
 use crate::chip::chip_in;
-use crate::lists::all_between;
+use lists::array::all_between;
 use slot::description::Board;
 use slot::description::Chip;
 use slot::description::Description;

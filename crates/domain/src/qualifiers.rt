@@ -1,8 +1,8 @@
 // The qualifier list, tested only where an address layout is given: its indices name lines in use of that layout.
-use gpio::array::entry;
+use lists::array::entry;
 ghost use mathlib.Core.Path.{_≡_};
 ghost use lib.Dec.{leb};
-ghost use Rattle.gpio.specs.Each.{each};
+ghost use Rattle.lists.specs.Each.{each};
 ghost use Prim.Native.Nat.{_+_};
 ghost use Rattle.domain.specs.Domain.{qualifierGpio, qualifierIn, qualifiersIn};
 

@@ -2,8 +2,8 @@
 use mathlib.Core.Path.{_≡_}
 use mathlib.Core.List.{map}
 use lib.Count.{leadingZeros, trailingZeros}
-use Rattle.gpio.specs.Each.{each, tally}
-use Rattle.gpio.specs.Tab.{tab, joined}
+use Rattle.lists.specs.Each.{each, tally}
+use Rattle.lists.specs.Tab.{tab, joined}
 use Rattle.gpio.specs.Set.{setOf}
 use Rattle.slot.specs.SlotContext.{knownPairs, offsetFrom}
 use Rattle.domain.specs.Domain.{socketIn, lineIn, linesIn, chipsIn, descriptionIn}
@@ -22,9 +22,10 @@ use Rattle.cs_choices.specs.Nothing.{interior, lastRefused}
 use Rattle.cs_data_layout.specs.Search.{earlier, csBest, noneFits}
 use Rattle.bits.specs.Bits.{gather, scatter}
 use Rattle.words.specs.Words.{wordFrom, bytesOf, padWord}
-use Rattle.rom_slot.specs.Images.{chipBytes}
-use Rattle.rom_slot.specs.Domain as SlotDomain
-use Rattle.rom_slot.specs.Faults as Faults
+use Rattle.build_args.specs.Images.{chipBytes}
+use Rattle.build_args.specs.Domain as SlotDomain
+use Rattle.refusal.specs.First.{firstOf}
+use Rattle.build_args.specs.Faults as Faults
 use Rattle.rom_image.specs.Entry.{chipAddress, pickedAt, scrambled, entryAt, tableOf}
 use Rattle.rom_image.specs.Build.{buildOf}
 use Rattle.joint_table.specs.Cases.{cases}
@@ -41,6 +42,6 @@ unfolding cases
     verdictOf interior lastRefused earlier csBest noneFits
     gather scatter wordFrom bytesOf padWord chipBytes
     SlotDomain.selectLinesIn SlotDomain.csDataIn SlotDomain.inDomain
-    Faults.firstOf Faults.addressIn Faults.picksIn Faults.linesIn Faults.buildFault
+    firstOf Faults.addressIn Faults.picksIn Faults.linesIn Faults.buildFault
     chipAddress pickedAt scrambled entryAt tableOf buildOf
 right = simp counted

@@ -5,10 +5,10 @@ use mathlib.Core.List.{List}
 use lib.IntN.{ℤ}
 use lib.ListN.{getD, replicate}
 use Rattle.gpio.specs.Window.{fits}
-use Rattle.slot.specs.Refusal.{numberOf, placeOf}
+use Rattle.refusal.specs.Refusal.{numberOf, placeOf}
 use Rattle.slot.specs.SlotContext.{offsetAnswer}
 use Rattle.slot.specs.declared.description.Description.{Description}
-use Rattle.slot.specs.declared.refusal.Refusal.{Refusal}
+use Rattle.refusal.specs.declared.Refusal.{Refusal}
 use Rattle.slot.specs.declared.slot_context.OffsetAnswer.{OffsetAnswer}
 use Rattle.search.specs.declared.Found.{Found}
 use Rattle.addr_layout.specs.Search.{addrBest, addrAnswer}
@@ -18,7 +18,7 @@ use Rattle.cs_data_layout.specs.Search.{csDataAnswer}
 use Rattle.cs_data_layout.specs.declared.layout.IgnoreIndex.{IgnoreIndex}
 use Rattle.cs_data_layout.specs.declared.layout.CsDataLayout.{CsDataLayout}
 use Rattle.cs_data_layout.specs.declared.layout.CsDataOutcome.{CsDataOutcome}
-use Rattle.rom_slot.specs.Faults.{tableSize}
+use Rattle.build_args.specs.Faults.{tableSize}
 use Rattle.rom_image.specs.Build.{buildOf}
 use Rattle.rom_image.specs.declared.BuildAnswer.{BuildAnswer}
 use Rattle.joint_table.specs.Slots.{notGiven, addressLines, spans}
@@ -38,16 +38,19 @@ pub data Answer : Type 0 where
 abbrev pub refused : Refusal → Answer
 refused why = Number (numberOf why) (placeOf why)
 
--- "window 0/32": base and span
+-- 01 Bench 1: whether a span from a base fits
 abbrev pub window : ℕ → ℕ → Answer
+    -- 01 cs_data_layout 3: one window holds all GPIOs
 window base span = cond (fits base span) Fits DoesNotFit
 
--- "pins 24 in 32": the chip's and the board's
+-- the socket offset
 abbrev pub offsetTold : OffsetAnswer → Answer
 offsetTold (OffsetAnswer.Offset by) = Offset by
 offsetTold (OffsetAnswer.Refused why) = refused why
 
+-- 01 Bench 2: the offset of a chip of so many pins in a board of so many, or a refusal
 abbrev pub pinsIn : ℕ → ℕ → Answer
+-- 01 Bench 2: the offset of a chip of so many pins in a board of so many, or a refusal
 pinsIn chip board = offsetTold (offsetAnswer chip board)
 
 -- the address search
@@ -59,7 +62,9 @@ abbrev pub addressTold : AddrOutcome → AddrLayout → ℕ → Answer
 addressTold AddrOutcome.LaidOut layout score = Taken (getD (layout .gpios) 2 0) score
 addressTold (AddrOutcome.Refused why) layout score = refused why
 
+-- 01 Bench 3: where the third line went and the score, or a refusal
 abbrev pub addressSearch : Description → Answer
+-- 01 Bench 3: where the third line went and the score, or a refusal
 addressSearch d = addressTold (addrAnswer d .outcome) (addrAnswer d .layout) (scoreOf (addrBest d))
 
 -- the select search
@@ -71,15 +76,23 @@ abbrev pub selectTold : CsDataOutcome → CsDataLayout → Answer
 selectTold CsDataOutcome.LaidOut layout = ignoreTold (layout .«cs_ignore_index»)
 selectTold (CsDataOutcome.Refused why) layout = refused why
 
+-- 01 Bench 4: the ignore index, if there is one, or a refusal
 abbrev pub selectSearch : Description → Answer
+-- 01 Bench 4: the ignore index, if there is one, or a refusal
 selectSearch d = selectTold (csDataAnswer d notGiven .outcome) (csDataAnswer d notGiven .layout)
 
--- the build: the entry at an index, of one byte
+-- the build
 abbrev pub builtTold : BuildAnswer → List ℕ → ℕ → Answer
 builtTold BuildAnswer.Built table i = Entry (getD table i 0)
 builtTold (BuildAnswer.Refused why) table i = refused why
 
+-- the entry at an index, of one byte
+-- 01 Bench 5: the entry of a table that is built by data lines c
+-- 01 Bench 6: the entry of a table that is built for a chip of d's size
 abbrev pub entryOf : Description → CsDataLayout → List ℕ → ℕ → Answer
+-- the entry at an index, of one byte
+-- 01 Bench 5: the entry of a table that is built by data lines c
+-- 01 Bench 6: the entry of a table that is built for a chip of d's size
 entryOf d c bytes i =
     let b = buildOf d addressLines c bytes (spans bytes) (replicate (tableSize d addressLines) 0) in
     builtTold (b .answer) (b .table) i

@@ -1,4 +1,4 @@
--- Document 01, "Bench cases": the joint table of those marked P, in its order. A case is what the definitions answer, and what the
+-- The joint table of document 01's bench cases that are marked P, in its order. A case is what the definitions answer, and what the
 -- document says; proofs/Right.antt has the statement that each is answered so. Assumes nothing.
 use Prim.Native.Nat.{_+_, _^_}
 use mathlib.Core.List.{List, [], _∷_}
@@ -15,6 +15,12 @@ abbrev pub case : Answer → Answer → Case
 case answered told = record { answered = answered; told = told }
 
 -- `negsuc 3` is -4; the place of number 7 is the set of 18 and 21
+-- 01 Bench 1: four windows, two that fit and two that do not
+-- 01 Bench 2: two pairs of pin counts with their offsets
+-- 01 Bench 3: two address searches, one refused and one that takes GPIO 9
+-- 01 Bench 4: two select searches in Single, one with an ignore index and one refused
+-- 01 Bench 5: an entry whose data lines are reversed
+-- 01 Bench 6: an entry past the words of a chip, a pad for three words and word 1 for two
 unfoldable pub cases : List Case
 cases =
     case (window 0 32) Fits

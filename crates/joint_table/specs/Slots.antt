@@ -15,14 +15,14 @@ use Rattle.slot.specs.declared.description.CsConfig.the-variants.{CeOe}
 use Rattle.slot.specs.declared.description.Description.{Description}
 use Rattle.control.specs.MultiCsConfig.{nothing}
 use Rattle.addr_layout.specs.Layout.{noLayout}
-use Rattle.addr_layout.specs.declared.layout.XGpio.the-variants.{Unused}
+use Rattle.gpio.specs.declared.line.LineGpio.the-variants.{Unused}
 use Rattle.addr_layout.specs.declared.layout.AddrLayout.{AddrLayout}
 use Rattle.cs_data_layout.specs.Layout.{line, noQualifiers}
 use Rattle.cs_data_layout.specs.declared.layout.GivenLayout.{GivenLayout}
 use Rattle.cs_data_layout.specs.declared.layout.IgnoreIndex.the-variants.{None}
 use Rattle.cs_data_layout.specs.declared.layout.CsDataLayout.{CsDataLayout}
-use Rattle.rom_slot.specs.Images.{noSpan}
-use Rattle.rom_slot.specs.declared.images.ImageSpan.{ImageSpan}
+use Rattle.build_args.specs.Images.{noSpan}
+use Rattle.build_args.specs.declared.images.ImageSpan.{ImageSpan}
 
 -- an array of n: these, and the same from there on
 abbrev pub array : {A : Type 0} → ℕ → List A → A → List A
@@ -56,11 +56,11 @@ slotWith gpios chip = record {
   «num_qualifiers» = 0;
 }
 
--- "lines at": three address lines with these candidates
+-- 01 Bench 3: three address lines with these candidates
 abbrev pub linesAt : Candidates → Candidates → Candidates → Description
 linesAt first second third = slotWith (first ∷ second ∷ third ∷ []) (chipWith (1 ∷ 2 ∷ 3 ∷ []) (4 ∷ []) [] 8)
 
--- "Single selects": ce and oe at these GPIOs, behind one data line at GPIO 16
+-- 01 Bench 4: ce and oe at these GPIOs, behind one data line at GPIO 16
 abbrev pub selectsAt : ℕ → ℕ → Description
 selectsAt ce oe =
     slotWith (One 16 ∷ One ce ∷ One oe ∷ [])
@@ -70,12 +70,12 @@ selectsAt ce oe =
 abbrev pub notGiven : GivenLayout
 notGiven = record { given = false; layout = noLayout }
 
--- "size": a chip of as many bytes, with two address lines and eight data lines. A build goes by the layouts handed in, and looks
--- at no candidate
+-- a build goes by the layouts handed in, and looks at no candidate
+-- 01 Bench 6: a chip of as many bytes, with two address lines and eight data lines
 abbrev pub sized : ℕ → Description
 sized size = slotWith [] (chipWith (1 ∷ 2 ∷ []) (3 ∷ 4 ∷ 5 ∷ 6 ∷ 7 ∷ 8 ∷ 9 ∷ 10 ∷ []) [] size)
 
--- "lines at bits 0 and 1": a table of four entries
+-- 01 Bench 6: the two address lines are the low bits of the index, in a table of four entries
 abbrev pub addressLines : AddrLayout
 addressLines = record {
   «gpio_base» = 0;
@@ -89,6 +89,7 @@ addressLines = record {
 
 -- data lines on these GPIOs, and the data base at 0
 abbrev pub dataLines : List ℕ → CsDataLayout
+-- 01 Well wired 4: the chip has 8w data lines
 dataLines gpios = record {
   «gpio_base» = 0;
   «base_data_pin» = 0;
@@ -107,7 +108,9 @@ dataLines gpios = record {
 abbrev pub inOrder : CsDataLayout
 inOrder = dataLines (0 ∷ 1 ∷ 2 ∷ 3 ∷ 4 ∷ 5 ∷ 6 ∷ 7 ∷ [])
 
+-- 01 Bench 5: data line n is at position 7 - n
 abbrev pub reversed : CsDataLayout
+-- 01 Bench 5: data line n is at position 7 - n
 reversed = dataLines (7 ∷ 6 ∷ 5 ∷ 4 ∷ 3 ∷ 2 ∷ 1 ∷ 0 ∷ [])
 
 -- all bytes that are lent are the chip's

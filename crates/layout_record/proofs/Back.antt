@@ -5,11 +5,11 @@ use Prim.Native.Nat.{ℕ, _<_}
 use native.Mathlib.Omega.{arith}
 use lib.Dec.{eqb}
 use borrow.Author.Tests.{ne-eqb}
-use Rattle.gpio.specs.Tab.{tab}
-use Rattle.record.specs.Record.{byteAt}
-use Rattle.encoding.proofs.Encodes.{flag}
-use Rattle.addr_layout.specs.declared.layout.XGpio.{XGpio}
-use Rattle.addr_layout.specs.declared.layout.XGpio.the-variants.{Unused, At}
+use Rattle.lists.specs.Tab.{tab}
+use Rattle.fields.specs.Fields.{byteAt}
+use Rattle.description_record.proofs.Encodes.{flag}
+use Rattle.gpio.specs.declared.line.LineGpio.{LineGpio}
+use Rattle.gpio.specs.declared.line.LineGpio.the-variants.{Unused, At}
 use Rattle.addr_layout.specs.declared.layout.AddrLayout.{AddrLayout}
 use Rattle.cs_data_layout.specs.Layout.{line}
 use Rattle.cs_data_layout.specs.declared.layout.IgnoreIndex.{IgnoreIndex}
@@ -21,12 +21,12 @@ use Rattle.layout_record.proofs.Parts.{array-is}
 not-none : {x : ℕ} → x < 255 → eqb x 255 ≡ false
 not-none {x} h = ne-eqb x 255 (λ e. omega arith)
 
-x-back : (x : XGpio) → XNamed x → xOf (xByte x) ≡ x
+x-back : (x : LineGpio) → XNamed x → xOf (xByte x) ≡ x
 x-back Unused h = refl
 x-back (At g) h = rw (not-none h)
 
 pub layout-back : (l : AddrLayout) → ValuedAddr l → layoutAt (layoutBytes l) ≡ l
-unfolding layoutAt layoutBytes byteAt tab
+unfolding layoutAt layoutBytes tab
 layout-back l v = λ i. record {
   «gpio_base» = l .«gpio_base»;
   «num_addr_pins» = l .«num_addr_pins»;
@@ -38,7 +38,7 @@ layout-back l v = λ i. record {
 }
 
 pub layout-formed : (l : AddrLayout) → layoutFormed (layoutBytes l) ≡ true
-unfolding layoutFormed layoutBytes byteAt tab
+unfolding layoutFormed layoutBytes tab
 layout-formed l = refl
 
 ignore-back : (x : IgnoreIndex) → IgnoreNamed x → ignoreOf (ignoreByte x) ≡ x
@@ -46,7 +46,7 @@ ignore-back IgnoreIndex.None h = refl
 ignore-back (IgnoreIndex.At k) h = rw (not-none h)
 
 pub cs-data-back : (l : CsDataLayout) → ValuedCsData l → csDataAt (csDataBytes l) ≡ l
-unfolding csDataAt csDataBytes linesBytes byteAt tab
+unfolding csDataAt csDataBytes linesBytes tab
 cs-data-back l v = λ i. record {
   «gpio_base» = l .«gpio_base»;
   «base_data_pin» = l .«base_data_pin»;
@@ -68,5 +68,5 @@ cs-data-back l v = λ i. record {
 }
 
 pub cs-data-formed : (l : CsDataLayout) → csDataFormed (csDataBytes l) ≡ true
-unfolding csDataFormed csDataBytes linesBytes byteAt tab
+unfolding csDataFormed csDataBytes linesBytes tab
 cs-data-formed l = flag (l .qualifiers .present) .named

@@ -5,8 +5,8 @@ use Prim.Native.Nat.{ℕ, _+_, _-_, _≤_}
 use native.Mathlib.Omega.{arith}
 use borrow.Rule.Slice.PartMut.{putMid}
 use lib.ListN.{length, take, drop, getD, length-append, length-take, length-drop, drop-of-length-le}
-use Rattle.gpio.specs.Tab.{tab}
-use Rattle.gpio.proofs.Tab.{tab-is}
+use Rattle.lists.specs.Tab.{tab}
+use Rattle.lists.proofs.Tab.{tab-is}
 use lib.Seq.{take-at, drop-at, take-all, take-length, drop-drop}
 
 -- what stands from a on holds the part

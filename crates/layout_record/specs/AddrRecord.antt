@@ -6,10 +6,9 @@ use mathlib.Core.Bool.{Bool, cond, not, _&&_, _||_}
 use mathlib.Core.List.{List, [], _∷_, _++_}
 use lib.Dec.{eqb}
 use lib.ListN.{length}
-use Rattle.record.specs.Record.{byteAt, bytesAt, fourAt}
-use Rattle.encoding.specs.Encoded.{field}
-use Rattle.addr_layout.specs.declared.layout.XGpio.{XGpio}
-use Rattle.addr_layout.specs.declared.layout.XGpio.the-variants.{Unused, At}
+use Rattle.fields.specs.Fields.{byteAt, bytesAt, fourAt, field}
+use Rattle.gpio.specs.declared.line.LineGpio.{LineGpio}
+use Rattle.gpio.specs.declared.line.LineGpio.the-variants.{Unused, At}
 use Rattle.addr_layout.specs.declared.layout.AddrLayout.{AddrLayout}
 use Rattle.cs_data_layout.specs.declared.layout.GivenLayout.{GivenLayout}
 
@@ -18,11 +17,12 @@ abbrev pub addrSize : ℕ
 addrSize = 36
 
 -- "255 none"
-abbrev pub xByte : XGpio → ℕ
+-- 01 Shape 10: an X pin that has no GPIO is a byte of 255
+abbrev pub xByte : LineGpio → ℕ
 xByte Unused = 255
 xByte (At g) = g
 
-abbrev pub xOf : ℕ → XGpio
+abbrev pub xOf : ℕ → LineGpio
 xOf x = cond (eqb x 255) Unused (At x)
 
 -- places 0 to 7
@@ -51,7 +51,7 @@ layoutAt b = record {
 }
 
 -- what the type and the search say of a layout: the array's length, and X GPIOs that are not the byte for none
-abbrev pub XNamed : XGpio → Type 0
+abbrev pub XNamed : LineGpio → Type 0
 XNamed Unused = Unit
 XNamed (At g) = g < 255
 

@@ -6,9 +6,8 @@ use mathlib.Core.Bool.{Bool, cond, _&&_}
 use mathlib.Core.List.{List, [], _∷_, _++_}
 use lib.Dec.{leb, ltb, eqb}
 use lib.ListN.{length, getD}
-use Rattle.gpio.specs.Tab.{tab}
-use Rattle.record.specs.Record.{byteAt, bytesAt}
-use Rattle.encoding.specs.Encoded.{field}
+use Rattle.lists.specs.Tab.{tab}
+use Rattle.fields.specs.Fields.{byteAt, bytesAt, field}
 use Rattle.cs_data_layout.specs.Layout.{line}
 use Rattle.cs_data_layout.specs.declared.layout.IgnoreIndex.{IgnoreIndex}
 use Rattle.cs_data_layout.specs.declared.layout.IgnoreIndex.the-variants.{None, At}

@@ -4,10 +4,10 @@ use mathlib.Core.Bool.{Bool, _&&_}
 use mathlib.Core.List.{List}
 use lib.Dec.{eqb}
 use lib.ListN.{length}
-use Rattle.gpio.specs.Each.{each}
-use Rattle.gpio.specs.Tab.{tab}
-use Rattle.record.specs.Record.{byteAt, fourAt, flagFormed}
-use Rattle.rom_slot.specs.declared.images.ImageSpan.{ImageSpan}
+use Rattle.lists.specs.Each.{each}
+use Rattle.lists.specs.Tab.{tab}
+use Rattle.fields.specs.Fields.{byteAt, fourAt, flagFormed}
+use Rattle.build_args.specs.declared.images.ImageSpan.{ImageSpan}
 
 -- "48 bytes"
 abbrev pub spansSize : ℕ

@@ -1,23 +1,23 @@
 // The address layout record: written where a search answers, read where a layout is handed in.
 use addr_layout::layout::AddrLayout;
-use addr_layout::layout::XGpio;
 use bytes::copy;
 use cs_data_layout::layout::GivenLayout;
-use record::bytes::byte_at;
-use record::bytes::four_at;
-use record::bytes::twenty_four_at;
+use fields::four_at;
+use fields::twenty_four_at;
+use gpio::line::LineGpio;
+use lists::array::entry;
 ghost use mathlib.Core.Path.{_≡_};
 ghost use mathlib.Core.List.{_++_};
 ghost use Prim.Native.Nat.{_≤_};
 ghost use lib.ListN.{length, drop};
 ghost use Rattle.layout_record.specs.AddrRecord.{addrSize, xByte, xOf, headBytes, layoutBytes, layoutAt, layoutFormed, givenAt, givenFormed};
 
-fn x_byte(x: XGpio) -> u8
+fn x_byte(x: LineGpio) -> u8
     ensures { λ r. ⌜ r ≡ xByte x ⌝ }
 {
     match x {
-        XGpio::Unused => 255,
-        XGpio::At(g) => g,
+        LineGpio::Unused => 255,
+        LineGpio::At(g) => g,
     }
 }
 
@@ -51,13 +51,13 @@ pub fn store(l: AddrLayout, out: &mut [u8])
     copy(&inverted, &mut out[32..]);
 }
 
-fn x_of(x: u8) -> XGpio
+fn x_of(x: u8) -> LineGpio
     ensures { λ r. ⌜ r ≡ xOf x ⌝ }
 {
     if x == 255 {
-        return XGpio::Unused;
+        return LineGpio::Unused;
     }
-    XGpio::At(x)
+    LineGpio::At(x)
 }
 
 // What the record lays out.
@@ -65,13 +65,13 @@ pub fn layout_at(b: &[u8]) -> AddrLayout
     ensures { λ r. ⌜ r ≡ layoutAt (now (b .entry)) ⌝ }
 {
     AddrLayout {
-        gpio_base: byte_at(b, 0),
-        num_addr_pins: byte_at(b, 1),
-        x1_gpio: x_of(byte_at(b, 2)),
-        x2_gpio: x_of(byte_at(b, 3)),
+        gpio_base: entry(b, 0),
+        num_addr_pins: entry(b, 1),
+        x1_gpio: x_of(entry(b, 2)),
+        x2_gpio: x_of(entry(b, 3)),
         gpios: twenty_four_at(b, 8),
-        num_lines: byte_at(b, 4),
-        num_excess: byte_at(b, 5),
+        num_lines: entry(b, 4),
+        num_excess: entry(b, 5),
     }
 }
 
@@ -79,8 +79,8 @@ pub fn layout_at(b: &[u8]) -> AddrLayout
 pub fn formed(b: &[u8]) -> bool
     ensures { λ r. ⌜ r ≡ layoutFormed (now (b .entry)) ⌝ }
 {
-    let spare = byte_at(b, 6);
-    let spare_2 = byte_at(b, 7);
+    let spare = entry(b, 6);
+    let spare_2 = entry(b, 7);
     let inverted = four_at(b, 32);
     (b.len() == 36) & (spare == 0) & (spare_2 == 0) & (inverted == 0)
 }

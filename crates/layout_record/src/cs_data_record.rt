@@ -4,15 +4,14 @@ use cs_data_layout::layout::CsDataLayout;
 use cs_data_layout::layout::IgnoreIndex;
 use cs_data_layout::layout::Qualifiers;
 use cs_data_layout::layout::SelectLine;
-use gpio::array::one_if;
-use record::bytes::byte_at;
-use record::bytes::sixteen_at;
+use fields::sixteen_at;
+use lists::array::entry;
+use lists::array::one_if;
 ghost use mathlib.Core.Path.{_≡_};
 ghost use mathlib.Core.List.{_++_};
 ghost use Prim.Native.Nat.{_+_, _<_, _/_, _%_, _≤_};
 ghost use lib.ListN.{length, drop};
-ghost use Rattle.layout_record.specs.CsDataRecord.{csDataSize, ignoreByte, csDataHead, lineAt, lineByte, linesBytes, csDataBytes};
-ghost use Rattle.layout_record.specs.CsDataRecord.{ignoreOf, lineFrom, linesFrom, qualifiersAt, csDataAt, csDataFormed};
+ghost use Rattle.layout_record.specs.CsDataRecord.{csDataSize, ignoreByte, csDataHead, lineAt, lineByte, linesBytes, csDataBytes, ignoreOf, lineFrom, linesFrom, qualifiersAt, csDataAt, csDataFormed};
 
 fn ignore_byte(index: IgnoreIndex) -> u8
     ensures { λ r. ⌜ r ≡ ignoreByte index ⌝ }
@@ -107,8 +106,8 @@ fn line_from(b: &[u8], p: usize) -> SelectLine
     ensures { λ r. ⌜ r ≡ lineFrom (now (b .entry)) p ⌝ }
 {
     SelectLine {
-        role: byte_at(b, p),
-        gpio: byte_at(b, p + 1),
+        role: entry(b, p),
+        gpio: entry(b, p + 1),
     }
 }
 
@@ -141,10 +140,10 @@ fn qualifiers(b: &[u8]) -> Qualifiers
     ensures { λ r. ⌜ r ≡ qualifiersAt (now (b .entry)) ⌝ }
 {
     Qualifiers {
-        present: byte_at(b, 8) == 1,
-        base_qualifier_pin: byte_at(b, 9),
-        num_qualifier_pins: byte_at(b, 10),
-        qualifier_inactive_pattern: byte_at(b, 11),
+        present: entry(b, 8) == 1,
+        base_qualifier_pin: entry(b, 9),
+        num_qualifier_pins: entry(b, 10),
+        qualifier_inactive_pattern: entry(b, 11),
     }
 }
 
@@ -153,17 +152,17 @@ pub fn layout_at(b: &[u8]) -> CsDataLayout
     ensures { λ r. ⌜ r ≡ csDataAt (now (b .entry)) ⌝ }
 {
     CsDataLayout {
-        gpio_base: byte_at(b, 0),
-        base_data_pin: byte_at(b, 1),
-        num_data_pins: byte_at(b, 2),
+        gpio_base: entry(b, 0),
+        base_data_pin: entry(b, 1),
+        num_data_pins: entry(b, 2),
         data_pin_gpios: sixteen_at(b, 12),
-        base_cs_pin: byte_at(b, 3),
-        num_cs_pins: byte_at(b, 4),
-        cs_ignore_index: ignore_of(byte_at(b, 5)),
+        base_cs_pin: entry(b, 3),
+        num_cs_pins: entry(b, 4),
+        cs_ignore_index: ignore_of(entry(b, 5)),
         select_lines: select_lines(b),
-        num_select_lines: byte_at(b, 6),
+        num_select_lines: entry(b, 6),
         commoned_lines: commoned_lines(b),
-        num_commoned_lines: byte_at(b, 7),
+        num_commoned_lines: entry(b, 7),
         qualifiers: qualifiers(b),
     }
 }
@@ -172,5 +171,5 @@ pub fn layout_at(b: &[u8]) -> CsDataLayout
 pub fn formed(b: &[u8]) -> bool
     ensures { λ r. ⌜ r ≡ csDataFormed (now (b .entry)) ⌝ }
 {
-    (b.len() == 100) & (byte_at(b, 8) <= 1)
+    (b.len() == 100) & (entry(b, 8) <= 1)
 }

@@ -1,8 +1,8 @@
 // The image spans record: where in the lent bytes each chip's stand.
-use record::bytes::byte_at;
-use record::bytes::flag_formed;
-use record::bytes::four_at;
-use rom_slot::images::ImageSpan;
+use build_args::images::ImageSpan;
+use fields::flag_formed;
+use fields::four_at;
+use lists::array::entry;
 ghost use mathlib.Core.Path.{_≡_};
 ghost use Prim.Native.Nat.{_+_, _≤_};
 ghost use Rattle.layout_record.specs.ImageRecord.{spansSize, spanFrom, spansAt, spansFormed};
@@ -12,7 +12,7 @@ fn span_from(b: &[u8], p: usize) -> ImageSpan
     ensures { λ r. ⌜ r ≡ spanFrom (now (b .entry)) p ⌝ }
 {
     ImageSpan {
-        present: byte_at(b, p) == 1,
+        present: entry(b, p) == 1,
         start: four_at(b, p + 4),
         length: four_at(b, p + 8),
     }

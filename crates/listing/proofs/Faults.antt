@@ -7,12 +7,13 @@ use native.Mathlib.Omega.{arith}
 use lib.ListN.{length}
 use Rattle.gpio.specs.declared.candidates.Candidates.{Candidates}
 use Rattle.gpio.specs.declared.candidates.Candidates.the-variants.{Absent, One, Two}
-use Rattle.slot.specs.declared.refusal.Refusal.{Refusal}
+use Rattle.refusal.specs.declared.Refusal.{Refusal}
 use Rattle.listing.specs.Choice.{pinAt}
-use Rattle.listing.specs.declared.FirstFault.the-variants.{None, Of}
+use Rattle.refusal.specs.declared.first.FirstFault.the-variants.{None, Of}
 use Rattle.listing.specs.declared.Listed.{Listed}
-use Rattle.listing.specs.declared.FirstFault.{FirstFault}
-use Rattle.listing.specs.Listing.{orElse, faultFrom, faultOf, firstFault, keepFault}
+use Rattle.refusal.specs.declared.first.FirstFault.{FirstFault}
+use Rattle.listing.specs.Listing.{faultFrom, faultOf, firstFault, keepFault}
+use Rattle.refusal.specs.First.{orElse}
 
 pub fault-snoc : (f : FirstFault) (ls : List Listed) (l : Listed) → faultFrom f (ls ++ (l ∷ [])) ≡ keepFault (faultFrom f ls) l
 unfolding faultFrom
@@ -44,11 +45,6 @@ unfolding faultFrom
 no-fault-at [] e k h q = omega arith
 no-fault-at (l ∷ ls) e zero h q = head-tail l ls (l .gpios) e .0 q
 no-fault-at (l ∷ ls) e (suc k) h q = no-fault-at ls (head-tail l ls (l .gpios) e .1) k (le-of-suc-le-suc h) q
-
--- neither of two has a fault
-pub or-none : (f g : FirstFault) → orElse f g ≡ None → (f ≡ None) × (g ≡ None)
-or-none (Of r) g e = let z : _≡_ {A = ℕ} 0 1 = cc in absurd (omega arith)
-or-none None g e = (refl, e)
 
 -- lists put together have no fault exactly if neither has
 fault-append : (f : FirstFault) (a b : List Listed) → faultFrom f (a ++ b) ≡ faultFrom (faultFrom f a) b

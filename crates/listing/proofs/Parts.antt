@@ -8,7 +8,7 @@ use native.Mathlib.Nat.{add-zero, div-one}
 use native.Mathlib.Omega.{arith}
 use lib.Pow.{field, high, low, mod-mod-pow, shl-shr, shr-shr}
 use Rattle.gpio.specs.Candidates.{two}
-use Rattle.gpio.specs.Each.{tally}
+use Rattle.lists.specs.Each.{tally}
 use Rattle.gpio.specs.declared.candidates.Candidates.{Candidates}
 use Rattle.gpio.specs.declared.candidates.Candidates.the-variants.{Absent, One, Two}
 use Rattle.listing.specs.Choice.{chosen, leftBy, pinAt, restAt, gpioAt, bitOf}

@@ -10,8 +10,8 @@ use lib.Seq.{getD-take}
 use Rattle.gpio.specs.Candidates.{two}
 use Rattle.gpio.specs.declared.candidates.Candidates.{Candidates}
 use Rattle.gpio.specs.declared.candidates.Candidates.the-variants.{Absent}
-use Rattle.gpio.proofs.Each.{tally-turn}
-use Rattle.slot.specs.declared.refusal.Refusal.the-variants.{OutOfDomain}
+use Rattle.lists.proofs.Each.{tally-turn}
+use Rattle.refusal.specs.declared.Refusal.the-variants.{OutOfDomain}
 use Rattle.listing.specs.Listing.{listed}
 use Rattle.listing.specs.Choice.{chosen, leftBy, pinAt, restAt, gpioAt, bitOf}
 use Rattle.listing.specs.declared.Listed.{Listed}

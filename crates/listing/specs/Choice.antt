@@ -6,24 +6,28 @@ use mathlib.Core.List.{List}
 use mathlib.Core.Logic.{_⊎_}
 use lib.Dec.{ltb, eqb}
 use lib.ListN.{getD}
-use Rattle.gpio.specs.Each.{tally}
+use Rattle.lists.specs.Each.{tally}
 use Rattle.gpio.specs.Candidates.{two, candidatesIn}
 use Rattle.gpio.specs.declared.candidates.Candidates.{Candidates}
 use Rattle.gpio.specs.declared.candidates.Candidates.the-variants.{Absent, One, Two}
-use Rattle.slot.specs.declared.refusal.Refusal.the-variants.{OutOfDomain}
+use Rattle.refusal.specs.declared.Refusal.the-variants.{OutOfDomain}
 use Rattle.listing.specs.declared.Listed.{Listed}
 use Rattle.listing.specs.Listing.{listed}
 
--- "Bit k of choice number c, both from 0, serves the k-th two-candidate pin in that order, 1 meaning the second.": a pin
--- takes the lowest bit of what is left of the number, and leaves the rest to the pins after it
+-- 01 addr_layout 7: a two-candidate pin goes by the lowest bit of what is left of the number, 0 for its first candidate and 1 for
+-- its second
 abbrev pub chosen : Candidates → ℕ → ℕ
 chosen Absent rest = 0
 chosen (One g) rest = g
 chosen (Two g h) rest = cond (eqb (rest % 2) 0) g h
 
+-- 01 addr_layout 7: a two-candidate pin takes one bit off, and leaves the rest to the pins after it; any other pin takes none
 abbrev pub leftBy : Candidates → ℕ → ℕ
+-- 01 addr_layout 7: a two-candidate pin takes one bit off, and leaves the rest to the pins after it; any other pin takes none
 leftBy Absent rest = rest
+-- 01 addr_layout 7: a two-candidate pin takes one bit off, and leaves the rest to the pins after it; any other pin takes none
 leftBy (One g) rest = rest
+-- 01 addr_layout 7: a two-candidate pin takes one bit off, and leaves the rest to the pins after it; any other pin takes none
 leftBy (Two g h) rest = rest / 2
 
 -- a GPIO is one of a pin's candidates
@@ -49,7 +53,7 @@ restAt ls c (suc k) = leftBy (pinAt ls k) (restAt ls c k)
 unfoldable pub gpioAt : List Listed → ℕ → ℕ → ℕ
 gpioAt ls c k = chosen (pinAt ls k) (restAt ls c k)
 
--- which bit serves the k-th pin: the two-candidate pins before it are served first
+-- 01 addr_layout 7: the bit that serves the k-th pin has as many bits below it as there are two-candidate pins before the pin
 abbrev pub bitOf : List Listed → ℕ → ℕ
 bitOf ls k = tally k (λ i. two (pinAt ls i))
 

@@ -14,6 +14,7 @@ use Rattle.slot.specs.declared.slot_context.Socket.the-variants.{On, Off}
 use Rattle.listing.specs.Listing.{candidatesAt}
 
 -- the socket pin under a chip pin
+-- 01 slot_context 2: the offset from chip pin to socket pin is taken from the description
 abbrev pub pinSocket : Description → ℕ → Socket
 pinSocket d pin = socketOf pin (raisedOf (d .«pin_offset»)) (d .board .pins)
 
@@ -30,6 +31,6 @@ unfoldable pub pinOf : ControlLines → ℕ → ℕ → ℕ
 pinOf c kind zero = 0
 pinOf c kind (suc k) = cond (eqb (kindAt c k) kind) (lineAt c k .pin) (pinOf c kind k)
 
--- the pin of chip 0's line of a kind
+-- 01 slot_context 2: the pin of the line of a kind, looked up on chip 0
 abbrev pub kindPin : Description → ℕ → ℕ
 kindPin d kind = pinOf (chip0 d .control) kind (chip0 d .control .count)

@@ -9,12 +9,13 @@ use Rattle.gpio.specs.declared.candidates.Candidates.{Candidates}
 use Rattle.gpio.specs.declared.candidates.Candidates.the-variants.{Absent, One, Two}
 use Rattle.slot.specs.Description.{noPin}
 use Rattle.slot.specs.declared.description.Board.{Board}
-use Rattle.slot.specs.declared.refusal.Refusal.{Refusal}
-use Rattle.slot.specs.declared.refusal.Refusal.the-variants.{MissingXPin}
+use Rattle.refusal.specs.First.{orElse}
+use Rattle.refusal.specs.declared.Refusal.{Refusal}
+use Rattle.refusal.specs.declared.Refusal.the-variants.{MissingXPin}
 use Rattle.listing.specs.declared.Listed.{Listed}
 use Rattle.listing.specs.declared.Listing.{Listing}
-use Rattle.listing.specs.declared.FirstFault.{FirstFault}
-use Rattle.listing.specs.declared.FirstFault.the-variants.{None, Of}
+use Rattle.refusal.specs.declared.first.FirstFault.{FirstFault}
+use Rattle.refusal.specs.declared.first.FirstFault.the-variants.{None, Of}
 
 -- a pin with its candidates, and the refusal that answers where it has none
 abbrev pub listed : Candidates → Refusal → Listed
@@ -24,7 +25,7 @@ listed c r = record { gpios = c; fault = r }
 abbrev pub candidatesAt : Board → ℕ → Candidates
 candidatesAt b s = cond (leb 1 s) (getD (b .socket) (s - 1) noPin .gpios) Absent
 
--- "a needed X pin has no GPIO"
+-- 01 Number 4: a listed X pin has no candidates; the place is 1 for X1 and 2 for X2
 abbrev pub xListed : Board → ℕ → Listed
 xListed b x = cond (eqb x 1) (listed (b .x1) (MissingXPin 1)) (listed (b .x2) (MissingXPin 2))
 
@@ -32,26 +33,21 @@ xListed b x = cond (eqb x 1) (listed (b .x1) (MissingXPin 1)) (listed (b .x2) (M
 abbrev pub xPins : Board → Bool → Bool → List Listed
 xPins b one both = cond one (xListed b 1 ∷ cond both (xListed b 2 ∷ []) []) []
 
--- the list that a listing holds
+-- 01 Shape 2: the list that a listing holds is its array up to the count
 abbrev pub listOf : Listing → List Listed
 listOf l = take (l .count) (l .pins)
 
--- "one without GPIO or off the socket without its X counts none"
+-- 01 Domain 8: a listed pin counts if it has two candidates; one that has none, for whatever cause, does not
 abbrev pub twoListed : Listed → Bool
 twoListed l = two (l .gpios)
 
 abbrev pub count : Bool → ℕ
 count b = cond b 1 0
 
--- the two-candidate pins of a list
+-- 01 Domain 8: how many two-candidate pins a list has
 unfoldable pub twos : List Listed → ℕ
 twos [] = 0
 twos (l ∷ ls) = count (twoListed l) + twos ls
-
--- "the first fault answers"
-abbrev pub orElse : FirstFault → FirstFault → FirstFault
-orElse (Of r) f = Of r
-orElse None f = f
 
 abbrev pub faultOf : Candidates → Refusal → FirstFault
 faultOf Absent r = Of r
@@ -65,5 +61,7 @@ unfoldable pub faultFrom : FirstFault → List Listed → FirstFault
 faultFrom f [] = f
 faultFrom f (l ∷ ls) = faultFrom (keepFault f l) ls
 
+-- 01 addr_layout 6: the fault of the first pin in the list that has no candidate
 abbrev pub firstFault : List Listed → FirstFault
+-- 01 addr_layout 6: the fault of the first pin in the list that has no candidate
 firstFault ls = faultFrom None ls

@@ -4,7 +4,7 @@ use crate::Listing;
 use gpio::candidates::Candidates;
 ghost use mathlib.Core.Path.{_≡_};
 ghost use mathlib.Core.Bool.{cond};
-ghost use Rattle.gpio.specs.Tab.{tab};
+ghost use Rattle.lists.specs.Tab.{tab};
 ghost use Rattle.listing.specs.Listing.{listOf};
 ghost use Rattle.listing.specs.Choice.{chosen, leftBy, pinAt, gpioAt, inPart};
 

@@ -3,12 +3,13 @@ pub mod choice; // what a choice number makes of them
 pub mod lines; // a chip's pins in the socket, and its control lines by kind
 
 use gpio::candidates::Candidates;
+use refusal::Refusal;
+use refusal::first::FirstFault;
 use slot::description::Board;
-use slot::refusal::Refusal;
 ghost use mathlib.Core.Path.{_≡_};
 ghost use mathlib.Core.List.{[], _∷_, _++_};
 ghost use Prim.Native.Nat.{_+_, _≤_, _<_};
-ghost use Rattle.listing.specs.Listing.{candidatesAt, xListed, xPins, twoListed, count, twos, listOf, orElse, keepFault, firstFault};
+ghost use Rattle.listing.specs.Listing.{candidatesAt, xListed, xPins, twoListed, count, twos, listOf, keepFault, firstFault};
 
 // A listed pin.
 pub struct Listed {
@@ -20,12 +21,6 @@ pub struct Listed {
 pub struct Listing {
     pub pins: [Listed; 30],
     pub count: usize,
-}
-
-// The first pin without candidates answers with its fault.
-pub enum FirstFault {
-    None,
-    Of(Refusal),
 }
 
 // The candidates of a socket pin.
@@ -127,16 +122,6 @@ pub fn choice_bits(l: Listing) -> u32
         k += 1;
     }
     sum
-}
-
-// The first of two faults.
-pub fn or_else(first: FirstFault, second: FirstFault) -> FirstFault
-    ensures { λ r. ⌜ r ≡ orElse first second ⌝ }
-{
-    match first {
-        FirstFault::Of(r) => FirstFault::Of(r),
-        FirstFault::None => second,
-    }
 }
 
 // The fault found before, else the pin's where it has no candidates.

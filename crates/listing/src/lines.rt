@@ -1,7 +1,7 @@
 // A chip's pins in the socket, and its control lines by kind.
 use domain::chip::control_line;
-use gpio::array::entry;
 use gpio::candidates::Candidates;
+use lists::array::entry;
 use slot::description::ControlLine;
 use slot::description::ControlLines;
 use slot::description::Description;

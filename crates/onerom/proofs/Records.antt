@@ -4,11 +4,11 @@ use mathlib.Core.Bool.{Bool, true, false, not, cond}
 use mathlib.Core.List.{List}
 use Prim.Native.Nat.{ℕ}
 use Rattle.slot.specs.declared.description.Description.{Description}
-use Rattle.slot.specs.declared.refusal.Refusal.{Refusal}
-use Rattle.record.specs.Record.{decodedOf}
-use Rattle.record.specs.declared.Answer.{Answer}
-use Rattle.record.specs.declared.Answer.the-variants.{Described, Refused}
-use Rattle.record.specs.declared.Decoded.{Decoded}
+use Rattle.refusal.specs.declared.Refusal.{Refusal}
+use Rattle.description_record.specs.Record.{decodedOf}
+use Rattle.description_record.specs.declared.Answer.{Answer}
+use Rattle.description_record.specs.declared.Answer.the-variants.{Described, Refused}
+use Rattle.description_record.specs.declared.Decoded.{Decoded}
 use Rattle.onerom.specs.Calls.{ifDescribed, described}
 
 module _ {A : Type 0} (f : Description → A) (refuse : Refusal → A) (b : List ℕ) (dec : Decoded) (e : dec ≡ decodedOf b) where

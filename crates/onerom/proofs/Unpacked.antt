@@ -2,8 +2,8 @@
 use mathlib.Core.Path.{_≡_}
 use Prim.Native.Nat.{_/_, _%_, _^_, _<_}
 use native.Mathlib.Omega.{arith}
-use Rattle.slot.specs.Refusal.{numberOf, placeOf}
-use Rattle.slot.specs.declared.refusal.Refusal.{Refusal}
+use Rattle.refusal.specs.Refusal.{numberOf, placeOf}
+use Rattle.refusal.specs.declared.Refusal.{Refusal}
 use Rattle.onerom.specs.Packed.{packed}
 
 pub number-back : (why : Refusal) → packed why / 2 ^ 48 ≡ numberOf why

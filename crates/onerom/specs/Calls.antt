@@ -5,11 +5,11 @@ use mathlib.Core.List.{List, _++_}
 use lib.Dec.{ltb}
 use lib.ListN.{length, drop}
 use Rattle.slot.specs.declared.description.Description.{Description}
-use Rattle.slot.specs.declared.refusal.Refusal.{Refusal}
-use Rattle.slot.specs.declared.refusal.Refusal.the-variants.{OutOfDomain, ShortBuffer}
-use Rattle.record.specs.Record.{decodedOf}
-use Rattle.record.specs.declared.Answer.{Answer}
-use Rattle.record.specs.declared.Decoded.{Decoded}
+use Rattle.refusal.specs.declared.Refusal.{Refusal}
+use Rattle.refusal.specs.declared.Refusal.the-variants.{OutOfDomain, ShortBuffer}
+use Rattle.description_record.specs.Record.{decodedOf}
+use Rattle.description_record.specs.declared.Answer.{Answer}
+use Rattle.description_record.specs.declared.Decoded.{Decoded}
 use Rattle.addr_layout.specs.Search.{addrAnswer}
 use Rattle.addr_layout.specs.declared.layout.AddrLayout.{AddrLayout}
 use Rattle.addr_layout.specs.declared.layout.AddrOutcome.{AddrOutcome}
@@ -23,7 +23,7 @@ use Rattle.rom_image.specs.declared.BuildAnswer.{BuildAnswer}
 use Rattle.layout_record.specs.AddrRecord.{addrSize, layoutBytes, layoutAt, layoutFormed, givenAt, givenFormed}
 use Rattle.layout_record.specs.CsDataRecord.{csDataSize, csDataBytes, csDataAt, csDataFormed}
 use Rattle.layout_record.specs.ImageRecord.{spansAt, spansFormed}
-use Rattle.listing.specs.declared.FirstFault.{FirstFault}
+use Rattle.refusal.specs.declared.first.FirstFault.{FirstFault}
 use Rattle.stored_record.specs.StoredRecord.{storedAt, storedFormed}
 use Rattle.unscramble.specs.Recovered.{ReadBack, unscrambled}
 use Rattle.round_trip.specs.Chain.{Trip, roundTripOf}
@@ -36,15 +36,17 @@ pub record Answered : Type 0 where
 abbrev pub answer : ℕ → List ℕ → Answered
 answer r b = record { result = r; buffer = b }
 
--- "Refusals write nothing"
+-- 01 Numbers 5: a refused call leaves its buffer as it was lent
 abbrev pub refused : Refusal → List ℕ → Answered
 refused why buffer = answer (packed why) buffer
 
--- 16: "a lent buffer is shorter than what it must hold"; "Bytes past them never change."
+-- 01 Number 16: the buffer has fewer bytes than the record
+-- 01 Numbers 7: the buffer's bytes behind the record stay
 abbrev pub written : ℕ → List ℕ → List ℕ → Answered
 written size bytes buffer = cond (ltb (length buffer) size) (refused ShortBuffer buffer) (answer 0 (bytes ++ drop size buffer))
 
--- "Number 1 comes first everywhere": bytes that are no description record
+-- 01 Number 1: the bytes are no description record
+-- 01 Numbers 2: such bytes are refused before anything is done with a description
 abbrev pub ifDescribed : {A : Type 0} → (Description → A) → (Refusal → A) → Answer → Description → A
 ifDescribed f refuse Answer.Described d = f d
 ifDescribed f refuse (Answer.Refused why) d = refuse why
@@ -100,7 +102,7 @@ buildCall description addr csData spans images table =
     (described (λ d. buildFrom d addr csData spans images table) (λ why. refused why table) (decodedOf description))
     (refused OutOfDomain table)
 
--- read-back is lent two buffers: "output" and "marks"
+-- 01 Shape 2: read-back is lent two buffers, an output for all chips and the marks of their words
 pub record ReadAnswered : Type 0 where
   pub result : ℕ
   pub output : List ℕ
@@ -113,15 +115,16 @@ abbrev pub readResult : FirstFault → ℕ
 readResult FirstFault.None = 0
 readResult (FirstFault.Of why) = packed why
 
--- read-back says itself what its buffers hold: "Refusals write nothing, except 23 and 24"
+-- 01 Numbers 5: read-back says itself what its buffers hold, since 23 and 24 do write
 abbrev pub readFound : ReadBack → ReadAnswered
 readFound b = readAnswer (readResult (b .answer)) (b .output) (b .marks)
 
 abbrev pub readFrom : List ℕ → List ℕ → List ℕ → List ℕ → ReadAnswered
 readFrom slot stored output marks = readFound (unscrambled (storedAt slot) stored output marks)
 
--- `onerom_unscramble_slot` of a stored slot's bytes, of its table, and of two lent buffers; "Number 1 comes first everywhere":
--- bytes that are no stored slot record
+-- `onerom_unscramble_slot` of a stored slot's bytes, of its table, and of two lent buffers
+-- 01 Number 1: the bytes are no stored slot record
+-- 01 Numbers 2: such bytes are refused before anything is done with a slot
 unfoldable pub readBackCall : List ℕ → List ℕ → List ℕ → List ℕ → ReadAnswered
 readBackCall slot stored output marks =
     cond (storedFormed slot)

@@ -1,10 +1,10 @@
 -- A refusal as the one number that a refused call returns. Assumes nothing.
 use Prim.Native.Nat.{ℕ, _+_, _*_, _%_, _^_}
-use Rattle.slot.specs.Refusal.{numberOf, placeOf}
-use Rattle.slot.specs.declared.refusal.Refusal.{Refusal}
+use Rattle.refusal.specs.Refusal.{numberOf, placeOf}
+use Rattle.refusal.specs.declared.Refusal.{Refusal}
 
--- "A refused call returns the number and the place named, else place 0.": the place in the low 48 bits, the number above
--- them. A `GpioSet` could hold 64 bits, so that the place goes in by its remainder. By the calls that exist it loses nothing:
--- a set of GPIOs has 48 bits, a ROM is below 4 and an address below 2^32.
+-- the place in the low 48 bits, the number above them. A `GpioSet` could hold 64 bits, so that the place goes in by its
+-- remainder. By the calls that exist it loses nothing: a set of GPIOs has 48 bits, a ROM is below 4 and an address below 2^32.
+-- 01 Numbers 1: a refused call has one result, which holds both the refusal's number and its place
 unfoldable pub packed : Refusal → ℕ
 packed why = numberOf why * 2 ^ 48 + placeOf why % 2 ^ 48

@@ -4,7 +4,7 @@ use addr_layout::layout::AddrAnswer;
 use addr_layout::layout::AddrLayout;
 use addr_layout::layout::AddrOutcome;
 use layout_record::addr_record;
-use slot::refusal::Refusal;
+use refusal::Refusal;
 ghost use mathlib.Core.Path.{_≡_};
 ghost use Rattle.layout_record.specs.AddrRecord.{addrSize, layoutBytes};
 ghost use Rattle.onerom.specs.Calls.{answer, written, addrFound};

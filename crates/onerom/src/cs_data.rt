@@ -4,7 +4,7 @@ use cs_data_layout::layout::CsDataAnswer;
 use cs_data_layout::layout::CsDataLayout;
 use cs_data_layout::layout::CsDataOutcome;
 use layout_record::cs_data_record;
-use slot::refusal::Refusal;
+use refusal::Refusal;
 ghost use mathlib.Core.Path.{_≡_};
 ghost use Rattle.layout_record.specs.CsDataRecord.{csDataSize, csDataBytes};
 ghost use Rattle.onerom.specs.Calls.{answer, written, csDataFound};

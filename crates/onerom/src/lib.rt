@@ -9,12 +9,12 @@ mod trip; // the round trip's answer, handed over
 
 use addr_layout::derive_addr_layout;
 use cs_data_layout::derive_cs_data_layout;
+use description_record::Answer;
 use layout_record::addr_record::given_at;
 use layout_record::addr_record::given_formed;
 use layout_record::image_record;
-use record::Answer;
+use refusal::Refusal;
 use refused::packed;
-use slot::refusal::Refusal;
 ghost use mathlib.Core.Path.{_≡_};
 ghost use Rattle.onerom.specs.Calls.{answer, tripAnswer, tripCall, addrCall, csDataCall, buildCall, readAnswer, readBackCall};
 
@@ -23,7 +23,7 @@ ghost use Rattle.onerom.specs.Calls.{answer, tripAnswer, tripCall, addrC
 pub extern "C" fn onerom_derive_addr_layout(description: &[u8], layout: &mut [u8]) -> u64
     ensures { λ r. ⌜ answer r (now (layout .exit)) ≡ addrCall (now (description .entry)) (now (layout .entry)) ⌝ }
 {
-    let decoded = record::decode(description);
+    let decoded = description_record::decode(description);
     let outcome = decoded.answer;
     match outcome {
         Answer::Described => addr::hand_over(derive_addr_layout(decoded.description), layout),
@@ -44,7 +44,7 @@ pub extern "C" fn onerom_derive_cs_data_layout(
     if !given_formed(addr_layout) {
         return packed(Refusal::OutOfDomain);
     }
-    let decoded = record::decode(description);
+    let decoded = description_record::decode(description);
     let outcome = decoded.answer;
     match outcome {
         Answer::Described => {
@@ -73,7 +73,7 @@ pub extern "C" fn onerom_build_rom_image(
     if !build::formed(addr_layout, cs_data_layout, spans) {
         return packed(Refusal::OutOfDomain);
     }
-    let decoded = record::decode(description);
+    let decoded = description_record::decode(description);
     let outcome = decoded.answer;
     match outcome {
         Answer::Described => {
@@ -121,7 +121,7 @@ pub extern "C" fn onerom_round_trip(
     if !image_record::formed(spans) {
         return packed(Refusal::OutOfDomain);
     }
-    let decoded = record::decode(description);
+    let decoded = description_record::decode(description);
     let outcome = decoded.answer;
     match outcome {
         Answer::Described => {

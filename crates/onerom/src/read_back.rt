@@ -1,6 +1,6 @@
 // Read-back, from the record of a caller that has no structs to its answer as one number.
 use crate::refused::packed;
-use listing::FirstFault;
+use refusal::first::FirstFault;
 use stored_record::stored_at;
 use unscramble::unscramble_slot;
 ghost use mathlib.Core.Path.{_≡_};

@@ -1,5 +1,5 @@
 // A refusal as one number, for a caller that has no enums.
-use slot::refusal::Refusal;
+use refusal::Refusal;
 ghost use mathlib.Core.Path.{_≡_};
 ghost use Rattle.onerom.specs.Packed.{packed};
 

@@ -5,19 +5,19 @@ use addr_layout::derive_addr_layout;
 use addr_layout::layout::AddrLayout;
 use addr_layout::layout::AddrOutcome;
 use addr_layout::layout::no_layout;
+use build_args::images::ImageSpan;
 use cs_data_layout::derive_cs_data_layout;
 use cs_data_layout::layout::CsDataLayout;
 use cs_data_layout::layout::CsDataOutcome;
 use cs_data_layout::layout::GivenLayout;
 use cs_data_layout::layout::IgnoreIndex;
 use cs_data_layout::layout::refused;
+use description_record::Answer;
 use libc::STDOUT_FILENO;
-use record::Answer;
+use refusal::Refusal;
 use rom_image::BuildAnswer;
 use rom_image::build_rom_image;
-use rom_slot::images::ImageSpan;
 use slot::description::Description;
-use slot::refusal::Refusal;
 use std::num::wrapping_add_u8;
 ghost use Prim.Native.Nat.{_≤_};
 
@@ -108,7 +108,7 @@ fn say_verdict(ok: bool) {
 }
 
 fn taken(b: [u8; 424]) -> bool {
-    let decoded = record::decode(&b);
+    let decoded = description_record::decode(&b);
     let answer = decoded.answer;
     match answer {
         Answer::Described => domain::description::description_in(decoded.description),
@@ -286,7 +286,7 @@ fn searches(set_type: u8, chips: u8, first: usize, lines: usize, x1: u8) {
         2,
         0,
     );
-    let decoded = record::decode(&bonded);
+    let decoded = description_record::decode(&bonded);
     say(b"address search");
     say_verdict(address_taken(decoded.description));
     say(b"select search");
@@ -305,7 +305,7 @@ fn say_layout(layout: AddrLayout) {
 // The sample with three address lines, the third with a second candidate.
 fn three_lines(first: u8, second: u8, third: u8, or: u8) {
     let few = with(with(with(sample(), 140, 3), 52, first), 54, second);
-    let decoded = record::decode(&with(with(few, 56, third), 57, or));
+    let decoded = description_record::decode(&with(with(few, 56, third), 57, or));
     let answer = derive_addr_layout(decoded.description);
     let outcome = answer.outcome;
     match outcome {
@@ -336,7 +336,7 @@ fn say_ignore_index(layout: CsDataLayout) {
 
 // The sample with ce and oe at two GPIOs, changed further by the caller.
 fn two_selects(b: [u8; 424], ce: u8, oe: u8) {
-    let decoded = record::decode(&with(with(b, 124, ce), 126, oe));
+    let decoded = description_record::decode(&with(with(b, 124, ce), 126, oe));
     let none = GivenLayout {
         given: false,
         layout: no_layout(),
@@ -391,7 +391,7 @@ fn say_entry(table: &[u8], index: usize) {
 
 // The sample with a chip of `size` bytes.
 fn one_entry(size: u8, gpios: [u8; 16], bytes: &[u8], index: usize) {
-    let decoded = record::decode(&with(with(sample(), 136, size), 138, 0));
+    let decoded = description_record::decode(&with(with(sample(), 136, size), 138, 0));
     let chip = ImageSpan {
         present: true,
         start: 0,

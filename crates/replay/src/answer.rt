@@ -1,6 +1,6 @@
 // The numbers of an answer. Each kind writes ours to a lent buffer, and one comparison serves them all.
 use crate::case::number_at;
-use slot::refusal::Refusal;
+use refusal::Refusal;
 
 // Writes a number at a place and answers the place after it. What does not fit is left out, so that such an answer is
 // shorter than the list's and differs.

@@ -1,6 +1,6 @@
 // The images of a case, and the checksum of bytes.
 use crate::case::number_at;
-use gpio::array::one_if;
+use lists::array::one_if;
 use std::num::wrapping_add_u64;
 ghost use Prim.Native.Nat.{_≤_, _<_};
 

@@ -8,9 +8,9 @@ use Rattle.slot.specs.Description.{noChip}
 use Rattle.slot.specs.declared.description.Description.{Description}
 use Rattle.addr_layout.specs.declared.layout.AddrLayout.{AddrLayout}
 use Rattle.cs_data_layout.specs.declared.layout.CsDataLayout.{CsDataLayout}
-use Rattle.rom_slot.specs.Faults.{chipsFit}
-use Rattle.rom_slot.specs.Images.{spanAt, chipBytes}
-use Rattle.rom_slot.specs.declared.images.ImageSpan.{ImageSpan}
+use Rattle.picks.specs.Picks.{chipsFit}
+use Rattle.build_args.specs.Images.{spanAt, chipBytes}
+use Rattle.build_args.specs.declared.images.ImageSpan.{ImageSpan}
 
 pub record Buildable (d : Description) (a : AddrLayout) (c : CsDataLayout) (images : List ℕ) (spans : List ImageSpan) : Type 0 where
   pub lines : a .«num_lines» ≤ 24

@@ -11,13 +11,13 @@ use lib.ListN.{length, getD, length-take, length-drop}
 use borrow.Author.Tests.{ltb-true, le-ltb}
 use Rattle.words.specs.Words.{wordFrom, word}
 use Rattle.words.proofs.Words.{word-part, words-room}
-use Rattle.entries.specs.Entries.{SourceIn, rawFrom}
+use Rattle.table_fill.specs.Entries.{SourceIn, rawFrom}
 use Rattle.slot.specs.Description.{noChip}
 use Rattle.slot.specs.declared.description.Description.{Description}
-use Rattle.rom_slot.specs.Images.{spanAt, chipBytes}
-use Rattle.rom_slot.specs.declared.images.ImageSpan.{ImageSpan}
-use Rattle.rom_slot.specs.declared.picks.Picked.{Picked}
-use Rattle.rom_slot.specs.declared.picks.Picked.the-variants.{NoChip, Chip}
+use Rattle.build_args.specs.Images.{spanAt, chipBytes}
+use Rattle.build_args.specs.declared.images.ImageSpan.{ImageSpan}
+use Rattle.picks.specs.declared.Picked.{Picked}
+use Rattle.picks.specs.declared.Picked.the-variants.{NoChip, Chip}
 use Rattle.rom_image.specs.Entry.{wordCount, powerOfTwo, padOf, wordOf}
 use Rattle.rom_image.specs.Wiring.{sourceOf}
 

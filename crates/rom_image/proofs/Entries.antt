@@ -6,20 +6,20 @@ use native.Mathlib.Nat.{lt-of-lt-of-le}
 use native.Mathlib.Omega.{arith}
 use lib.ListN.{drop, getD}
 use lib.Pow.{pow-mono}
-use Rattle.gpio.proofs.Tab.{getD-tab}
+use Rattle.lists.proofs.Tab.{getD-tab}
 use Rattle.bits.specs.Bits.{gather}
 use Rattle.bits.proofs.Gathered.{gather-lt, gather-cong}
 use Rattle.bits.proofs.Scattered.{scatter-cong}
 use Rattle.words.proofs.Words.{words-cong}
-use Rattle.entries.specs.Entries.{WiringIn, SourcesIn, partOf, scrambledBy, noSource, entryBy, tableBy}
+use Rattle.table_fill.specs.Entries.{WiringIn, SourcesIn, partOf, scrambledBy, noSource, entryBy, tableBy}
 use Rattle.slot.specs.declared.description.Description.{Description}
 use Rattle.addr_layout.specs.declared.layout.AddrLayout.{AddrLayout}
 use Rattle.cs_data_layout.specs.declared.layout.CsDataLayout.{CsDataLayout}
-use Rattle.rom_slot.specs.Positions.{linePosition, dataPosition}
-use Rattle.rom_slot.specs.Picks.{numPicks, pickPosition, picked}
-use Rattle.rom_slot.specs.Faults.{entriesOf, tableSize}
-use Rattle.rom_slot.specs.declared.images.ImageSpan.{ImageSpan}
-use Rattle.rom_slot.proofs.Picking.{picks-three, picked-below}
+use Rattle.build_args.specs.Positions.{linePosition, dataPosition}
+use Rattle.build_args.specs.Picks.{numPicks, pickPosition, picked}
+use Rattle.build_args.specs.Faults.{entriesOf, tableSize}
+use Rattle.build_args.specs.declared.images.ImageSpan.{ImageSpan}
+use Rattle.picks.proofs.Picking.{picks-three, picked-below}
 use Rattle.rom_image.specs.Entry.{chipAddress, pickedAt, padOf, scrambled, entryAt, tableOf}
 use Rattle.rom_image.specs.Wiring.{wiringOf, sourceOf, sourcesOf}
 use Rattle.rom_image.proofs.Buildable.{Buildable}

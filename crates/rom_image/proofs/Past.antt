@@ -12,17 +12,19 @@ use borrow.Author.Tests.{ltb-true, ltb-false}
 use Rattle.domain.proofs.Bounds.{word-bytes, image-size}
 use Rattle.slot.specs.Description.{noChip}
 use Rattle.slot.specs.declared.description.Description.{Description}
-use Rattle.slot.specs.declared.refusal.Refusal.{Refusal}
-use Rattle.slot.specs.declared.refusal.Refusal.the-variants.{RomTableTooLarge, InvalidConfig, BadPosition, ShortBuffer}
-use Rattle.listing.specs.declared.FirstFault.the-variants.{None}
+use Rattle.refusal.specs.declared.Refusal.{Refusal}
+use Rattle.refusal.specs.declared.Refusal.the-variants.{RomTableTooLarge, InvalidConfig, BadPosition, ShortBuffer}
+use Rattle.refusal.specs.declared.first.FirstFault.the-variants.{None}
 use Rattle.addr_layout.specs.declared.layout.AddrLayout.{AddrLayout}
 use Rattle.cs_data_layout.specs.declared.layout.CsDataLayout.{CsDataLayout}
-use Rattle.rom_slot.specs.Images.{spanAt, chipBytes}
-use Rattle.rom_slot.specs.Domain.{inDomain}
-use Rattle.rom_slot.specs.Faults.{faultIf, firstOf, entriesOf, tableSize, tooLarge, tooShort, addressIn, chipsFit, picksIn, linesIn, missingAt, shortAt, linesFault, lentFault, buildFault}
-use Rattle.rom_slot.specs.declared.images.ImageSpan.{ImageSpan}
-use Rattle.rom_slot.proofs.Firsts.{or-left, or-right, first-all}
-use Rattle.rom_slot.proofs.Facts.{described, selected, lines-few, data-count}
+use Rattle.build_args.specs.Images.{spanAt, chipBytes}
+use Rattle.build_args.specs.Domain.{inDomain}
+use Rattle.build_args.specs.Faults.{entriesOf, tableSize, tooLarge, tooShort, addressIn, picksIn, linesIn, missingAt, shortAt, linesFault, lentFault, buildFault}
+use Rattle.picks.specs.Picks.{chipsFit}
+use Rattle.refusal.specs.First.{faultIf, firstOf}
+use Rattle.build_args.specs.declared.images.ImageSpan.{ImageSpan}
+use Rattle.refusal.proofs.Firsts.{or-left, or-right, first-all}
+use Rattle.build_args.proofs.Facts.{described, selected, lines-few, data-count}
 use Rattle.rom_image.proofs.Buildable.{Buildable}
 
 -- a test that found nothing

@@ -11,15 +11,15 @@ use Rattle.slot.specs.Description.{noChip}
 use Rattle.slot.specs.declared.description.Description.{Description}
 use Rattle.addr_layout.specs.declared.layout.AddrLayout.{AddrLayout}
 use Rattle.cs_data_layout.specs.declared.layout.CsDataLayout.{CsDataLayout}
-use Rattle.rom_slot.specs.Images.{spanAt, chipBytes}
-use Rattle.rom_slot.specs.Positions.{linePosition, dataPosition}
-use Rattle.rom_slot.specs.Picks.{numPicks, pickPosition, picked}
-use Rattle.rom_slot.specs.Faults.{entriesOf}
-use Rattle.rom_slot.specs.declared.images.ImageSpan.{ImageSpan}
-use Rattle.rom_slot.specs.declared.picks.Picked.{Picked}
-use Rattle.rom_slot.specs.declared.picks.Picked.the-variants.{NoChip, Chip}
+use Rattle.build_args.specs.Images.{spanAt, chipBytes}
+use Rattle.build_args.specs.Positions.{linePosition, dataPosition}
+use Rattle.build_args.specs.Picks.{numPicks, pickPosition, picked}
+use Rattle.build_args.specs.Faults.{entriesOf}
+use Rattle.build_args.specs.declared.images.ImageSpan.{ImageSpan}
+use Rattle.picks.specs.declared.Picked.{Picked}
+use Rattle.picks.specs.declared.Picked.the-variants.{NoChip, Chip}
 
--- "Bit n of a chip address is the index bit of line n."
+-- 01 rom_image 2: bit n of the address stands in the index at the position of line n
 unfoldable pub chipAddress : AddrLayout → ℕ → ℕ
 chipAddress a i = gather (a .«num_lines») (linePosition a) i
 
@@ -35,32 +35,38 @@ wordCount d k = getD (d .chips) k noChip .size / d .«word_bytes»
 abbrev pub powerOfTwo : ℕ → Bool
 powerOfTwo n = eqb (ones n) 1
 
--- "An address at or past the word count is masked if the count is a power of two, else padded."
+-- 01 rom_image 7: an address not below the number of words counts modulo that number where it is a power of two, and gives the pad
+-- where it is not
 abbrev pub wordOrPad : ℕ → ℕ → (ℕ → ℕ) → ℕ → ℕ
 wordOrPad pad count wordAt n = cond (ltb n count) (wordAt n) (cond (powerOfTwo count) (wordAt (n % count)) pad)
 
--- "hex AA in each byte"
+-- 01 rom_image 6: pads are made of the byte hex AA
 abbrev pub padByte : ℕ
 padByte = 0xAA
 
+-- 01 rom_image 6: the pad is w bytes of padByte
 abbrev pub padOf : Description → ℕ
+-- 01 rom_image 6: the pad is w bytes of padByte
 padOf d = padWord (d .«word_bytes») padByte
 
--- the word of the chip that is picked, at an address; "No chip: pad"
+-- the word of the chip that is picked, at an address
+-- 01 rom_image 6: where no chip is picked the word is the pad
 abbrev pub wordOf : Description → List ℕ → List ImageSpan → Picked → ℕ → ℕ
 wordOf d images spans NoChip n = padOf d
 wordOf d images spans (Chip k) n =
     wordOrPad (padOf d) (wordCount d k) (λ m. word (d .«word_bytes») (chipBytes images (spanAt spans k)) m) n
 
--- "Bit d of a word goes to data line d's GPIO less the data base; lines on one position are joined by or, positions at or past 8w
--- are lost."
+-- 01 rom_image 8: each data line carries its bit of the word to its position; where several meet the bits are or-ed, and a bit for
+-- position 8w or above is dropped
 unfoldable pub scrambled : Description → CsDataLayout → ℕ → ℕ
 scrambled d c v = scatter (c .«num_data_pins») (dataPosition c) (8 * d .«word_bytes») v
 
 -- the entry at an index
+-- 01 rom_image 6: a pad is scrambled as a word is
 unfoldable pub entryAt : Description → AddrLayout → CsDataLayout → List ℕ → List ImageSpan → ℕ → ℕ
 entryAt d a c images spans i = scrambled d c (wordOf d images spans (pickedAt d a c i) (chipAddress a i))
 
--- "Entries 2^pins." "Words are low byte first."
+-- 01 rom_image 1: the table is its 2^pins entries in index order
+-- 01 rom_image 9: an entry's lowest byte is written first
 unfoldable pub tableOf : Description → AddrLayout → CsDataLayout → List ℕ → List ImageSpan → List ℕ
 tableOf d a c images spans = wordsBytes (d .«word_bytes») (entryAt d a c images spans) (entriesOf a)

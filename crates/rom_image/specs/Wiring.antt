@@ -1,20 +1,20 @@
 -- How the build goes about it: the lines' positions and where the chips' words stand, found once. No answer is defined by it: `entryAt`
 -- says what an entry holds. Assumes nothing.
 use mathlib.Core.List.{List}
-use Rattle.gpio.specs.Tab.{tab}
+use Rattle.lists.specs.Tab.{tab}
 use Rattle.slot.specs.declared.description.Description.{Description}
 use Rattle.addr_layout.specs.declared.layout.AddrLayout.{AddrLayout}
 use Rattle.cs_data_layout.specs.declared.layout.CsDataLayout.{CsDataLayout}
-use Rattle.rom_slot.specs.Images.{spanAt}
-use Rattle.rom_slot.specs.Positions.{linePosition, dataPosition}
-use Rattle.rom_slot.specs.Picks.{numPicks, pickPosition, picked}
-use Rattle.rom_slot.specs.declared.images.ImageSpan.{ImageSpan}
-use Rattle.rom_slot.specs.declared.picks.Picked.{Picked}
-use Rattle.rom_slot.specs.declared.picks.Picked.the-variants.{NoChip, Chip}
+use Rattle.build_args.specs.Images.{spanAt}
+use Rattle.build_args.specs.Positions.{linePosition, dataPosition}
+use Rattle.build_args.specs.Picks.{numPicks, pickPosition, picked}
+use Rattle.build_args.specs.declared.images.ImageSpan.{ImageSpan}
+use Rattle.picks.specs.declared.Picked.{Picked}
+use Rattle.picks.specs.declared.Picked.the-variants.{NoChip, Chip}
 use Rattle.rom_image.specs.Entry.{wordCount, powerOfTwo}
-use Rattle.entries.specs.Entries.{noSource}
-use Rattle.entries.specs.declared.wiring.Wiring.{Wiring}
-use Rattle.entries.specs.declared.sources.Source.{Source}
+use Rattle.table_fill.specs.Entries.{noSource}
+use Rattle.table_fill.specs.declared.wiring.Wiring.{Wiring}
+use Rattle.table_fill.specs.declared.sources.Source.{Source}
 
 -- the positions of all lines
 unfoldable pub wiringOf : Description → AddrLayout → CsDataLayout → Wiring

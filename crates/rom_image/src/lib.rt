@@ -4,13 +4,13 @@ mod sources; // where the words of the chips stand
 mod table; // the entries by them
 
 use addr_layout::layout::AddrLayout;
+use build_args::faults::build_fault;
+use build_args::images::ImageSpan;
+use build_args::in_domain::in_domain;
 use cs_data_layout::layout::CsDataLayout;
-use listing::FirstFault;
-use rom_slot::faults::build_fault;
-use rom_slot::images::ImageSpan;
-use rom_slot::in_domain::in_domain;
+use refusal::Refusal;
+use refusal::first::FirstFault;
 use slot::description::Description;
-use slot::refusal::Refusal;
 ghost use mathlib.Core.Path.{_≡_};
 ghost use Rattle.rom_image.specs.Build.{built, buildOf};
 

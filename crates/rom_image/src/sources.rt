@@ -1,11 +1,11 @@
 // Where the words of the chips stand in the lent bytes.
-use entries::sources::Source;
-use rom_slot::faults::chip_size;
-use rom_slot::images::ImageSpan;
-use rom_slot::images::span_at;
-use rom_slot::picks::Picked;
-use rom_slot::picks::picked_by;
+use build_args::faults::chip_size;
+use build_args::images::ImageSpan;
+use build_args::images::span_at;
+use picks::Picked;
+use picks::picked_by;
 use slot::description::Description;
+use table_fill::sources::Source;
 ghost use mathlib.Core.Path.{_≡_};
 ghost use Prim.Native.Nat.{_≤_};
 ghost use Rattle.rom_image.specs.Entry.{wordCount};

@@ -2,18 +2,18 @@
 use crate::sources::sources;
 use crate::wiring::wiring;
 use addr_layout::layout::AddrLayout;
+use build_args::images::ImageSpan;
 use cs_data_layout::layout::CsDataLayout;
-use entries::table::fill_by;
-use rom_slot::images::ImageSpan;
 use slot::description::Description;
+use table_fill::table::fill_by;
 use words::pad_word;
 ghost use mathlib.Core.Path.{_≡_};
 ghost use mathlib.Core.List.{_++_};
 ghost use mathlib.Core.Bool.{true};
 ghost use lib.ListN.{length, drop};
-ghost use Rattle.listing.specs.declared.FirstFault.the-variants.{None};
-ghost use Rattle.rom_slot.specs.Domain.{inDomain};
-ghost use Rattle.rom_slot.specs.Faults.{tableSize, buildFault};
+ghost use Rattle.refusal.specs.declared.first.FirstFault.the-variants.{None};
+ghost use Rattle.build_args.specs.Domain.{inDomain};
+ghost use Rattle.build_args.specs.Faults.{tableSize, buildFault};
 ghost use Rattle.rom_image.specs.Entry.{tableOf};
 
 // Writes the table to the front of a buffer.

@@ -1,18 +1,18 @@
 // The positions of all lines.
 use addr_layout::layout::AddrLayout;
+use build_args::lines::pick_of;
+use build_args::positions::data_base;
 use cs_data_layout::layout::CsDataLayout;
-use entries::wiring::Wiring;
-use rom_slot::picks::num_picks;
-use rom_slot::picks::pick_of;
-use rom_slot::positions::data_base;
-use rom_slot::positions::position;
-use rom_slot::positions::x_position;
+use picks::num_picks;
+use picks::positions::position;
+use picks::positions::x_position;
 use slot::description::Description;
+use table_fill::wiring::Wiring;
 ghost use mathlib.Core.Path.{_≡_};
 ghost use Prim.Native.Nat.{_≤_};
-ghost use Rattle.gpio.specs.Tab.{tab};
-ghost use Rattle.rom_slot.specs.Positions.{dataBase, linePosition, dataPosition};
-ghost use Rattle.rom_slot.specs.Picks.{pickPosition};
+ghost use Rattle.lists.specs.Tab.{tab};
+ghost use Rattle.build_args.specs.Positions.{dataBase, linePosition, dataPosition};
+ghost use Rattle.build_args.specs.Picks.{pickPosition};
 ghost use Rattle.rom_image.specs.Wiring.{wiringOf};
 
 fn address_positions(a: AddrLayout) -> [u8; 24]

@@ -9,31 +9,32 @@ use lib.Dec.{leb, eqb}
 use lib.ListN.{length, getD}
 use borrow.Author.Tests.{le-leb, lt-leb, lt-ltb, le-ltb, eq-eqb, leb-true}
 use Rattle.gpio.specs.Candidates.{candidatesIn}
-use Rattle.gpio.specs.Each.{each}
-use Rattle.gpio.proofs.Bools.{and-right}
-use Rattle.gpio.proofs.Each.{each-all}
+use Rattle.lists.specs.Each.{each}
+use Rattle.lists.proofs.Bools.{and-right}
+use Rattle.lists.proofs.Each.{each-all}
 use Rattle.gpio.specs.declared.candidates.Candidates.{Candidates}
 use Rattle.gpio.specs.declared.candidates.Candidates.the-variants.{Absent, One, Two}
 use Rattle.slot.specs.declared.description.ChipSetType.{ChipSetType}
 use Rattle.slot.specs.declared.description.ChipSetType.the-variants.{Single, Banked, Multi}
 use Rattle.slot.specs.declared.description.Description.{Description}
 use Rattle.slot.specs.Description.{isSingle, isMulti}
-use Rattle.slot.specs.declared.refusal.Refusal.{Refusal}
-use Rattle.slot.specs.declared.refusal.Refusal.the-variants.{XPin}
-use Rattle.listing.specs.Listing.{orElse}
+use Rattle.refusal.specs.declared.Refusal.{Refusal}
+use Rattle.refusal.specs.declared.Refusal.the-variants.{XPin}
+use Rattle.refusal.specs.First.{orElse, faultIf}
 use Rattle.listing.specs.Choice.{CandidateOf}
-use Rattle.listing.specs.declared.FirstFault.{FirstFault}
-use Rattle.listing.specs.declared.FirstFault.the-variants.{None}
+use Rattle.refusal.specs.declared.first.FirstFault.{FirstFault}
+use Rattle.refusal.specs.declared.first.FirstFault.the-variants.{None}
 use Rattle.addr_layout.specs.Law.{InWindow, SoundLayout}
 use Rattle.addr_layout.specs.declared.layout.AddrLayout.{AddrLayout}
 use Rattle.cs_data_layout.specs.declared.layout.CsDataLayout.{CsDataLayout}
-use Rattle.rom_slot.specs.Positions.{dataBase}
-use Rattle.rom_slot.specs.Faults.{faultIf, chipsFit, tableSize}
-use Rattle.rom_slot.proofs.Firsts.{none-of}
-use Rattle.unscramble.specs.Stored as stored
-use Rattle.unscramble.specs.Faults.{layoutFault, romFault, xFault, xFaults, selectFault, pickFault, roomFault, romsFault}
-use Rattle.unscramble.specs.Words.{allWords}
-use Rattle.unscramble.specs.declared.stored.StoredSlot.{StoredSlot}
+use Rattle.build_args.specs.Positions.{dataBase}
+use Rattle.build_args.specs.Faults.{tableSize}
+use Rattle.picks.specs.Picks.{chipsFit}
+use Rattle.refusal.proofs.Firsts.{none-of}
+use Rattle.stored_slot.specs.Stored as stored
+use Rattle.stored_slot.specs.Faults.{layoutFault, romFault, xFault, xFaults, selectFault, pickFault, roomFault, romsFault}
+use Rattle.stored_slot.specs.Words.{allWords}
+use Rattle.stored_slot.specs.declared.stored.StoredSlot.{StoredSlot}
 use Rattle.round_trip.specs.WellWired.{OneInside, WellWired, Mapped, StoredAs}
 use Rattle.round_trip.proofs.Fitted.{ToldApart}
 use Rattle.round_trip.proofs.Given.{window-is, is-window}

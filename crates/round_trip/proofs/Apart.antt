@@ -18,12 +18,14 @@ use Rattle.listing.specs.Lines.{pinSocket}
 use Rattle.addr_layout.specs.Lines.{lineSocket, offBefore}
 use Rattle.addr_layout.specs.Choices.{inRange}
 use Rattle.addr_layout.specs.Law.{InWindow, XLaid, SoundLayout}
-use Rattle.addr_layout.specs.declared.layout.XGpio.{XGpio}
-use Rattle.addr_layout.specs.declared.layout.XGpio.the-variants.{At}
+use Rattle.gpio.specs.declared.line.LineGpio.{LineGpio}
+use Rattle.gpio.specs.declared.line.LineGpio.the-variants.{At}
 use Rattle.addr_layout.specs.declared.layout.AddrLayout.{AddrLayout}
 use Rattle.cs_data_layout.specs.declared.layout.CsDataLayout.{CsDataLayout}
-use Rattle.rom_slot.specs.Positions.{linePosition, xPosition}
-use Rattle.rom_slot.specs.Picks.{xLines, picksOf, numPicks, firstSelect, xGpio, pickOf, pickPosition}
+use Rattle.build_args.specs.Positions.{linePosition}
+use Rattle.picks.specs.Positions.{xPosition}
+use Rattle.build_args.specs.Picks.{numPicks, firstSelect, xGpio, pickOf, pickPosition}
+use Rattle.picks.specs.Picks.{xLines, picksOf}
 use Rattle.round_trip.specs.WellWired.{BoardPin, candidatesOf, Unshared, addressPin, selectPin, WellWired}
 use Rattle.round_trip.specs.WellWired.BoardPin.{socket, x1, x2}
 use Rattle.round_trip.proofs.Fitted.{indexPosition}
@@ -71,7 +73,7 @@ pub record SelectAt (d : Description) (a : AddrLayout) (c : CsDataLayout) (s : �
   pub inside : InWindow a gpio
 
 module _ (d : Description) (ca : ℕ) (a : AddrLayout) (sound : SoundLayout d ca a) (c : CsDataLayout) (s : ℕ) where
-  x-laid : (pin : BoardPin) (x : XGpio) → XLaid a (candidatesOf (d .board) pin) x → Line (d .board) a (xPosition (a .«gpio_base») x) pin
+  x-laid : (pin : BoardPin) (x : LineGpio) → XLaid a (candidatesOf (d .board) pin) x → Line (d .board) a (xPosition (a .«gpio_base») x) pin
   x-laid pin x l = record { gpio = l .0; at = ap (xPosition (a .«gpio_base»)) (l .1); candidate = l .2; inside = l .3 }
 
   x-line : isSingle (d .«set_type») ≡ false → (k : ℕ) → k < xLines (d .«num_chips») → Line (d .board) a (xPosition (a .«gpio_base») (xGpio a k)) (xPin k)

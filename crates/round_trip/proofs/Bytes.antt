@@ -7,7 +7,7 @@ use native.Mathlib.Numerals.{add-one}
 use native.Mathlib.Omega.{arith}
 use lib.ListN.{length, take, drop, getD}
 use lib.Seq.{drop-cons, take-add}
-use Rattle.gpio.specs.Tab.{joined}
+use Rattle.lists.specs.Tab.{joined}
 use Rattle.words.specs.Words.{wordFrom, word, bytesOf, wordsBytes}
 
 low-byte : (x y : ℕ) → x < 256 → (x + 256 * y) % 256 ≡ x

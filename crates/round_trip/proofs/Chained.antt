@@ -6,8 +6,8 @@ use Prim.Native.Nat.{ℕ, _≤_, _<_, _^_}
 use native.Mathlib.Omega.{arith}
 use lib.ListN.{length, getD}
 use Rattle.slot.specs.declared.description.Description.{Description}
-use Rattle.slot.specs.declared.refusal.Refusal.{Refusal}
-use Rattle.listing.specs.declared.FirstFault.{FirstFault}
+use Rattle.refusal.specs.declared.Refusal.{Refusal}
+use Rattle.refusal.specs.declared.first.FirstFault.{FirstFault}
 use Rattle.addr_layout.specs.Search.{addrAnswer}
 use Rattle.addr_layout.specs.declared.layout.AddrLayout.{AddrLayout}
 use Rattle.addr_layout.specs.declared.layout.AddrOutcome.{AddrOutcome}
@@ -16,8 +16,8 @@ use Rattle.cs_data_layout.specs.Search.{csDataAnswer}
 use Rattle.cs_data_layout.specs.declared.layout.CsDataLayout.{CsDataLayout}
 use Rattle.cs_data_layout.specs.declared.layout.CsDataOutcome.{CsDataOutcome}
 use Rattle.cs_data_layout.specs.declared.layout.CsDataAnswer.{CsDataAnswer}
-use Rattle.rom_slot.specs.Faults.{tableSize}
-use Rattle.rom_slot.specs.declared.images.ImageSpan.{ImageSpan}
+use Rattle.build_args.specs.Faults.{tableSize}
+use Rattle.build_args.specs.declared.images.ImageSpan.{ImageSpan}
 use Rattle.rom_image.specs.Build.{Built, built, buildOf}
 use Rattle.rom_image.specs.declared.BuildAnswer.{BuildAnswer}
 use Rattle.unscramble.specs.Recovered.{ReadBack, readBack}

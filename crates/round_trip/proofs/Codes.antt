@@ -5,12 +5,11 @@ use Prim.Native.Nat.{ℕ, zero, suc, _+_, _^_, _≤_, _<_}
 use native.Mathlib.Omega.{arith}
 use lib.Dec.{leb}
 use borrow.Author.Tests.{lt-ltb, eqb-true, leb-true, leb-false}
-use Rattle.gpio.proofs.Bools.{and-right}
+use Rattle.lists.proofs.Bools.{and-right}
 use Rattle.slot.specs.declared.description.ChipSetType.{ChipSetType}
 use Rattle.slot.specs.declared.description.ChipSetType.the-variants.{Single, Banked, Multi}
-use Rattle.rom_slot.specs.Picks.{picksOf, pickedBy}
-use Rattle.rom_slot.specs.Faults.{chipsFit}
-use Rattle.rom_slot.specs.declared.picks.Picked.the-variants.{Chip}
+use Rattle.picks.specs.Picks.{picksOf, pickedBy, chipsFit}
+use Rattle.picks.specs.declared.Picked.the-variants.{Chip}
 
 abbrev pub codeOf : ChipSetType → ℕ → ℕ
 codeOf Single k = 0

@@ -8,11 +8,12 @@ use Rattle.slot.specs.Description.{noChip}
 use Rattle.slot.specs.declared.description.Description.{Description}
 use Rattle.addr_layout.specs.declared.layout.AddrLayout.{AddrLayout}
 use Rattle.cs_data_layout.specs.declared.layout.CsDataLayout.{CsDataLayout}
-use Rattle.rom_slot.specs.Positions.{linePosition, dataPosition}
-use Rattle.rom_slot.specs.Picks.{numPicks, pickPosition}
-use Rattle.unscramble.specs.Stored as stored
+use Rattle.build_args.specs.Positions.{linePosition, dataPosition}
+use Rattle.build_args.specs.Picks.{numPicks, pickPosition}
+use Rattle.stored_slot.specs.Stored as stored
+use Rattle.stored_slot.specs.Words as sizes
 use Rattle.unscramble.specs.Words as read
-use Rattle.unscramble.specs.declared.stored.StoredSlot.{StoredSlot}
+use Rattle.stored_slot.specs.declared.stored.StoredSlot.{StoredSlot}
 
 -- "the same .. chips, sizes and w", "Its address base and pins are the address layout's, its data base the lowest data GPIO, every
 -- ROM's map the lines in use and the data GPIOs", and the lines that pick at the same positions
@@ -24,7 +25,7 @@ pub record Fitted (d : Description) (a : AddrLayout) (c : CsDataLayout) (s : Sto
   pub lines : (k : ℕ) → k < d .«num_chips» → stored.addrLines (stored.romAt s k) ≡ a .«num_lines»
   pub line : (k n : ℕ) → k < d .«num_chips» → n < a .«num_lines» → stored.addrPosition s k n ≡ linePosition a n
   pub data-line : (k n : ℕ) → k < d .«num_chips» → n < c .«num_data_pins» → stored.dataPosition s k n ≡ dataPosition c n
-  pub pick : (k : ℕ) → k < numPicks d → read.pickPosition s (d .«set_type») k ≡ pickPosition d a c k
+  pub pick : (k : ℕ) → k < numPicks d → sizes.pickPosition s (d .«set_type») k ≡ pickPosition d a c k
   pub unforced : (i : ℕ) → stored.free s i ≡ true
 
 -- the index's lines: those in use, then those that pick

@@ -7,8 +7,8 @@ use native.Mathlib.Omega.{arith}
 use lib.Dec.{leb, ltb, eqb}
 use lib.ListN.{getD}
 use borrow.Author.Tests.{leb-true, ltb-true, le-leb, lt-ltb, ne-eqb}
-use Rattle.gpio.proofs.Bools.{and-left, and-right}
-use Rattle.gpio.proofs.Each.{each-all}
+use Rattle.lists.proofs.Bools.{and-left, and-right}
+use Rattle.lists.proofs.Each.{each-all}
 use Rattle.gpio.specs.declared.candidates.Candidates.{Candidates}
 use Rattle.gpio.specs.declared.candidates.Candidates.the-variants.{Absent, One, Two}
 use Rattle.bits.specs.Bits.{bit}
@@ -18,14 +18,16 @@ use Rattle.slot.specs.declared.description.ChipSetType.the-variants.{Single, Ba
 use Rattle.slot.specs.declared.description.Description.{Description}
 use Rattle.listing.specs.Choice.{CandidateOf}
 use Rattle.addr_layout.specs.Law.{InWindow, XLaid, SoundLayout}
-use Rattle.addr_layout.specs.declared.layout.XGpio.{XGpio}
+use Rattle.gpio.specs.declared.line.LineGpio.{LineGpio}
 use Rattle.addr_layout.specs.declared.layout.AddrLayout.{AddrLayout}
 use Rattle.cs_data_layout.specs.declared.layout.CsDataLayout.{CsDataLayout}
-use Rattle.rom_slot.specs.Positions.{xPosition}
-use Rattle.rom_slot.specs.Picks.{xLines, picksOf, xGpio, pickOf}
-use Rattle.unscramble.specs.Stored as stored
+use Rattle.picks.specs.Positions.{xPosition}
+use Rattle.build_args.specs.Picks.{xGpio, pickOf}
+use Rattle.picks.specs.Picks.{xLines, picksOf}
+use Rattle.stored_slot.specs.Stored as stored
+use Rattle.stored_slot.specs.Words as sizes
 use Rattle.unscramble.specs.Words as read
-use Rattle.unscramble.specs.declared.stored.StoredSlot.{StoredSlot}
+use Rattle.stored_slot.specs.declared.stored.StoredSlot.{StoredSlot}
 use Rattle.round_trip.specs.WellWired.{OneInside, WellWired, StoredAs}
 use Rattle.round_trip.proofs.Fitted.{Fitted}
 use Rattle.round_trip.proofs.Apart.{x-few, x-third}
@@ -62,7 +64,7 @@ module _ (d : Description) (a : AddrLayout) (c : CsDataLayout) (s : StoredSlot) 
   x-inside (Two h i) p o k w = inside-two h i p (stored.inWindow s h) refl o k w
 
   module _ (ca : ℕ) (sound : SoundLayout d ca a) (wired : WellWired d a) where
-    x-same : (x : Candidates) (y : XGpio) (z : Candidates) → z ≡ x → OneInside a x → XLaid a x y
+    x-same : (x : Candidates) (y : LineGpio) (z : Candidates) → z ≡ x → OneInside a x → XLaid a x y
         → stored.xInside s z - stored.addrBase s ≡ xPosition (a .«gpio_base») y
     x-same x y z e o l =
         ap (λ (v : Candidates). stored.xInside s v - stored.addrBase s) e
@@ -71,7 +73,7 @@ module _ (d : Description) (a : AddrLayout) (c : CsDataLayout) (s : StoredSlot) 
         ∙ ap (xPosition (a .«gpio_base»)) (sym (l .1))
 
     x-position : isSingle (d .«set_type») ≡ false → (k : ℕ) → k < xLines (d .«num_chips»)
-        → read.xAt s k - stored.addrBase s ≡ xPosition (a .«gpio_base») (xGpio a k)
+        → sizes.xAt s k - stored.addrBase s ≡ xPosition (a .«gpio_base») (xGpio a k)
     x-position m zero l = x-same (d .board .x1) (a .«x1_gpio») (s .x1) (g .x1) (wired .x1-inside m) (sound .x1 m)
     x-position m (suc zero) l =
         let three = x-third (d .«num_chips») 1 (leb 3 (d .«num_chips»)) refl l (omega arith) in
@@ -82,7 +84,7 @@ module _ (d : Description) (a : AddrLayout) (c : CsDataLayout) (s : StoredSlot) 
     later-pick k = rw (ne-eqb (suc k) 0 (λ e. omega arith), suc-less k)
 
     multi-position : isMulti (d .«set_type») ≡ true → isSingle (d .«set_type») ≡ false → (k : ℕ) → k < 1 + xLines (d .«num_chips»)
-        → read.pickGpio s Multi k - stored.addrBase s ≡ xPosition (a .«gpio_base») (pickOf Multi a c k)
+        → sizes.pickGpio s Multi k - stored.addrBase s ≡ xPosition (a .«gpio_base») (pickOf Multi a c k)
     multi-position m o zero l =
         ap (λ (v : ℕ). stored.selectGpio s - v) (g .addr-base) ∙ ap (xPosition (a .«gpio_base»)) (sym (g .select m))
     multi-position m o (suc k) l =
@@ -90,7 +92,7 @@ module _ (d : Description) (a : AddrLayout) (c : CsDataLayout) (s : StoredSlot) 
         ∙ ap (xPosition (a .«gpio_base»)) (sym (later-pick k))
 
     pick-position : (t : ChipSetType) → d .«set_type» ≡ t → (k : ℕ) → k < picksOf t (d .«num_chips»)
-        → read.pickPosition s t k ≡ xPosition (a .«gpio_base») (pickOf t a c k)
+        → sizes.pickPosition s t k ≡ xPosition (a .«gpio_base») (pickOf t a c k)
     pick-position Single e k l = absurd (omega arith)
     pick-position Banked e k l = x-position (ap isSingle e) k l
     pick-position Multi e k l = multi-position (ap isMulti e) (ap isSingle e) k l

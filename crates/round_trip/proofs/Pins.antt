@@ -7,14 +7,14 @@ use native.Mathlib.Nat.{eq-or-lt-of-le}
 use native.Mathlib.Omega.{arith}
 use lib.Dec.{leb, eqb, ltb}
 use borrow.Author.Tests.{leb-true, eqb-true, eqb-false, ltb-true, ltb-false}
-use Rattle.gpio.specs.Each.{tally}
-use Rattle.gpio.proofs.Bools.{and-left}
+use Rattle.lists.specs.Each.{tally}
+use Rattle.lists.proofs.Bools.{and-left}
 use Rattle.gpio.specs.declared.candidates.Candidates.the-variants.{Absent}
 use Rattle.slot.specs.Description.{isSingle}
 use Rattle.slot.specs.SlotContext.{raisedOf}
 use Rattle.slot.specs.declared.description.Board.{Board}
 use Rattle.slot.specs.declared.description.Description.{Description}
-use Rattle.slot.specs.declared.refusal.Refusal.the-variants.{NoValidLayout}
+use Rattle.refusal.specs.declared.Refusal.the-variants.{NoValidLayout}
 use Rattle.slot.specs.declared.slot_context.Socket.{Socket}
 use Rattle.slot.specs.declared.slot_context.Socket.the-variants.{On, Off}
 use Rattle.listing.specs.Listing.{listed, xListed}

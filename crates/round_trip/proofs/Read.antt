@@ -6,26 +6,29 @@ use Prim.Native.Nat.{ℕ, zero, suc, _^_, _<_}
 use native.Mathlib.Omega.{arith}
 use lib.ListN.{getD}
 use borrow.Author.Tests.{eq-eqb, ne-eqb}
-use Rattle.gpio.specs.Tab.{joined}
+use Rattle.lists.specs.Tab.{joined}
 use Rattle.words.specs.Words.{word, wordsBytes}
 use Rattle.words.proofs.Words.{words-cong}
 use Rattle.slot.specs.declared.description.Description.{Description}
-use Rattle.slot.specs.declared.refusal.Refusal.{Refusal}
+use Rattle.refusal.specs.declared.Refusal.{Refusal}
 use Rattle.addr_layout.specs.declared.layout.AddrLayout.{AddrLayout}
 use Rattle.cs_data_layout.specs.declared.layout.CsDataLayout.{CsDataLayout}
-use Rattle.listing.specs.declared.FirstFault.the-variants.{None}
-use Rattle.rom_slot.specs.Images.{spanAt, chipBytes}
-use Rattle.rom_slot.specs.Faults.{faultIf, chipsFit, entriesOf}
-use Rattle.rom_slot.specs.declared.images.ImageSpan.{ImageSpan}
-use Rattle.rom_slot.specs.declared.picks.Picked.{Picked}
-use Rattle.rom_slot.specs.declared.picks.Picked.the-variants.{NoChip, Chip}
-use Rattle.rom_slot.proofs.Firsts.{none-of}
+use Rattle.refusal.specs.declared.first.FirstFault.the-variants.{None}
+use Rattle.build_args.specs.Images.{spanAt, chipBytes}
+use Rattle.build_args.specs.Faults.{entriesOf}
+use Rattle.picks.specs.Picks.{chipsFit}
+use Rattle.refusal.specs.First.{faultIf}
+use Rattle.build_args.specs.declared.images.ImageSpan.{ImageSpan}
+use Rattle.picks.specs.declared.Picked.{Picked}
+use Rattle.picks.specs.declared.Picked.the-variants.{NoChip, Chip}
+use Rattle.refusal.proofs.Firsts.{none-of}
 use Rattle.rom_image.specs.Entry.{tableOf}
-use Rattle.kept.proofs.First.{first-passes, first-found}
-use Rattle.unscramble.specs.Stored as stored
+use Rattle.lists.proofs.First.{first-passes, first-found}
+use Rattle.stored_slot.specs.Stored as stored
+use Rattle.stored_slot.specs.Words as sizes
 use Rattle.unscramble.specs.Words as read
 use Rattle.unscramble.specs.Recovered.{firstFor, keptValue, disagreesFor, inconsistent, unservedIn, unserved, recovered}
-use Rattle.unscramble.specs.declared.stored.StoredSlot.{StoredSlot}
+use Rattle.stored_slot.specs.declared.stored.StoredSlot.{StoredSlot}
 use Rattle.unscramble.proofs.Serves as serves
 use Rattle.unscramble.proofs.Serves.{serves-picks, serves-address, serves-counted, serves-is}
 use Rattle.round_trip.proofs.Fitted.{Fitted, ToldApart}
@@ -79,7 +82,7 @@ module _ (d : Description) (a : AddrLayout) (c : CsDataLayout) (images : List �
   consistent = none-of (2 ^ stored.pinsOf s) _ (λ i l. agrees i l (read.pickedAt s (d .«set_type») i))
 
   -- a counted word has an entry
-  module _ (rom n : ℕ) (l : rom < d .«num_chips») (q : n < read.romWords s rom) where
+  module _ (rom n : ℕ) (l : rom < d .«num_chips») (q : n < sizes.romWords s rom) where
     addressed : n < 2 ^ a .«num_lines»
     addressed = let e : 2 ^ stored.addrLines (stored.romAt s rom) ≡ 2 ^ a .«num_lines» = ap (λ (x : ℕ). 2 ^ x) (f .lines rom l) in omega (arith, e, q)
 
@@ -103,13 +106,13 @@ module _ (d : Description) (a : AddrLayout) (c : CsDataLayout) (images : List �
     kept-one = kept-value rom n at at-lt at-serves
 
   pub all-served : unserved s (d .«set_type») ≡ None
-  all-served = none-of (s .«num_roms») _ (λ rom l. none-of (read.romWords s rom) _ (λ n q. served-one rom n (rw (← f .chips) l) q))
+  all-served = none-of (s .«num_roms») _ (λ rom l. none-of (sizes.romWords s rom) _ (λ n q. served-one rom n (rw (← f .chips) l) q))
 
   -- "each chip's first min(size / word bytes rounded down, 2^lines) words .. chip after chip"
-  pub recovered-words : recovered s (d .«set_type») table ≡ joined (d .«num_chips») (λ rom. wordsBytes (d .«word_bytes») (wordIn rom) (read.romWords s rom))
+  pub recovered-words : recovered s (d .«set_type») table ≡ joined (d .«num_chips») (λ rom. wordsBytes (d .«word_bytes») (wordIn rom) (sizes.romWords s rom))
   unfolding recovered
   recovered-words =
       joined-cong (s .«num_roms») _ _ (λ rom l.
-      ap (λ (w : ℕ). wordsBytes w (keptValue s (d .«set_type») table rom) (read.romWords s rom)) (f .bytes)
-      ∙ words-cong (d .«word_bytes») _ _ (read.romWords s rom) (λ n q. kept-one rom n (rw (← f .chips) l) q))
-      ∙ ap (λ (n : ℕ). joined n (λ rom. wordsBytes (d .«word_bytes») (wordIn rom) (read.romWords s rom))) (f .chips)
+      ap (λ (w : ℕ). wordsBytes w (keptValue s (d .«set_type») table rom) (sizes.romWords s rom)) (f .bytes)
+      ∙ words-cong (d .«word_bytes») _ _ (sizes.romWords s rom) (λ n q. kept-one rom n (rw (← f .chips) l) q))
+      ∙ ap (λ (n : ℕ). joined n (λ rom. wordsBytes (d .«word_bytes») (wordIn rom) (sizes.romWords s rom))) (f .chips)

@@ -10,45 +10,46 @@ use lib.ListN.{length, take, drop, replicate, getD, length-take, List·getD-eq-d
 use lib.Seq.{take-at, getD-take, getD-drop}
 use borrow.Author.Tests.{le-leb, eq-eqb, ltb-true, ltb-false, leb-true, lt-leb}
 use Rattle.gpio.specs.Candidates.{candidatesIn}
-use Rattle.gpio.specs.Each.{each}
-use Rattle.gpio.specs.Tab.{joined}
+use Rattle.lists.specs.Each.{each, between}
+use Rattle.lists.specs.Tab.{joined}
 use Rattle.gpio.specs.Window.{fits}
-use Rattle.gpio.proofs.Bools.{and-left, and-right}
-use Rattle.gpio.proofs.Each.{each-all, each-at}
+use Rattle.lists.proofs.Bools.{and-left, and-right}
+use Rattle.lists.proofs.Each.{each-all, each-at}
 use Rattle.gpio.proofs.Fits.{fits-within}
 use Rattle.words.specs.Words.{word, wordsBytes}
 use Rattle.words.proofs.Words.{words-length}
 use Rattle.slot.specs.Description.{isMulti, noChip}
 use Rattle.slot.specs.declared.description.Description.{Description}
-use Rattle.slot.specs.declared.refusal.Refusal.{Refusal}
-use Rattle.slot.specs.declared.refusal.Refusal.the-variants.{OutOfDomain}
+use Rattle.refusal.specs.declared.Refusal.{Refusal}
+use Rattle.refusal.specs.declared.Refusal.the-variants.{OutOfDomain}
 use Rattle.slot.specs.SlotContext.{boardPinsIn, raisedOf}
-use Rattle.domain.specs.Domain.{between, pinsIn, controlIn, socketIn, boardIn, wordBytesIn, maxImageSizeIn, chipIn, chipsIn, multiIn, descriptionIn}
+use Rattle.domain.specs.Domain.{pinsIn, controlIn, socketIn, boardIn, wordBytesIn, maxImageSizeIn, chipIn, chipsIn, multiIn, descriptionIn}
 use Rattle.domain.proofs.Bounds.{board-in, chip-count}
-use Rattle.listing.specs.Listing.{orElse}
-use Rattle.listing.specs.declared.FirstFault.{FirstFault}
-use Rattle.listing.specs.declared.FirstFault.the-variants.{None, Of}
+use Rattle.refusal.specs.First.{orElse}
+use Rattle.refusal.specs.declared.first.FirstFault.{FirstFault}
+use Rattle.refusal.specs.declared.first.FirstFault.the-variants.{None, Of}
 use Rattle.addr_layout.specs.Law as addr
 use Rattle.addr_layout.specs.declared.layout.AddrLayout.{AddrLayout}
 use Rattle.cs_data_layout.specs.declared.layout.CsDataLayout.{CsDataLayout}
-use Rattle.rom_slot.specs.Images.{spanAt, chipBytes}
-use Rattle.rom_slot.specs.Domain.{inDomain}
-use Rattle.rom_slot.specs.Faults.{entriesOf, tableSize, buildFault}
-use Rattle.rom_slot.specs.declared.images.ImageSpan.{ImageSpan}
+use Rattle.build_args.specs.Images.{spanAt, chipBytes}
+use Rattle.build_args.specs.Domain.{inDomain}
+use Rattle.build_args.specs.Faults.{entriesOf, tableSize, buildFault}
+use Rattle.build_args.specs.declared.images.ImageSpan.{ImageSpan}
 use Rattle.rom_image.specs.Entry.{entryAt, tableOf}
 use Rattle.rom_image.specs.Build.{Built, built, afterFault, buildOf}
 use Rattle.rom_image.specs.declared.BuildAnswer.{BuildAnswer}
-use Rattle.addr_layout.specs.declared.layout.XGpio.the-variants.{At}
-use Rattle.unscramble.specs.Stored as stored
-use Rattle.unscramble.specs.Faults.{wrongSize, romsFault}
+use Rattle.gpio.specs.declared.line.LineGpio.the-variants.{At}
+use Rattle.stored_slot.specs.Stored as stored
+use Rattle.stored_slot.specs.Faults.{wrongSize, romsFault}
+use Rattle.stored_slot.specs.Words as sizes
 use Rattle.unscramble.specs.Words as read
 use Rattle.unscramble.specs.Recovered as recover
 use Rattle.unscramble.specs.Recovered.{readBack, front, inconsistent, unserved, recovered, unscrambled}
-use Rattle.unscramble.specs.declared.stored.StoredSlot.{StoredSlot}
+use Rattle.stored_slot.specs.declared.stored.StoredSlot.{StoredSlot}
 use Rattle.round_trip.specs.WellWired.{WellWired, StoredAs}
 use Rattle.round_trip.proofs.Fitted.{Fitted, ToldApart}
 use Rattle.round_trip.specs.RoundTrip.{Accepted, tableBuilt, chipWords, wordsTo, words, Room, firstBytes, asBefore, ReadsBack}
-use Rattle.rom_slot.proofs.Facts.{described, selected, data-base}
+use Rattle.build_args.proofs.Facts.{described, selected, data-base}
 use Rattle.rom_image.proofs.Buildable.{Buildable}
 use Rattle.rom_image.proofs.Past.{buildable, pins-few}
 use Rattle.round_trip.proofs.Laid.{Found-at, addr-found, Cs-found-at, cs-found}
@@ -145,16 +146,16 @@ stored-in d a c s e g =
 
 -- as many words are counted as demand 3 says
 module _ (d : Description) (a : AddrLayout) (c : CsDataLayout) (s : StoredSlot) (f : Fitted d a c s) where
-  words-same : (k : ℕ) → k < d .«num_chips» → read.romWords s k ≡ chipWords d a k
+  words-same : (k : ℕ) → k < d .«num_chips» → sizes.romWords s k ≡ chipWords d a k
   words-same k l = rw (f .size k l, f .bytes, f .lines k l)
 
-  before-same : (n : ℕ) → n ≤ d .«num_chips» → read.wordsBefore s n ≡ wordsTo d a n
-  unfolding read.wordsBefore wordsTo
+  before-same : (n : ℕ) → n ≤ d .«num_chips» → sizes.wordsBefore s n ≡ wordsTo d a n
+  unfolding sizes.wordsBefore wordsTo
   before-same zero h = refl
   before-same (suc n) h = rw (before-same n (omega arith), words-same n (omega arith))
 
-  all-same : read.allWords s ≡ words d a
-  all-same = ap (read.wordsBefore s) (f .chips) ∙ before-same (d .«num_chips») (omega arith)
+  all-same : sizes.allWords s ≡ words d a
+  all-same = ap (sizes.wordsBefore s) (f .chips) ∙ before-same (d .«num_chips») (omega arith)
 
 -- a chip's counted words are in its bytes
 words-within : (x y w size long : ℕ) → x ≤ size / w → size ≤ long → x * w ≤ long
@@ -204,7 +205,7 @@ module _ (d : Description) (a : AddrLayout) (c : CsDataLayout) (images : List �
 
   -- what comes back of a chip
   chip-back : (k : ℕ) → k < d .«num_chips»
-      → wordsBytes (d .«word_bytes») (λ n. word (d .«word_bytes») (chipBytes images (spanAt spans k)) n) (read.romWords s k) ≡ firstBytes d a images spans k
+      → wordsBytes (d .«word_bytes») (λ n. word (d .«word_bytes») (chipBytes images (spanAt spans k)) n) (sizes.romWords s k) ≡ firstBytes d a images spans k
   chip-back k l =
       ap (λ (n : ℕ). wordsBytes (d .«word_bytes») (word (d .«word_bytes») (chipBytes images (spanAt spans k))) n) (words-same d a c s same-lines k l)
       ∙ words-take (d .«word_bytes») (chipBytes images (spanAt spans k)) (chipWords d a k) (chip-byte k)
@@ -264,7 +265,7 @@ module _ (d : Description) (a : AddrLayout) (c : CsDataLayout) (images : List �
       ∙ ap (recover.ofType s table output marks) (given .set-type)
       ∙ ap (recover.afterFault s (d .«set_type») table output marks) none-before
       ∙ ap (recover.afterEntries s (d .«set_type») table output marks) entries-none
-      ∙ ap (λ (r : List ℕ). readBack None (front r output) (front (replicate (read.allWords s) 1) marks)) all-back
+      ∙ ap (λ (r : List ℕ). readBack None (front r output) (front (replicate (sizes.allWords s) 1) marks)) all-back
       ∙ ap (λ (n : ℕ). readBack None (front (joined (d .«num_chips») (firstBytes d a images spans)) output) (front (replicate n 1) marks)) (all-same d a c s same-lines)
 
   pub round-trip : ReadsBack d a c images spans lent s output marks

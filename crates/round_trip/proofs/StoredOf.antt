@@ -7,25 +7,25 @@ use native.Mathlib.Omega.{arith}
 use lib.Dec.{ltb, eqb}
 use lib.ListN.{length, getD}
 use borrow.Author.Tests.{eq-eqb, ne-eqb, eqb-true, ltb-true, ltb-false, lt-ltb, le-ltb}
-use Rattle.gpio.proofs.Tab.{getD-tab}
+use Rattle.lists.proofs.Tab.{getD-tab}
 use Rattle.slot.specs.Description.{isMulti}
 use Rattle.slot.specs.declared.description.Description.{Description}
 use Rattle.domain.proofs.Bounds.{chip-count, word-bytes}
-use Rattle.addr_layout.specs.declared.layout.XGpio.the-variants.{At}
+use Rattle.gpio.specs.declared.line.LineGpio.the-variants.{At}
 use Rattle.addr_layout.specs.declared.layout.AddrLayout.{AddrLayout}
 use Rattle.cs_data_layout.specs.Law as cs
 use Rattle.cs_data_layout.proofs.Bounds.{line-in}
 use Rattle.cs_data_layout.specs.declared.layout.CsDataLayout.{CsDataLayout}
-use Rattle.rom_slot.specs.Picks.{firstSelect}
-use Rattle.rom_slot.specs.Faults.{tableSize}
-use Rattle.rom_slot.specs.declared.images.ImageSpan.{ImageSpan}
-use Rattle.rom_slot.proofs.Facts.{described, addressed, selected, lines-few, data-count}
+use Rattle.build_args.specs.Picks.{firstSelect}
+use Rattle.build_args.specs.Faults.{tableSize}
+use Rattle.build_args.specs.declared.images.ImageSpan.{ImageSpan}
+use Rattle.build_args.proofs.Facts.{described, addressed, selected, lines-few, data-count}
 use Rattle.rom_image.specs.Build.{buildOf}
 use Rattle.rom_image.specs.declared.BuildAnswer.{BuildAnswer}
 use Rattle.rom_image.proofs.Past.{table-small, table-fits, pins-few}
-use Rattle.unscramble.specs.Stored as stored
-use Rattle.unscramble.specs.declared.stored.Rom.{Rom}
-use Rattle.unscramble.specs.declared.stored.StoredSlot.{StoredSlot}
+use Rattle.stored_slot.specs.Stored as stored
+use Rattle.stored_slot.specs.declared.stored.Rom.{Rom}
+use Rattle.stored_slot.specs.declared.stored.StoredSlot.{StoredSlot}
 use Rattle.round_trip.specs.WellWired.{Mapped, StoredAs}
 use Rattle.round_trip.specs.RoundTrip.{Accepted}
 use Rattle.round_trip.specs.Stored.{mapOf, romOf, gpioOr0, storedOf}

@@ -19,12 +19,12 @@ use Rattle.addr_layout.specs.Lines.{addrListed}
 use Rattle.addr_layout.specs.Choices.{kindCandidates, layoutOf}
 use Rattle.addr_layout.specs.Law as addr
 use Rattle.addr_layout.specs.Law.Spanned.{of-select}
-use Rattle.addr_layout.specs.declared.layout.XGpio.the-variants.{At}
+use Rattle.gpio.specs.declared.line.LineGpio.the-variants.{At}
 use Rattle.addr_layout.specs.declared.layout.AddrLayout.{AddrLayout}
 use Rattle.cs_data_layout.specs.Law as cs
 use Rattle.cs_data_layout.specs.declared.layout.CsDataLayout.{CsDataLayout}
-use Rattle.rom_slot.specs.Positions.{dataPosition}
-use Rattle.rom_slot.specs.Picks.{firstSelect}
+use Rattle.build_args.specs.Positions.{dataPosition}
+use Rattle.build_args.specs.Picks.{firstSelect}
 use Rattle.round_trip.specs.WellWired.{BoardPin, candidatesOf, dataPin, selectPin, WellWired}
 use Rattle.round_trip.specs.WellWired.BoardPin.{socket, x1, x2}
 use Rattle.round_trip.proofs.Fitted.{ToldApart}

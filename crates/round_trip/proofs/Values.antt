@@ -17,16 +17,18 @@ use Rattle.words.proofs.Back.{word-of-words}
 use Rattle.slot.specs.declared.description.Description.{Description}
 use Rattle.addr_layout.specs.declared.layout.AddrLayout.{AddrLayout}
 use Rattle.cs_data_layout.specs.declared.layout.CsDataLayout.{CsDataLayout}
-use Rattle.rom_slot.specs.Images.{spanAt, chipBytes}
-use Rattle.rom_slot.specs.Positions.{linePosition, dataPosition}
-use Rattle.rom_slot.specs.Picks.{picksOf, numPicks, pickPosition, pickedBy}
-use Rattle.rom_slot.specs.Faults.{chipsFit, entriesOf}
-use Rattle.rom_slot.specs.declared.images.ImageSpan.{ImageSpan}
-use Rattle.rom_slot.specs.declared.picks.Picked.the-variants.{Chip}
+use Rattle.build_args.specs.Images.{spanAt, chipBytes}
+use Rattle.build_args.specs.Positions.{linePosition, dataPosition}
+use Rattle.build_args.specs.Picks.{numPicks, pickPosition}
+use Rattle.picks.specs.Picks.{picksOf, pickedBy, chipsFit}
+use Rattle.build_args.specs.Faults.{entriesOf}
+use Rattle.build_args.specs.declared.images.ImageSpan.{ImageSpan}
+use Rattle.picks.specs.declared.Picked.the-variants.{Chip}
 use Rattle.rom_image.specs.Entry.{chipAddress, pickedAt, wordCount, scrambled, entryAt, tableOf}
-use Rattle.unscramble.specs.Stored as stored
+use Rattle.stored_slot.specs.Stored as stored
+use Rattle.stored_slot.specs.Words as sizes
 use Rattle.unscramble.specs.Words as read
-use Rattle.unscramble.specs.declared.stored.StoredSlot.{StoredSlot}
+use Rattle.stored_slot.specs.declared.stored.StoredSlot.{StoredSlot}
 use Rattle.round_trip.proofs.Fitted.{Fitted, ToldApart}
 use Rattle.round_trip.proofs.Served as served
 use Rattle.round_trip.proofs.Codes.{codeOf, code-lt, code-picks}
@@ -44,7 +46,7 @@ module _ (d : Description) (a : AddrLayout) (c : CsDataLayout) (images : List �
   picked-same : (i : ℕ) → read.pickedAt s (d .«set_type») i ≡ pickedAt d a c i
   unfolding read.pickedAt pickedAt
   picked-same i =
-      ap (λ (n : ℕ). pickedBy (d .«set_type») n (gather (picksOf (d .«set_type») n) (read.pickPosition s (d .«set_type»)) i)) (f .chips)
+      ap (λ (n : ℕ). pickedBy (d .«set_type») n (gather (picksOf (d .«set_type») n) (sizes.pickPosition s (d .«set_type»)) i)) (f .chips)
       ∙ ap (pickedBy (d .«set_type») (d .«num_chips»)) (gather-cong (numPicks d) _ _ i (f .pick))
 
   address-same : (rom i : ℕ) → rom < d .«num_chips» → read.addressAt s rom i ≡ chipAddress a i
@@ -53,7 +55,7 @@ module _ (d : Description) (a : AddrLayout) (c : CsDataLayout) (images : List �
       ap (λ (n : ℕ). gather n (stored.addrPosition s rom) i) (f .lines rom l) ∙ gather-cong (a .«num_lines») _ _ i (λ k q. f .line rom k l q)
 
   -- the words that are counted are in the chip
-  counted : (rom n : ℕ) → rom < d .«num_chips» → n < read.romWords s rom → n < wordCount d rom
+  counted : (rom n : ℕ) → rom < d .«num_chips» → n < sizes.romWords s rom → n < wordCount d rom
   counted rom n l q =
       let e : stored.romAt s rom .«chip_size» / stored.wordBytes s ≡ wordCount d rom = rw (f .size rom l, f .bytes) in
       omega (arith, e, q)
@@ -83,7 +85,7 @@ module _ (d : Description) (a : AddrLayout) (c : CsDataLayout) (images : List �
       ∙ word-of-words (d .«word_bytes») (entryAt d a c images spans) (entriesOf a) [] i h (entry-lt i)
 
   pub value-is : (rom n i : ℕ) → rom < d .«num_chips» → i < entriesOf a → read.pickedAt s (d .«set_type») i ≡ Chip rom
-      → read.addressAt s rom i ≡ n → n < read.romWords s rom → read.valueAt s (tableOf d a c images spans) rom i ≡ wordIn rom n
+      → read.addressAt s rom i ≡ n → n < sizes.romWords s rom → read.valueAt s (tableOf d a c images spans) rom i ≡ wordIn rom n
   unfolding read.valueAt
   value-is rom n i l h p q r =
       let held = entry-holds rom n i l (sym (picked-same i) ∙ p) (sym (address-same rom i l) ∙ q) (counted rom n l r) in

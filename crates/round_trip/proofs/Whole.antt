@@ -5,7 +5,7 @@ use lib.ListN.{getD}
 use Rattle.slot.specs.declared.description.Description.{Description}
 use Rattle.addr_layout.specs.declared.layout.AddrLayout.{AddrLayout}
 use Rattle.cs_data_layout.specs.declared.layout.CsDataLayout.{CsDataLayout}
-use Rattle.rom_slot.specs.declared.images.ImageSpan.{ImageSpan}
+use Rattle.build_args.specs.declared.images.ImageSpan.{ImageSpan}
 use Rattle.round_trip.specs.WellWired.{WellWired}
 use Rattle.round_trip.specs.RoundTrip.{Accepted, Room, ReadsBack}
 use Rattle.round_trip.specs.Stored.{storedOf}

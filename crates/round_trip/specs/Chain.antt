@@ -5,9 +5,9 @@ use mathlib.Core.List.{List}
 use Prim.Native.Nat.{ℕ}
 use lib.ListN.{take}
 use Rattle.slot.specs.declared.description.Description.{Description}
-use Rattle.slot.specs.declared.refusal.Refusal.{Refusal}
-use Rattle.listing.specs.declared.FirstFault.{FirstFault}
-use Rattle.listing.specs.declared.FirstFault.the-variants.{Of}
+use Rattle.refusal.specs.declared.Refusal.{Refusal}
+use Rattle.refusal.specs.declared.first.FirstFault.{FirstFault}
+use Rattle.refusal.specs.declared.first.FirstFault.the-variants.{Of}
 use Rattle.addr_layout.specs.Search.{addrAnswer}
 use Rattle.addr_layout.specs.declared.layout.AddrLayout.{AddrLayout}
 use Rattle.addr_layout.specs.declared.layout.AddrOutcome.{AddrOutcome}
@@ -16,8 +16,8 @@ use Rattle.cs_data_layout.specs.Search.{csDataAnswer}
 use Rattle.cs_data_layout.specs.declared.layout.CsDataLayout.{CsDataLayout}
 use Rattle.cs_data_layout.specs.declared.layout.CsDataOutcome.{CsDataOutcome}
 use Rattle.cs_data_layout.specs.declared.layout.CsDataAnswer.{CsDataAnswer}
-use Rattle.rom_slot.specs.Faults.{tableSize}
-use Rattle.rom_slot.specs.declared.images.ImageSpan.{ImageSpan}
+use Rattle.build_args.specs.Faults.{tableSize}
+use Rattle.build_args.specs.declared.images.ImageSpan.{ImageSpan}
 use Rattle.rom_image.specs.Build.{Built, buildOf}
 use Rattle.rom_image.specs.declared.BuildAnswer.{BuildAnswer}
 use Rattle.unscramble.specs.Recovered.{ReadBack, unscrambled}
@@ -39,11 +39,13 @@ trip a t o m = record { answer = a; table = t; output = o; marks = m }
 abbrev pub stopped : Refusal → List ℕ → List ℕ → List ℕ → Trip
 stopped why table output marks = trip (Of why) table output marks
 
--- "Read-back's data are the bytes the build wrote"
+-- the table beside what read-back answers
 abbrev pub tripRead : List ℕ → ReadBack → Trip
 tripRead table r = trip (r .answer) table (r .output) (r .marks)
 
+-- 01 Well wired 9: read-back is handed the built table itself, cut to the size of a table
 abbrev pub readOf : Description → AddrLayout → CsDataLayout → List ℕ → List ℕ → List ℕ → Trip
+-- 01 Well wired 9: read-back is handed the built table itself, cut to the size of a table
 readOf d a c table output marks = tripRead table (unscrambled (storedOf d a c) (take (tableSize d a) table) output marks)
 
 abbrev pub afterBuild : Description → AddrLayout → CsDataLayout → List ℕ → List ℕ → BuildAnswer → List ℕ → Trip
@@ -53,7 +55,7 @@ afterBuild d a c output marks (BuildAnswer.Refused why) table = stopped why tabl
 abbrev pub buildTrip : Description → AddrLayout → CsDataLayout → List ℕ → List ℕ → Built → Trip
 buildTrip d a c output marks b = afterBuild d a c output marks (b .answer) (b .table)
 
--- "Both searches and the build go by one description, and the build by the layouts found."
+-- 01 Well wired 8: the build gets the description that the searches got, and the two layouts that they found
 abbrev pub afterSelect : Description → AddrLayout → List ℕ → List ImageSpan → List ℕ → List ℕ → List ℕ → CsDataOutcome → CsDataLayout → Trip
 afterSelect d a images spans table output marks CsDataOutcome.LaidOut c = buildTrip d a c output marks (buildOf d a c images spans table)
 afterSelect d a images spans table output marks (CsDataOutcome.Refused why) c = stopped why table output marks
@@ -61,9 +63,12 @@ afterSelect d a images spans table output marks (CsDataOutcome.Refused why) c = 
 abbrev pub selectTrip : Description → AddrLayout → List ℕ → List ImageSpan → List ℕ → List ℕ → List ℕ → CsDataAnswer → Trip
 selectTrip d a images spans table output marks x = afterSelect d a images spans table output marks (x .outcome) (x .layout)
 
+-- 01 Well wired 8: the select search gets the description that the address search got
 abbrev pub afterAddress : Description → List ℕ → List ImageSpan → List ℕ → List ℕ → List ℕ → AddrOutcome → AddrLayout → Trip
+-- 01 Well wired 8: the select search gets the description that the address search got
 afterAddress d images spans table output marks AddrOutcome.LaidOut a =
     selectTrip d a images spans table output marks (csDataAnswer d (record { given = true; layout = a }))
+-- 01 Well wired 8: the select search gets the description that the address search got
 afterAddress d images spans table output marks (AddrOutcome.Refused why) a = stopped why table output marks
 
 abbrev pub addressTrip : Description → List ℕ → List ImageSpan → List ℕ → List ℕ → List ℕ → AddrAnswer → Trip
@@ -72,7 +77,8 @@ addressTrip d images spans table output marks x = afterAddress d images spans ta
 unfoldable pub roundTripOf : Description → List ℕ → List ImageSpan → List ℕ → List ℕ → List ℕ → Trip
 roundTripOf d images spans table output marks = addressTrip d images spans table output marks (addrAnswer d)
 
--- demand 3 of an answer and of what output and marks hold then
+-- of an answer and of what output and marks hold then
+-- 00 Demand 3: if searches and build refuse nothing, the slot is well wired and the buffers have room, it is what asBefore says
 abbrev pub AsDemanded : Description → List ℕ → List ImageSpan → List ℕ → List ℕ → List ℕ → ReadBack → Type 0
 AsDemanded d images spans table output marks r =
     (a : AddrLayout) (c : CsDataLayout) → Accepted d a c images spans table → WellWired d a → Room d a output marks → r ≡ asBefore d a images spans output marks

@@ -1,30 +1,32 @@
--- What read-back is given of a found layout: document 01, "Well wired", from "Read-back is given" on. Assumes nothing.
+-- What read-back is given of a found layout, by the last sentences of document 01 on a well wired slot. Assumes nothing.
 use mathlib.Core.Bool.{true, cond}
 use mathlib.Core.List.{List}
 use Prim.Native.Nat.{ℕ, _-_}
 use lib.Dec.{ltb}
 use lib.ListN.{getD, replicate}
-use Rattle.gpio.specs.Tab.{tab}
+use Rattle.lists.specs.Tab.{tab}
 use Rattle.slot.specs.Description.{noChip}
 use Rattle.slot.specs.declared.description.Description.{Description}
-use Rattle.addr_layout.specs.declared.layout.XGpio.{XGpio}
-use Rattle.addr_layout.specs.declared.layout.XGpio.the-variants.{Unused, At}
+use Rattle.gpio.specs.declared.line.LineGpio.{LineGpio}
+use Rattle.gpio.specs.declared.line.LineGpio.the-variants.{Unused, At}
 use Rattle.addr_layout.specs.declared.layout.AddrLayout.{AddrLayout}
 use Rattle.cs_data_layout.specs.declared.layout.CsDataLayout.{CsDataLayout}
-use Rattle.rom_slot.specs.Picks.{firstSelect}
-use Rattle.rom_slot.specs.Faults.{tableSize}
-use Rattle.unscramble.specs.declared.stored.SlotType.the-variants.{Roms}
-use Rattle.unscramble.specs.declared.stored.AlgAddr.{AlgAddr}
-use Rattle.unscramble.specs.declared.stored.AlgData.{AlgData}
-use Rattle.unscramble.specs.declared.stored.AlgCs.{AlgCs}
-use Rattle.unscramble.specs.declared.stored.Rom.{Rom}
-use Rattle.unscramble.specs.declared.stored.StoredSlot.{StoredSlot}
+use Rattle.build_args.specs.Picks.{firstSelect}
+use Rattle.build_args.specs.Faults.{tableSize}
+use Rattle.stored_slot.specs.declared.stored.SlotType.the-variants.{Roms}
+use Rattle.stored_slot.specs.declared.stored.AlgAddr.{AlgAddr}
+use Rattle.stored_slot.specs.declared.stored.AlgData.{AlgData}
+use Rattle.stored_slot.specs.declared.stored.AlgCs.{AlgCs}
+use Rattle.stored_slot.specs.declared.stored.Rom.{Rom}
+use Rattle.stored_slot.specs.declared.stored.StoredSlot.{StoredSlot}
 
--- "Lists end at 255.": a map's list of the first n GPIOs
+-- a map's list of the first n GPIOs
+-- 01 unscramble 3: a list of fewer than 32 goes on with 255
 abbrev pub mapOf : List ℕ → ℕ → List ℕ
 mapOf gpios n = tab 32 (λ k. cond (ltb k n) (getD gpios k 0) 255)
 
--- "every ROM's map the lines in use and the data GPIOs", and its size
+-- 01 Well wired 11: a ROM has its chip's size
+-- 01 Well wired 12: a ROM's map lists the GPIOs of the address lines in use, and those of the data lines
 abbrev pub romOf : Description → AddrLayout → CsDataLayout → ℕ → Rom
 romOf d a c k = record {
   «has_map» = true;
@@ -34,24 +36,27 @@ romOf d a c k = record {
 }
 
 -- a line's GPIO; 0 where there is none
-abbrev pub gpioOr0 : XGpio → ℕ
+abbrev pub gpioOr0 : LineGpio → ℕ
 gpioOr0 Unused = 0
 gpioOr0 (At g) = g
 
--- "known address, data and DMA algorithms": "Its address base and pins are the address layout's"
+-- 01 Well wired 11: the address algorithm is 0, which is known
+-- 01 Well wired 12: base and number of pins come from the address layout
 abbrev pub algAddrOf : AddrLayout → AlgAddr
 algAddrOf a = record { alg = 0; «gpio_base» = a .«gpio_base»; «base_addr_pin» = 0; «num_addr_pins» = a .«num_addr_pins» }
 
--- "its data base the lowest data GPIO"
+-- 01 Well wired 11: the data algorithm is 0, which is known
+-- 01 Well wired 12: base and base pin come from the select layout, and add up to the lowest data GPIO
 abbrev pub algDataOf : CsDataLayout → AlgData
 algDataOf c = record { alg = 0; «gpio_base» = c .«gpio_base»; «base_data_pin» = c .«base_data_pin» }
 
--- "Multi's select AlgCs0 with the first select line's GPIO"
+-- 01 Well wired 12: the select algorithm is AlgCs0, and its sum of base and pin the GPIO of the first select line
 abbrev pub algCsOf : CsDataLayout → AlgCs
 algCsOf c = record { alg = 0; «gpio_base» = gpioOr0 (firstSelect c); «first_rom_cs_base» = 0 }
 
--- "Read-back is given the found layout, the same set kind, chips, sizes and w, .. the bit mode of w, the table's length as its declared
--- size, the X candidates"; no override, so that "Nothing is forced"
+-- 01 Well wired 10: no override is given, so that no bit is forced
+-- 01 Well wired 11: set kind, number of ROMs and X candidates come from the description, the bit mode from its w; the DMA algorithm
+-- is 0, which is known; the declared size is that of the table
 unfoldable pub storedOf : Description → AddrLayout → CsDataLayout → StoredSlot
 storedOf d a c = record {
   size = tableSize d a;
@@ -64,6 +69,7 @@ storedOf d a c = record {
   overrides = replicate 64 0;
   «num_overrides» = 0;
   x1 = d .board .x1;
+  -- 01 addr_layout 5: in such a set of at least 3 chips it has X2, likewise
   x2 = d .board .x2;
   roms = tab 4 (romOf d a c);
   «num_roms» = d .«num_chips»;

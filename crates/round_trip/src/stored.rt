@@ -1,26 +1,26 @@
 // What read-back is given of a found layout.
 use addr_layout::layout::AddrLayout;
-use addr_layout::layout::XGpio;
+use build_args::faults::chip_size;
+use build_args::faults::table_size;
+use build_args::lines::first_select;
 use cs_data_layout::layout::CsDataLayout;
-use gpio::array::entry;
-use rom_slot::faults::chip_size;
-use rom_slot::faults::table_size;
-use rom_slot::picks::first_select;
+use gpio::line::LineGpio;
+use lists::array::entry;
 use slot::description::Description;
-use unscramble::stored::AlgAddr;
-use unscramble::stored::AlgCs;
-use unscramble::stored::AlgData;
-use unscramble::stored::AlgDma;
-use unscramble::stored::Rom;
-use unscramble::stored::SlotType;
-use unscramble::stored::StoredSlot;
+use stored_slot::stored::AlgAddr;
+use stored_slot::stored::AlgCs;
+use stored_slot::stored::AlgData;
+use stored_slot::stored::AlgDma;
+use stored_slot::stored::Rom;
+use stored_slot::stored::SlotType;
+use stored_slot::stored::StoredSlot;
 ghost use mathlib.Core.Path.{_≡_};
 ghost use mathlib.Core.Bool.{cond};
 ghost use Prim.Native.Nat.{_≤_, _<_, _^_};
 ghost use lib.Dec.{ltb};
 ghost use lib.ListN.{getD};
-ghost use Rattle.gpio.specs.Tab.{tab};
-ghost use Rattle.rom_slot.specs.Faults.{tableSize};
+ghost use Rattle.lists.specs.Tab.{tab};
+ghost use Rattle.build_args.specs.Faults.{tableSize};
 ghost use Rattle.round_trip.specs.Stored.{mapOf, romOf, gpioOr0, algAddrOf, algDataOf, algCsOf, storedOf};
 
 // Entry k of a map of the first n GPIOs: 255 past them.
@@ -94,12 +94,12 @@ fn roms(d: Description, a: AddrLayout, c: CsDataLayout) -> [Rom; 4]
 }
 
 // A line's GPIO; 0 where there is none.
-fn gpio_or_0(x: XGpio) -> u8
+fn gpio_or_0(x: LineGpio) -> u8
     ensures { λ r. ⌜ r ≡ gpioOr0 x ⌝ }
 {
     match x {
-        XGpio::Unused => 0,
-        XGpio::At(gpio) => gpio,
+        LineGpio::Unused => 0,
+        LineGpio::At(gpio) => gpio,
     }
 }
 

@@ -2,12 +2,13 @@
 // number of chips, in 8 and in 16-bit mode. That each is well wired is tested by `well_wired`, whose law gives the premise of demand 3.
 // Each pin has one GPIO and no GPIO two pins. The lent buffers hold JUNK before.
 use addr_layout::derive_addr_layout;
-use gpio::array::entry;
+use build_args::images::ImageSpan;
 use gpio::candidates::Candidates;
 use gpio::candidates::Pin;
 use libc::STDOUT_FILENO;
-use listing::FirstFault;
-use rom_slot::images::ImageSpan;
+use lists::array::entry;
+use refusal::Refusal;
+use refusal::first::FirstFault;
 use round_trip::round_trip;
 use slot::description::Board;
 use slot::description::Chip;
@@ -19,7 +20,6 @@ use slot::description::CsLogic;
 use slot::description::Description;
 use slot::description::MultiCsConfig;
 use slot::description::Setting;
-use slot::refusal::Refusal;
 use std::num::wrapping_add_u8;
 use wired::well_wired;
 ghost use Prim.Native.Nat.{_≤_};

@@ -45,6 +45,6 @@ lineAt c k = getD (c .lines) k noLine
 abbrev pub kindAt : ControlLines → ℕ → ℕ
 kindAt c k = lineAt c k .kind
 
--- "The searches .. go by chip 0's pins and lines."
+-- 01 slot_context 2: the chip whose pins and lines the searches use is the first
 abbrev pub chip0 : Description → Chip
 chip0 d = getD (d .chips) 0 noChip

@@ -4,21 +4,21 @@ use mathlib.Core.Bool.{Bool, _&&_, _||_, cond}
 use mathlib.Core.List.{List, [], _∷_}
 use lib.Dec.{leb, eqb}
 use lib.IntN.{ℤ, pos, negsuc}
-use Rattle.slot.specs.declared.refusal.Refusal.the-variants.{OutOfDomain, IncompatiblePinCount}
+use Rattle.refusal.specs.declared.Refusal.the-variants.{OutOfDomain, IncompatiblePinCount}
 use Rattle.slot.specs.declared.slot_context.KnownPair.{KnownPair}
 use Rattle.slot.specs.declared.slot_context.OffsetAnswer.{OffsetAnswer}
 use Rattle.slot.specs.declared.slot_context.OffsetAnswer.the-variants.{Offset, Refused}
 use Rattle.slot.specs.declared.slot_context.Socket.{Socket}
 use Rattle.slot.specs.declared.slot_context.Socket.the-variants.{On, Off}
 
--- "Board pins 24, 28, 32 or 40."
+-- 01 Domain 1: a board's socket comes in four sizes: 24, 28, 32 and 40 pins
 abbrev pub boardPinsIn : ℕ → Bool
 boardPinsIn n = eqb n 24 || eqb n 28 || eqb n 32 || eqb n 40
 
 abbrev pub pair : ℕ → ℕ → ℤ → KnownPair
 pair chip board o = record { «chip_pins» = chip; «board_pins» = board; offset = o }
 
--- "ten known pairs of pin counts": chip pins, board pins, offset
+-- 01 slot_context 1: ten rows of chip pins, board pins and the offset for the two
 unfoldable pub knownPairs : List KnownPair
 knownPairs =
     pair 24 24 (pos 0)
@@ -36,16 +36,19 @@ knownPairs =
 abbrev pub isFor : KnownPair → ℕ → ℕ → Bool
 isFor p chip board = eqb (p .«chip_pins») chip && eqb (p .«board_pins») board
 
--- the offset of the pair's row; "no socket offset" is 10
+-- 01 slot_context 1: the offset in the first row that has both pin counts
+-- 01 Number 10: no row has this chip's and this board's pin count
 unfoldable pub offsetFrom : List KnownPair → ℕ → ℕ → OffsetAnswer
 offsetFrom [] chip board = Refused IncompatiblePinCount
 offsetFrom (p ∷ ps) chip board = cond (isFor p chip board) (Offset (p .offset)) (offsetFrom ps chip board)
 
--- "the chip's pin count may be any byte"; a board that is none of the four is 1
+-- 01 slot_context 1: a chip's pin count is looked up whatever it is
+-- 01 Number 1: the board's pin count is none of the four
+-- 01 Numbers 2: the board's pin count is tested before the rows are searched
 abbrev pub offsetAnswer : ℕ → ℕ → OffsetAnswer
 offsetAnswer chip board = cond (boardPinsIn board) (offsetFrom knownPairs chip board) (Refused OutOfDomain)
 
--- "The offset is -4 to 4." Four more than that, 0 to 8, so that no number is below 0; 255 for any other
+-- 01 Domain 5: an offset lies from -4 to 4. Four more than that, 0 to 8, so that no number is below 0; 255 for any other
 abbrev pub raisedOf : ℤ → ℕ
 raisedOf (pos n) = cond (leb n 4) (n + 4) 255
 raisedOf (negsuc n) = cond (leb n 3) (3 - n) 255

@@ -1,6 +1,6 @@
 // Where a chip's pins come to lie in the board's socket: the chip sits in the middle of it, so its pins
 // are a few places further on, or overhang the socket where the chip is the longer of the two.
-use crate::refusal::Refusal;
+use refusal::Refusal;
 ghost use mathlib.Core.Path.{_≡_};
 ghost use Rattle.slot.specs.SlotContext.{isFor, knownPairs, offsetFrom, offsetAnswer, raisedOf, socketOf, boardPinsIn};
 

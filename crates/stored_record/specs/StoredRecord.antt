@@ -5,24 +5,26 @@ use mathlib.Core.Bool.{Bool, cond, _&&_}
 use mathlib.Core.List.{List}
 use lib.Dec.{leb, eqb}
 use lib.ListN.{length}
-use Rattle.gpio.specs.Each.{each}
-use Rattle.gpio.specs.Tab.{tab}
+use Rattle.lists.specs.Each.{each}
+use Rattle.lists.specs.Tab.{tab}
 use Rattle.slot.specs.declared.description.ChipSetType.the-variants.{Single, Banked, Multi}
-use Rattle.record.specs.Record.{byteAt, bytesAt, fourAt, candidatesAt, pairIn, flagFormed}
-use Rattle.unscramble.specs.declared.stored.SlotType.{SlotType}
-use Rattle.unscramble.specs.declared.stored.SlotType.the-variants.{Unknown, Plugin, Roms}
-use Rattle.unscramble.specs.declared.stored.AlgAddr.{AlgAddr}
-use Rattle.unscramble.specs.declared.stored.AlgData.{AlgData}
-use Rattle.unscramble.specs.declared.stored.AlgDma.{AlgDma}
-use Rattle.unscramble.specs.declared.stored.AlgCs.{AlgCs}
-use Rattle.unscramble.specs.declared.stored.Rom.{Rom}
-use Rattle.unscramble.specs.declared.stored.StoredSlot.{StoredSlot}
+use Rattle.fields.specs.Candidates.{pairAt, pairIn}
+use Rattle.fields.specs.Fields.{byteAt, bytesAt, fourAt, flagFormed}
+use Rattle.stored_slot.specs.declared.stored.SlotType.{SlotType}
+use Rattle.stored_slot.specs.declared.stored.SlotType.the-variants.{Unknown, Plugin, Roms}
+use Rattle.stored_slot.specs.declared.stored.AlgAddr.{AlgAddr}
+use Rattle.stored_slot.specs.declared.stored.AlgData.{AlgData}
+use Rattle.stored_slot.specs.declared.stored.AlgDma.{AlgDma}
+use Rattle.stored_slot.specs.declared.stored.AlgCs.{AlgCs}
+use Rattle.stored_slot.specs.declared.stored.Rom.{Rom}
+use Rattle.stored_slot.specs.declared.stored.StoredSlot.{StoredSlot}
 
 -- "376 bytes"
 abbrev pub storedSize : ℕ
 storedSize = 376
 
 -- "0 Single ROM, 1 Single RAM, 2 Banked, 3 Multi, 4 to 6 plugin, any other: unknown"
+-- 01 Number 18: a byte above 6 is no kind of slot
 abbrev pub slotTypeOf : ℕ → SlotType
 slotTypeOf x =
     cond (leb x 1) (Roms Single)
@@ -52,6 +54,7 @@ abbrev pub algCsAt : List ℕ → AlgCs
 algCsAt b = record { alg = byteAt b 15; «gpio_base» = byteAt b 16; «first_rom_cs_base» = byteAt b 17 }
 
 -- "1 yes"; the size, and the GPIOs of 32 address and 32 data lines as they stand, with the 255 that ends them
+-- 01 Domain 12: a ROM has 32 address entries and 32 data entries, whatever their bytes are
 unfoldable pub romFrom : List ℕ → ℕ → Rom
 romFrom b p = record {
   «has_map» = eqb (byteAt b p) 1;
@@ -65,6 +68,8 @@ abbrev pub romsAt : List ℕ → List Rom
 romsAt b = tab 4 (λ k. romFrom b (88 + 72 * k))
 
 -- what the record stores
+-- 01 Domain 12: there is room for 64 overrides
+-- 01 Shape 7: the algorithms' numbers are taken from bytes, each at its place in docs/INTERFACE.md
 unfoldable pub storedAt : List ℕ → StoredSlot
 storedAt b = record {
   size = fourAt b 0;
@@ -76,8 +81,9 @@ storedAt b = record {
   «alg_cs» = algCsAt b;
   overrides = bytesAt b 19 64;
   «num_overrides» = byteAt b 18;
-  x1 = candidatesAt b 83;
-  x2 = candidatesAt b 85;
+  x1 = pairAt b 83;
+  -- 01 addr_layout 5: in such a set of at least 3 chips it has X2, likewise
+  x2 = pairAt b 85;
   roms = romsAt b;
   «num_roms» = byteAt b 87;
 }

@@ -1,20 +1,19 @@
 // The parts of a stored slot at their places in the record.
-use record::bytes::byte_at;
-use record::bytes::fill;
-use record::bytes::flag_formed;
-use record::bytes::four_at;
+use fields::fill;
+use fields::flag_formed;
+use fields::four_at;
+use lists::array::entry;
 use slot::description::ChipSetType;
-use unscramble::stored::AlgAddr;
-use unscramble::stored::AlgCs;
-use unscramble::stored::AlgData;
-use unscramble::stored::AlgDma;
-use unscramble::stored::Rom;
-use unscramble::stored::SlotType;
+use stored_slot::stored::AlgAddr;
+use stored_slot::stored::AlgCs;
+use stored_slot::stored::AlgData;
+use stored_slot::stored::AlgDma;
+use stored_slot::stored::Rom;
+use stored_slot::stored::SlotType;
 ghost use mathlib.Core.Path.{_≡_};
 ghost use Prim.Native.Nat.{_+_, _≤_};
-ghost use Rattle.record.specs.Record.{bytesAt};
-ghost use Rattle.stored_record.specs.StoredRecord.{storedSize, slotTypeOf, algAddrAt, algDataAt, algDmaAt, algCsAt};
-ghost use Rattle.stored_record.specs.StoredRecord.{romFrom, romsAt, romsFormed};
+ghost use Rattle.fields.specs.Fields.{bytesAt};
+ghost use Rattle.stored_record.specs.StoredRecord.{storedSize, slotTypeOf, algAddrAt, algDataAt, algDmaAt, algCsAt, romFrom, romsAt, romsFormed};
 
 // What the slot's kind byte says.
 pub fn slot_type(x: u8) -> SlotType
@@ -40,10 +39,10 @@ pub fn alg_addr(b: &[u8]) -> AlgAddr
     ensures { λ r. ⌜ r ≡ algAddrAt (now (b .entry)) ⌝ }
 {
     AlgAddr {
-        alg: byte_at(b, 6),
-        gpio_base: byte_at(b, 7),
-        base_addr_pin: byte_at(b, 8),
-        num_addr_pins: byte_at(b, 9),
+        alg: entry(b, 6),
+        gpio_base: entry(b, 7),
+        base_addr_pin: entry(b, 8),
+        num_addr_pins: entry(b, 9),
     }
 }
 
@@ -52,9 +51,9 @@ pub fn alg_data(b: &[u8]) -> AlgData
     ensures { λ r. ⌜ r ≡ algDataAt (now (b .entry)) ⌝ }
 {
     AlgData {
-        alg: byte_at(b, 10),
-        gpio_base: byte_at(b, 11),
-        base_data_pin: byte_at(b, 12),
+        alg: entry(b, 10),
+        gpio_base: entry(b, 11),
+        base_data_pin: entry(b, 12),
     }
 }
 
@@ -63,8 +62,8 @@ pub fn alg_dma(b: &[u8]) -> AlgDma
     ensures { λ r. ⌜ r ≡ algDmaAt (now (b .entry)) ⌝ }
 {
     AlgDma {
-        alg: byte_at(b, 13),
-        bit_mode: byte_at(b, 14),
+        alg: entry(b, 13),
+        bit_mode: entry(b, 14),
     }
 }
 
@@ -73,9 +72,9 @@ pub fn alg_cs(b: &[u8]) -> AlgCs
     ensures { λ r. ⌜ r ≡ algCsAt (now (b .entry)) ⌝ }
 {
     AlgCs {
-        alg: byte_at(b, 15),
-        gpio_base: byte_at(b, 16),
-        first_rom_cs_base: byte_at(b, 17),
+        alg: entry(b, 15),
+        gpio_base: entry(b, 16),
+        first_rom_cs_base: entry(b, 17),
     }
 }
 
@@ -103,7 +102,7 @@ fn rom(b: &[u8], p: usize) -> Rom
     ensures { λ r. ⌜ r ≡ romFrom (now (b .entry)) p ⌝ }
 {
     Rom {
-        has_map: byte_at(b, p) == 1,
+        has_map: entry(b, p) == 1,
         chip_size: four_at(b, p + 4),
         addr: lines(b, p + 8),
         data_lines: lines(b, p + 40),

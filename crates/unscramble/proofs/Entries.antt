@@ -7,16 +7,17 @@ use native.Mathlib.Omega.{arith}
 use lib.Dec.{ltb, eqb}
 use borrow.Author.Tests.{ltb-true, lt-ltb, eqb-true, eq-eqb}
 use Rattle.slot.specs.declared.description.ChipSetType.{ChipSetType}
-use Rattle.rom_slot.specs.Faults.{chipsFit}
-use Rattle.rom_slot.specs.declared.picks.Picked.{Picked}
-use Rattle.rom_slot.specs.declared.picks.Picked.the-variants.{NoChip, Chip}
-use Rattle.kept.specs.Kept.{firstAt}
-use Rattle.kept.proofs.First.{first-passes, first-cong}
-use Rattle.unscramble.specs.Stored.{free, pinsOf}
-use Rattle.unscramble.specs.Words.{romWords, wordsBefore, allWords, pickedAt, addressAt, valueAt, serves}
+use Rattle.picks.specs.Picks.{chipsFit}
+use Rattle.picks.specs.declared.Picked.{Picked}
+use Rattle.picks.specs.declared.Picked.the-variants.{NoChip, Chip}
+use Rattle.table_read.specs.Kept.{firstAt}
+use Rattle.lists.proofs.First.{first-passes, first-cong}
+use Rattle.stored_slot.specs.Stored.{free, pinsOf}
+use Rattle.unscramble.specs.Words.{pickedAt, addressAt, valueAt, serves}
+use Rattle.stored_slot.specs.Words.{romWords, wordsBefore, allWords}
 use Rattle.unscramble.specs.Recovered.{firstFor, keptValue}
 use Rattle.unscramble.proofs.WordAt.{wordOf, wordAt, saidAt}
-use Rattle.unscramble.specs.declared.stored.StoredSlot.{StoredSlot}
+use Rattle.stored_slot.specs.declared.stored.StoredSlot.{StoredSlot}
 use Rattle.unscramble.proofs.Serves.{picked-there, serves-free, serves-picks, serves-address, serves-counted, serves-is}
 use Rattle.unscramble.proofs.Flat.{Flat, flat-counted, flat-one}
 

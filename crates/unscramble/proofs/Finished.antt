@@ -8,25 +8,25 @@ use native.Mathlib.Omega.{arith}
 use lib.Pow.{pow-mono}
 use lib.ListN.{length, drop, replicate, length-replicate}
 use Rattle.slot.specs.declared.description.ChipSetType.{ChipSetType}
-use Rattle.listing.specs.Listing.{orElse}
-use Rattle.listing.specs.declared.FirstFault.{FirstFault}
-use Rattle.listing.specs.declared.FirstFault.the-variants.{None}
-use Rattle.rom_slot.specs.Faults.{chipsFit}
-use Rattle.kept.specs.Kept.{outputAfter, outcomeOf}
-use Rattle.kept.specs.Reading.{wordBy, valueBy, ReadingIn}
-use Rattle.kept.specs.declared.reading.Reading.{Reading}
-use Rattle.kept.specs.Buffers.{Kept, kept, marksHeld, heldBy, collectedOf}
-use Rattle.kept.specs.declared.Outcome.{Outcome}
-use Rattle.kept.specs.declared.Outcome.the-variants.{Whole, Disagrees, Missing}
-use Rattle.kept.proofs.Cong.{output-length, marks-cong, output-cong, outcome-cong}
-use Rattle.unscramble.specs.Stored.{storedIn, romAt, wordBytes, pinsOf, dataLines}
-use Rattle.unscramble.specs.Faults.{romsFault}
-use Rattle.unscramble.specs.Words.{allWords}
+use Rattle.refusal.specs.First.{orElse}
+use Rattle.refusal.specs.declared.first.FirstFault.{FirstFault}
+use Rattle.refusal.specs.declared.first.FirstFault.the-variants.{None}
+use Rattle.picks.specs.Picks.{chipsFit}
+use Rattle.table_read.specs.Kept.{outputAfter, outcomeOf}
+use Rattle.table_read.specs.Reading.{wordBy, valueBy, ReadingIn}
+use Rattle.table_read.specs.declared.reading.Reading.{Reading}
+use Rattle.table_read.specs.Buffers.{Kept, kept, marksHeld, heldBy, collectedOf}
+use Rattle.table_read.specs.declared.Outcome.{Outcome}
+use Rattle.table_read.specs.declared.Outcome.the-variants.{Whole, Disagrees, Missing}
+use Rattle.table_read.proofs.Cong.{output-length, marks-cong, output-cong, outcome-cong}
+use Rattle.stored_slot.specs.Stored.{storedIn, romAt, wordBytes, pinsOf, dataLines}
+use Rattle.stored_slot.specs.Faults.{romsFault}
+use Rattle.stored_slot.specs.Words.{allWords}
 use Rattle.unscramble.specs.Place.{faultOf}
 use Rattle.unscramble.proofs.WordAt.{wordAt, saidAt}
 use Rattle.unscramble.specs.Reading.{Readable, readingOf}
 use Rattle.unscramble.specs.Recovered.{ReadBack, readBack, front, inconsistent, unserved, recovered, afterEntries}
-use Rattle.unscramble.specs.declared.stored.StoredSlot.{StoredSlot}
+use Rattle.stored_slot.specs.declared.stored.StoredSlot.{StoredSlot}
 use Rattle.unscramble.proofs.Same.{fault-same, output-same, marks-same}
 use Rattle.unscramble.proofs.ReadBy.{word-same, said-same, reading-in}
 use Rattle.unscramble.proofs.Unrefused.{few-roms, fit, room-output, room-marks, table-long, data-whole, readable}

@@ -7,10 +7,10 @@ use native.Mathlib.Decide.{decLt}
 use native.Mathlib.Omega.{arith}
 use mathlib.Core.Logic.{inl, inr}
 use borrow.Author.Tests.{le-leb, lt-leb}
-use Rattle.gpio.specs.Each.{tally}
-use Rattle.unscramble.specs.Words.{romWords, wordsBefore, allWords}
+use Rattle.lists.specs.Each.{tally}
+use Rattle.stored_slot.specs.Words.{romWords, wordsBefore, allWords}
 use Rattle.unscramble.specs.Place.{romOf, addressOf}
-use Rattle.unscramble.specs.declared.stored.StoredSlot.{StoredSlot}
+use Rattle.stored_slot.specs.declared.stored.StoredSlot.{StoredSlot}
 
 -- a test that passes below r and not from there on
 tally-count : (n r x : ℕ) (b : Bool) → x ≡ min n r → (n < r → b ≡ true) → (r ≤ n → b ≡ false) → x + cond b 1 0 ≡ min (suc n) r

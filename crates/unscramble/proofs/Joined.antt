@@ -7,16 +7,15 @@ use native.Mathlib.Nat.{add-zero, add-suc}
 use native.Mathlib.Omega.{arith}
 use lib.Dec.{ltb}
 use borrow.Author.Tests.{ltb-true, lt-ltb, le-ltb}
-use Rattle.gpio.specs.Tab.{joined}
+use Rattle.lists.specs.Tab.{joined}
 use Rattle.words.specs.Words.{bytesOf, wordsBytes}
-use Rattle.slot.specs.declared.refusal.Refusal.{Refusal}
-use Rattle.listing.specs.Listing.{orElse}
-use Rattle.listing.specs.declared.FirstFault.{FirstFault}
-use Rattle.listing.specs.declared.FirstFault.the-variants.{None, Of}
-use Rattle.rom_slot.specs.Faults.{faultIf, firstOf}
-use Rattle.kept.specs.Kept.{firstWhere}
-use Rattle.unscramble.specs.Words.{romWords, wordsBefore}
-use Rattle.unscramble.specs.declared.stored.StoredSlot.{StoredSlot}
+use Rattle.refusal.specs.declared.Refusal.{Refusal}
+use Rattle.refusal.specs.First.{orElse, faultIf, firstOf}
+use Rattle.refusal.specs.declared.first.FirstFault.{FirstFault}
+use Rattle.refusal.specs.declared.first.FirstFault.the-variants.{None, Of}
+use Rattle.lists.specs.First.{firstWhere}
+use Rattle.stored_slot.specs.Words.{romWords, wordsBefore}
+use Rattle.stored_slot.specs.declared.stored.StoredSlot.{StoredSlot}
 
 -- the first fault of tests is that of the first test that fails
 fault-step : (n x : ℕ) (b c : Bool) (why : ℕ → Refusal) → ltb x n ≡ b

@@ -7,8 +7,5 @@ pub mod Same
 pub mod Masks
 pub mod ReadBy
 pub mod Loops
-pub mod Listed
-pub mod Counted
-pub mod Whole
 pub mod Unrefused
 pub mod Finished

@@ -8,7 +8,7 @@ use native.Mathlib.Omega.{arith}
 use lib.Dec.{eqb}
 use lib.ListN.{getD}
 use lib.Pow.{pow-mono}
-use Rattle.unscramble.specs.Stored.{names}
+use Rattle.stored_slot.specs.Stored.{names}
 use Rattle.unscramble.specs.Reading.{maskOf}
 use Rattle.unscramble.proofs.Masks.{mask-lt}
 

@@ -8,12 +8,12 @@ use lib.Bits.{bitAnd, and-block, and-mask, and-le-r, and-zero-r}
 use lib.Pow.{split, pow-pos}
 use lib.Dec.{eqb}
 use borrow.Author.Tests.{eqb-true, eqb-false, eq-eqb, ne-eqb}
-use Rattle.gpio.specs.Each.{each}
+use Rattle.lists.specs.Each.{each}
 use Rattle.bits.specs.Bits.{bit}
 use Rattle.bits.proofs.Bit.{bit-lt}
-use Rattle.unscramble.specs.Stored.{names, addrBase, pinsOf, free}
+use Rattle.stored_slot.specs.Stored.{names, addrBase, pinsOf, free}
 use Rattle.unscramble.specs.Reading.{maskOf, highAt, forcedAt}
-use Rattle.unscramble.specs.declared.stored.StoredSlot.{StoredSlot}
+use Rattle.stored_slot.specs.declared.stored.StoredSlot.{StoredSlot}
 
 -- a mask of n bits
 mask-turn : (b : Bool) (x n : ℕ) → x < 2 ^ n → x + cond b (2 ^ n) 0 < 2 ^ suc n

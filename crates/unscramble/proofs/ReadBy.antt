@@ -9,28 +9,28 @@ use lib.Dec.{ltb, eqb}
 use lib.ListN.{getD}
 use lib.Pow.{pow-mono}
 use borrow.Author.Tests.{ltb-true, lt-ltb, le-ltb}
-use Rattle.gpio.specs.Tab.{tab}
-use Rattle.gpio.proofs.Tab.{getD-tab}
+use Rattle.lists.specs.Tab.{tab}
+use Rattle.lists.proofs.Tab.{getD-tab}
 use Rattle.bits.specs.Bits.{gather}
 use Rattle.bits.proofs.Gathered.{gather-lt, gather-cong}
 use Rattle.words.specs.Words.{word}
 use Rattle.slot.specs.declared.description.ChipSetType.{ChipSetType}
 use Rattle.slot.specs.declared.description.ChipSetType.the-variants.{Single, Banked, Multi}
-use Rattle.rom_slot.specs.Picks.{picksOf, pickedBy}
-use Rattle.rom_slot.proofs.Picking.{picks-three}
-use Rattle.rom_slot.specs.Faults.{chipsFit}
-use Rattle.rom_slot.specs.declared.picks.Picked.{Picked}
-use Rattle.rom_slot.specs.declared.picks.Picked.the-variants.{NoChip, Chip}
-use Rattle.kept.specs.Reading.{noMap, gathered, partBy, romBy, noExtent, wordBy, valueBy, ReadingIn}
-use Rattle.kept.specs.declared.maps.Map.{Map}
-use Rattle.kept.specs.declared.reading.Extent.{Extent}
-use Rattle.kept.specs.declared.reading.Reading.{Reading}
-use Rattle.unscramble.specs.Stored.{romAt, wordBytes, addrBase, dataBase, listed, dataLines, dataPosition, free}
-use Rattle.unscramble.specs.Words.{romWords, wordsBefore, allWords, pickPosition, pickedAt, addressAt, valueAt}
+use Rattle.picks.specs.Picks.{picksOf, pickedBy, chipsFit}
+use Rattle.picks.proofs.Picking.{picks-three}
+use Rattle.picks.specs.declared.Picked.{Picked}
+use Rattle.picks.specs.declared.Picked.the-variants.{NoChip, Chip}
+use Rattle.table_read.specs.Reading.{noMap, gathered, partBy, romBy, noExtent, wordBy, valueBy, ReadingIn}
+use Rattle.table_read.specs.declared.maps.Map.{Map}
+use Rattle.table_read.specs.declared.reading.Extent.{Extent}
+use Rattle.table_read.specs.declared.reading.Reading.{Reading}
+use Rattle.stored_slot.specs.Stored.{romAt, wordBytes, addrBase, dataBase, listed, dataLines, dataPosition, free}
+use Rattle.unscramble.specs.Words.{pickedAt, addressAt, valueAt}
+use Rattle.stored_slot.specs.Words.{romWords, wordsBefore, allWords, pickPosition}
 use Rattle.unscramble.proofs.WordAt.{wordOf, wordAt, saidOf, saidAt}
 use Rattle.unscramble.specs.Reading.{Readable, mapOf, pickMap, noLines, addressMap, dataMap, placeOf, extentOf, readingOf}
-use Rattle.unscramble.specs.declared.stored.StoredSlot.{StoredSlot}
-use Rattle.unscramble.proofs.Listed.{listed-most}
+use Rattle.stored_slot.specs.declared.stored.StoredSlot.{StoredSlot}
+use Rattle.stored_slot.proofs.Listed.{listed-most}
 use Rattle.unscramble.proofs.Flat.{before-le, before-next}
 use Rattle.unscramble.proofs.Serves.{picked-there}
 use Rattle.unscramble.proofs.Masks.{masked-free}

@@ -8,24 +8,25 @@ use lib.Dec.{ltb, eqb}
 use lib.ListN.{replicate}
 use borrow.Author.Tests.{ltb-true, ltb-false, lt-ltb, le-ltb, eq-eqb, ne-eqb}
 use Rattle.slot.specs.declared.description.ChipSetType.{ChipSetType}
-use Rattle.slot.specs.declared.refusal.Refusal.{Refusal}
-use Rattle.slot.specs.declared.refusal.Refusal.the-variants.{Inconsistent, Unserved}
-use Rattle.listing.specs.Listing.{orElse}
-use Rattle.listing.specs.declared.FirstFault.{FirstFault}
-use Rattle.listing.specs.declared.FirstFault.the-variants.{None}
-use Rattle.rom_slot.specs.Faults.{faultIf, chipsFit}
-use Rattle.rom_slot.specs.declared.picks.Picked.{Picked}
-use Rattle.rom_slot.specs.declared.picks.Picked.the-variants.{NoChip, Chip}
-use Rattle.kept.specs.Kept.{firstAt, told, valueAfter, marksAfter, outputAfter, disagrees, firstBad, firstMissing, outcomeOf}
-use Rattle.kept.specs.declared.Outcome.the-variants.{Whole, Disagrees, Missing}
-use Rattle.kept.proofs.First.{never-both, not-less, first-within, first-found}
-use Rattle.kept.proofs.Whole.{disagrees-first, whole-told, whole-marks}
-use Rattle.unscramble.specs.Stored.{wordBytes, pinsOf}
-use Rattle.unscramble.specs.Words.{wordsBefore, allWords, pickedAt, addressAt, valueAt, serves}
+use Rattle.refusal.specs.declared.Refusal.{Refusal}
+use Rattle.refusal.specs.declared.Refusal.the-variants.{Inconsistent, Unserved}
+use Rattle.refusal.specs.First.{orElse, faultIf}
+use Rattle.refusal.specs.declared.first.FirstFault.{FirstFault}
+use Rattle.refusal.specs.declared.first.FirstFault.the-variants.{None}
+use Rattle.picks.specs.Picks.{chipsFit}
+use Rattle.picks.specs.declared.Picked.{Picked}
+use Rattle.picks.specs.declared.Picked.the-variants.{NoChip, Chip}
+use Rattle.table_read.specs.Kept.{firstAt, told, valueAfter, marksAfter, outputAfter, disagrees, firstBad, firstMissing, outcomeOf}
+use Rattle.table_read.specs.declared.Outcome.the-variants.{Whole, Disagrees, Missing}
+use Rattle.lists.proofs.First.{never-both, not-less, first-within, first-found}
+use Rattle.table_read.proofs.Whole.{disagrees-first, whole-told, whole-marks}
+use Rattle.stored_slot.specs.Stored.{wordBytes, pinsOf}
+use Rattle.unscramble.specs.Words.{pickedAt, addressAt, valueAt, serves}
+use Rattle.stored_slot.specs.Words.{wordsBefore, allWords}
 use Rattle.unscramble.specs.Recovered.{keptValue, disagreesFor, inconsistent, unservedIn, unserved, recovered}
 use Rattle.unscramble.specs.Place.{romOf, addressOf, faultOf}
 use Rattle.unscramble.proofs.WordAt.{wordAt, saidAt}
-use Rattle.unscramble.specs.declared.stored.StoredSlot.{StoredSlot}
+use Rattle.stored_slot.specs.declared.stored.StoredSlot.{StoredSlot}
 use Rattle.unscramble.proofs.Serves.{serves-picks}
 use Rattle.unscramble.proofs.Flat.{Flat, flat-of, flat-counted, flat-rom, flat-address}
 use Rattle.unscramble.proofs.Entries.{entry-serves, said-is, served-word, first-flat, kept-said}

@@ -4,17 +4,17 @@ use mathlib.Core.Bool.{Bool, true, _&&_}
 use Prim.Native.Nat.{ℕ, _<_}
 use lib.Dec.{ltb, eqb}
 use borrow.Author.Tests.{ltb-true, lt-ltb, eqb-true, eq-eqb}
-use Rattle.gpio.proofs.Bools.{and-left, and-right}
+use Rattle.lists.proofs.Bools.{and-left, and-right}
 use Rattle.bits.proofs.Gathered.{gather-lt}
 use Rattle.slot.specs.declared.description.ChipSetType.{ChipSetType}
-use Rattle.rom_slot.specs.Picks.{picksOf}
-use Rattle.rom_slot.specs.Faults.{chipsFit}
-use Rattle.rom_slot.specs.declared.picks.Picked.{Picked}
-use Rattle.rom_slot.specs.declared.picks.Picked.the-variants.{NoChip, Chip}
-use Rattle.rom_slot.proofs.Picking.{picked-below}
-use Rattle.unscramble.specs.Stored.{free}
-use Rattle.unscramble.specs.Words.{romWords, pickPosition, pickedAt, addressAt, picksRom, serves}
-use Rattle.unscramble.specs.declared.stored.StoredSlot.{StoredSlot}
+use Rattle.picks.specs.Picks.{picksOf, chipsFit}
+use Rattle.picks.specs.declared.Picked.{Picked}
+use Rattle.picks.specs.declared.Picked.the-variants.{NoChip, Chip}
+use Rattle.picks.proofs.Picking.{picked-below}
+use Rattle.stored_slot.specs.Stored.{free}
+use Rattle.unscramble.specs.Words.{pickedAt, addressAt, picksRom, serves}
+use Rattle.stored_slot.specs.Words.{romWords, pickPosition}
+use Rattle.stored_slot.specs.declared.stored.StoredSlot.{StoredSlot}
 
 picks-is : (p : Picked) (rom : ℕ) → picksRom p rom ≡ true → p ≡ Chip rom
 picks-is NoChip rom e = cc

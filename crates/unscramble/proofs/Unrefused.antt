@@ -8,26 +8,26 @@ use native.Mathlib.Omega.{arith}
 use lib.Dec.{leb, ltb, eqb}
 use lib.ListN.{length, getD}
 use borrow.Author.Tests.{leb-true, leb-false, ltb-false, eqb-true, not-false}
-use Rattle.gpio.specs.Each.{each}
+use Rattle.lists.specs.Each.{each}
 use Rattle.gpio.specs.Candidates.{gpioIn, candidatesIn}
 use Rattle.gpio.specs.declared.candidates.Candidates.{Candidates}
 use Rattle.gpio.specs.declared.candidates.Candidates.the-variants.{Absent, One, Two}
-use Rattle.gpio.proofs.Bools.{and-left, and-right}
-use Rattle.gpio.proofs.Each.{each-at}
+use Rattle.lists.proofs.Bools.{and-left, and-right}
+use Rattle.lists.proofs.Each.{each-at}
 use Rattle.slot.specs.declared.description.ChipSetType.{ChipSetType}
 use Rattle.slot.specs.declared.description.ChipSetType.the-variants.{Single, Banked, Multi}
-use Rattle.slot.specs.declared.refusal.Refusal.{Refusal}
-use Rattle.slot.specs.declared.refusal.Refusal.the-variants.{MissingLayout, UnknownAlgorithm, BadLayout}
-use Rattle.listing.specs.Listing.{orElse}
-use Rattle.listing.specs.declared.FirstFault.{FirstFault}
-use Rattle.listing.specs.declared.FirstFault.the-variants.{None}
-use Rattle.rom_slot.specs.Faults.{faultIf, firstOf, chipsFit}
-use Rattle.rom_slot.proofs.Firsts.{or-left, or-right, first-all}
-use Rattle.unscramble.specs.Stored.{romAt, storedIn, wordBytes, addrBase, dataBase, selectGpio, pinsOf, addrLines, dataLines, within, inWindow, xInside}
-use Rattle.unscramble.specs.Words.{romWords, wordsBefore, allWords, xAt, pickGpio}
-use Rattle.unscramble.specs.Faults.{layoutFault, romFault, xFaults, selectFault, pickFault, roomFault, romsFault}
+use Rattle.refusal.specs.declared.Refusal.{Refusal}
+use Rattle.refusal.specs.declared.Refusal.the-variants.{MissingLayout, UnknownAlgorithm, BadLayout}
+use Rattle.refusal.specs.First.{orElse, faultIf, firstOf}
+use Rattle.refusal.specs.declared.first.FirstFault.{FirstFault}
+use Rattle.refusal.specs.declared.first.FirstFault.the-variants.{None}
+use Rattle.picks.specs.Picks.{chipsFit}
+use Rattle.refusal.proofs.Firsts.{or-left, or-right, first-all}
+use Rattle.stored_slot.specs.Stored.{romAt, storedIn, wordBytes, addrBase, dataBase, selectGpio, pinsOf, addrLines, dataLines, within, inWindow, xInside}
+use Rattle.stored_slot.specs.Words.{romWords, wordsBefore, allWords, xAt, pickGpio}
+use Rattle.stored_slot.specs.Faults.{layoutFault, romFault, xFaults, selectFault, pickFault, roomFault, romsFault}
 use Rattle.unscramble.specs.Reading.{Readable}
-use Rattle.unscramble.specs.declared.stored.StoredSlot.{StoredSlot}
+use Rattle.stored_slot.specs.declared.stored.StoredSlot.{StoredSlot}
 
 no-fault : (b : Bool) (why : Refusal) → faultIf b why ≡ None → b ≡ false
 no-fault true why e = cc

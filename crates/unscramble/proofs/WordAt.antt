@@ -4,11 +4,12 @@ use mathlib.Core.Bool.{cond}
 use mathlib.Core.List.{List}
 use lib.Dec.{ltb}
 use Rattle.slot.specs.declared.description.ChipSetType.{ChipSetType}
-use Rattle.rom_slot.specs.declared.picks.Picked.{Picked}
-use Rattle.rom_slot.specs.declared.picks.Picked.the-variants.{NoChip, Chip}
-use Rattle.unscramble.specs.Stored.{free}
-use Rattle.unscramble.specs.Words.{romWords, wordsBefore, allWords, pickedAt, addressAt, valueAt}
-use Rattle.unscramble.specs.declared.stored.StoredSlot.{StoredSlot}
+use Rattle.picks.specs.declared.Picked.{Picked}
+use Rattle.picks.specs.declared.Picked.the-variants.{NoChip, Chip}
+use Rattle.stored_slot.specs.Stored.{free}
+use Rattle.unscramble.specs.Words.{pickedAt, addressAt, valueAt}
+use Rattle.stored_slot.specs.Words.{romWords, wordsBefore, allWords}
+use Rattle.stored_slot.specs.declared.stored.StoredSlot.{StoredSlot}
 
 -- the word that an entry is for; the number of all words where it is for none
 abbrev pub wordOf : StoredSlot → Picked → ℕ → ℕ

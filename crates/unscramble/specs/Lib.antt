@@ -1,5 +1,3 @@
-pub mod Stored
-pub mod Faults
 pub mod Words
 pub mod Recovered
 pub mod Place

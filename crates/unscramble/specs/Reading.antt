@@ -5,17 +5,17 @@ use mathlib.Core.Bool.{Bool, cond, _||_}
 use mathlib.Core.List.{List}
 use lib.Dec.{ltb}
 use lib.ListN.{getD, replicate}
-use Rattle.gpio.specs.Tab.{tab}
+use Rattle.lists.specs.Tab.{tab}
 use Rattle.slot.specs.declared.description.ChipSetType.{ChipSetType}
-use Rattle.rom_slot.specs.Picks.{picksOf, pickedBy}
-use Rattle.rom_slot.specs.declared.picks.Picked.{Picked}
-use Rattle.rom_slot.specs.declared.picks.Picked.the-variants.{NoChip, Chip}
-use Rattle.kept.specs.declared.maps.Map.{Map}
-use Rattle.kept.specs.declared.reading.Extent.{Extent}
-use Rattle.kept.specs.declared.reading.Reading.{Reading}
-use Rattle.unscramble.specs.Stored.{romAt, wordBytes, addrBase, dataBase, pinsOf, listed, names}
-use Rattle.unscramble.specs.Words.{romWords, wordsBefore, allWords, pickGpio, pickPosition}
-use Rattle.unscramble.specs.declared.stored.StoredSlot.{StoredSlot}
+use Rattle.picks.specs.Picks.{picksOf, pickedBy}
+use Rattle.picks.specs.declared.Picked.{Picked}
+use Rattle.picks.specs.declared.Picked.the-variants.{NoChip, Chip}
+use Rattle.table_read.specs.declared.maps.Map.{Map}
+use Rattle.table_read.specs.declared.reading.Extent.{Extent}
+use Rattle.table_read.specs.declared.reading.Reading.{Reading}
+use Rattle.stored_slot.specs.Stored.{romAt, wordBytes, addrBase, dataBase, pinsOf, listed, names}
+use Rattle.stored_slot.specs.Words.{romWords, wordsBefore, allWords, pickGpio, pickPosition}
+use Rattle.stored_slot.specs.declared.stored.StoredSlot.{StoredSlot}
 
 -- a slot that no test before the entries refuses: its numbers fit
 pub record Readable (s : StoredSlot) (set : ChipSetType) : Type 0 where
@@ -57,11 +57,13 @@ unfoldable pub maskOf : ℕ → (ℕ → Bool) → ℕ
 maskOf zero p = 0
 maskOf (suc n) p = maskOf n p + cond (p n) (2 ^ n) 0
 
--- "high beats low, in either order"
+-- 01 unscramble 4: a position is high where any override forces it high, whatever others say of it
 abbrev pub highAt : StoredSlot → ℕ → Bool
 highAt s p = names (s .«num_overrides») (s .overrides) 3 (addrBase s + p)
 
+-- 01 unscramble 4: a position is forced where any override forces it high or low
 abbrev pub forcedAt : StoredSlot → ℕ → Bool
+-- 01 unscramble 4: a position is forced where any override forces it high or low
 forcedAt s p = highAt s p || names (s .«num_overrides») (s .overrides) 2 (addrBase s + p)
 
 unfoldable pub readingOf : StoredSlot → ChipSetType → Reading

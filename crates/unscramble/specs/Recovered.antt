@@ -4,34 +4,34 @@ use mathlib.Core.Bool.{cond, not, _&&_}
 use mathlib.Core.List.{List, _++_}
 use lib.Dec.{ltb, eqb}
 use lib.ListN.{length, drop, replicate}
-use Rattle.gpio.specs.Tab.{joined}
+use Rattle.lists.specs.Tab.{joined}
 use Rattle.words.specs.Words.{wordsBytes}
-use Rattle.kept.specs.Kept.{firstWhere}
+use Rattle.lists.specs.First.{firstWhere}
 use Rattle.slot.specs.declared.description.ChipSetType.{ChipSetType}
-use Rattle.slot.specs.declared.refusal.Refusal.{Refusal}
-use Rattle.slot.specs.declared.refusal.Refusal.the-variants.{OutOfDomain, WrongSize, UnknownSlotType, ShortBuffer, Inconsistent, Unserved}
-use Rattle.listing.specs.Listing.{orElse}
-use Rattle.listing.specs.declared.FirstFault.{FirstFault}
-use Rattle.listing.specs.declared.FirstFault.the-variants.{None, Of}
-use Rattle.rom_slot.specs.Faults.{faultIf, firstOf}
-use Rattle.rom_slot.specs.declared.picks.Picked.{Picked}
-use Rattle.rom_slot.specs.declared.picks.Picked.the-variants.{NoChip, Chip}
-use Rattle.unscramble.specs.Stored.{storedIn, wordBytes, pinsOf}
-use Rattle.unscramble.specs.Faults.{wrongSize, romsFault}
-use Rattle.unscramble.specs.Words.{romWords, allWords, pickedAt, addressAt, valueAt, serves}
-use Rattle.unscramble.specs.declared.stored.SlotType.{SlotType}
-use Rattle.unscramble.specs.declared.stored.SlotType.the-variants.{Unknown, Plugin, Roms}
-use Rattle.unscramble.specs.declared.stored.StoredSlot.{StoredSlot}
+use Rattle.refusal.specs.declared.Refusal.{Refusal}
+use Rattle.refusal.specs.declared.Refusal.the-variants.{OutOfDomain, WrongSize, UnknownSlotType, ShortBuffer, Inconsistent, Unserved}
+use Rattle.refusal.specs.First.{orElse, faultIf, firstOf}
+use Rattle.refusal.specs.declared.first.FirstFault.{FirstFault}
+use Rattle.refusal.specs.declared.first.FirstFault.the-variants.{None, Of}
+use Rattle.picks.specs.declared.Picked.{Picked}
+use Rattle.picks.specs.declared.Picked.the-variants.{NoChip, Chip}
+use Rattle.stored_slot.specs.Stored.{storedIn, wordBytes, pinsOf}
+use Rattle.stored_slot.specs.Faults.{wrongSize, romsFault}
+use Rattle.unscramble.specs.Words.{pickedAt, addressAt, valueAt, serves}
+use Rattle.stored_slot.specs.Words.{romWords, allWords}
+use Rattle.stored_slot.specs.declared.stored.SlotType.{SlotType}
+use Rattle.stored_slot.specs.declared.stored.SlotType.the-variants.{Unknown, Plugin, Roms}
+use Rattle.stored_slot.specs.declared.stored.StoredSlot.{StoredSlot}
 
 -- the first of the entries before m that is for word n of a ROM; m where none is
 abbrev pub firstFor : StoredSlot → ChipSetType → ℕ → ℕ → ℕ → ℕ
 firstFor s set rom n m = firstWhere m (serves s set rom n)
 
--- "Entries are read in rising index order, the first value kept."
+-- 01 unscramble 8: a word has the value of the lowest index whose entry is for it
 abbrev pub keptValue : StoredSlot → ChipSetType → List ℕ → ℕ → ℕ → ℕ
 keptValue s set stored rom n = valueAt s stored rom (firstFor s set rom n (2 ^ pinsOf s))
 
--- 23: "an entry disagrees with the kept value, first in index order"
+-- 01 Number 23: the entry at index i is for word n of a ROM and says another value than that word has; the place is ROM and n
 abbrev pub disagreesIn : StoredSlot → ChipSetType → List ℕ → ℕ → ℕ → ℕ → FirstFault
 disagreesIn s set stored i rom n =
     faultIf (serves s set rom n i && not (eqb (valueAt s stored rom i) (keptValue s set stored rom n))) (Inconsistent rom n)
@@ -40,23 +40,30 @@ abbrev pub disagreesFor : StoredSlot → ChipSetType → List ℕ → ℕ → Pi
 disagreesFor s set stored i NoChip = None
 disagreesFor s set stored i (Chip rom) = disagreesIn s set stored i rom (addressAt s rom i)
 
+-- 01 Number 23: of several entries that disagree the one of lowest index answers
 abbrev pub inconsistent : StoredSlot → ChipSetType → List ℕ → FirstFault
+-- 01 Number 23: of several entries that disagree the one of lowest index answers
 inconsistent s set stored = firstOf (2 ^ pinsOf s) (λ i. disagreesFor s set stored i (pickedAt s set i))
 
--- 24: "a word has no entry; lowest ROM, then lowest address"
+-- 01 Number 24: no entry is for word n of a ROM; the place is ROM and n
 abbrev pub unservedIn : StoredSlot → ChipSetType → ℕ → ℕ → FirstFault
 unservedIn s set rom n = faultIf (eqb (firstFor s set rom n (2 ^ pinsOf s)) (2 ^ pinsOf s)) (Unserved rom n)
 
+-- 01 Number 24: the lowest ROM that misses a word answers, with the lowest word that it misses
 abbrev pub unserved : StoredSlot → ChipSetType → FirstFault
+-- 01 Number 24: the lowest ROM that misses a word answers, with the lowest word that it misses
 unserved s set = firstOf (s .«num_roms») (λ rom. firstOf (romWords s rom) (unservedIn s set rom))
 
--- the ROMs' words "chip after chip"
+-- the bytes of a ROM's words
 abbrev pub romBytes : StoredSlot → ChipSetType → List ℕ → ℕ → List ℕ
 romBytes s set stored rom = wordsBytes (wordBytes s) (keptValue s set stored rom) (romWords s rom)
 
+-- 01 Shape 2: one output has the bytes of all ROMs, each behind the one before
 unfoldable pub recovered : StoredSlot → ChipSetType → List ℕ → List ℕ
+-- 01 Shape 2: one output has the bytes of all ROMs, each behind the one before
 recovered s set stored = joined (s .«num_roms») (romBytes s set stored)
 
+-- 01 Shape 2: beside the answer stand two lent buffers, an output for all ROMs and the marks
 pub record ReadBack : Type 0 where
   pub answer : FirstFault
   pub output : List ℕ
@@ -65,38 +72,55 @@ pub record ReadBack : Type 0 where
 abbrev pub readBack : FirstFault → List ℕ → List ℕ → ReadBack
 readBack a o m = record { answer = a; output = o; marks = m }
 
--- "Refusals write nothing"
+-- 01 Numbers 5: a refusal before the entries leaves output and marks as they were lent
 abbrev pub refused : Refusal → List ℕ → List ℕ → ReadBack
 refused why output marks = readBack (Of why) output marks
 
--- "Bytes past them never change."
+-- 01 Numbers 7: new bytes stand at the front of a buffer, and those behind them stay
 abbrev pub front : List ℕ → List ℕ → List ℕ
 front new old = new ++ drop (length new) old
 
--- "except 23 and 24: output and marks are then 0 over the words counted. On success those marks are 1"
+-- 01 Numbers 5: after 23 or 24 the bytes and the mark of every word are 0
+-- 01 Numbers 6: on success the mark of every word is 1
 abbrev pub afterEntries : StoredSlot → ChipSetType → List ℕ → List ℕ → List ℕ → FirstFault → ReadBack
 afterEntries s set stored output marks None =
     readBack None (front (recovered s set stored) output) (front (replicate (allWords s) 1) marks)
 afterEntries s set stored output marks (Of why) =
     readBack (Of why) (front (replicate (allWords s * wordBytes s) 0) output) (front (replicate (allWords s) 0) marks)
 
+-- 01 Numbers 4: entries count only where no earlier test refuses
 abbrev pub afterFault : StoredSlot → ChipSetType → List ℕ → List ℕ → List ℕ → FirstFault → ReadBack
+-- 01 Numbers 4: entries count only where no earlier test refuses
 afterFault s set stored output marks (Of why) = refused why output marks
+-- 01 Numbers 4: entries count only where no earlier test refuses
 afterFault s set stored output marks None =
     afterEntries s set stored output marks (orElse (inconsistent s set stored) (unserved s set))
 
--- "Plugins are copied whole."; "a plugin is tested for 16 after 17", "touches no mark"
+-- 01 Number 16: the output has fewer bytes than the plugin
+-- 01 Numbers 6: a plugin leaves all marks as they were
+-- 01 unscramble 1: the output gets every byte of a plugin
 abbrev pub pluginRead : List ℕ → List ℕ → List ℕ → ReadBack
 pluginRead stored output marks =
     cond (ltb (length output) (length stored)) (refused ShortBuffer output marks) (readBack None (front stored output) marks)
 
+-- 01 Number 18: the slot is neither a plugin nor of a known set kind
 abbrev pub ofType : StoredSlot → List ℕ → List ℕ → List ℕ → SlotType → ReadBack
+-- 01 Number 18: the slot is neither a plugin nor of a known set kind
 ofType s stored output marks Unknown = refused UnknownSlotType output marks
+-- 01 Number 18: the slot is neither a plugin nor of a known set kind
 ofType s stored output marks Plugin = pluginRead stored output marks
+-- 01 Number 18: the slot is neither a plugin nor of a known set kind
 ofType s stored output marks (Roms set) =
+    -- 01 Numbers 4: entries count only where no earlier test refuses
     afterFault s set stored output marks (romsFault s set stored (length output) (length marks))
 
+-- 01 Number 1: the slot is outside of the domain
+-- 01 Numbers 2: the domain is tested before all else
+-- 01 Numbers 4: the length (17) is tested next, before the kind is looked at, so that a plugin's 16 comes after it
 unfoldable pub unscrambled : StoredSlot → List ℕ → List ℕ → List ℕ → ReadBack
+-- 01 Number 1: the slot is outside of the domain
+-- 01 Numbers 2: the domain is tested before all else
+-- 01 Numbers 4: the length (17) is tested next, before the kind is looked at, so that a plugin's 16 comes after it
 unscrambled s stored output marks =
     cond (storedIn s)
     (cond (wrongSize s stored) (refused WrongSize output marks) (ofType s stored output marks (s .«slot_type»)))

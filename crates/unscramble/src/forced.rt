@@ -1,11 +1,11 @@
 // The bits that overrides force, as two masks: an index goes through just if it has the forced bits as they are forced.
-use crate::stored::StoredSlot;
-use crate::window::addr_base;
+use stored_slot::stored::StoredSlot;
+use stored_slot::window::addr_base;
 ghost use mathlib.Core.Path.{_≡_};
 ghost use mathlib.Core.Bool.{cond, _&&_, _||_};
 ghost use Prim.Native.Nat.{_%_, _/_, _^_, _<_};
 ghost use lib.Dec.{eqb};
-ghost use Rattle.unscramble.specs.Stored.{names, pinsOf};
+ghost use Rattle.stored_slot.specs.Stored.{names, pinsOf};
 ghost use Rattle.unscramble.specs.Reading.{maskOf, forcedAt, highAt};
 
 // Whether one before an entry names a GPIO by a kind, or the entry does.
@@ -22,7 +22,12 @@ fn names(overrides: &[u8], n: u8, kind: u8, gpio: u32) -> bool
     let mut found = false;
     let mut k: u8 = 0;
     while k < n {
-        found = names_it(gpio::array::entry(overrides, k as usize), kind, gpio, found);
+        found = names_it(
+            lists::array::entry(overrides, k as usize),
+            kind,
+            gpio,
+            found,
+        );
         k += 1;
     }
     found

@@ -1,36 +1,30 @@
 // Read-back: the chips' bytes from a stored table, so that a fitted board can be held against the ROMs that it stands for. A word is
 // what the entries for it say; where they disagree, or there is none, the slot is refused.
-pub mod stored; // the slot as it is stored
-mod in_domain; // number 1
-mod window; // its windows, and what is wrong with its algorithms
-mod roms; // the ROMs' maps and words
-mod picks; // the lines that pick a ROM
-mod faults; // the refusals in their order
 mod forced; // the bits that overrides force
 mod reading; // what the entries are read by
 mod place; // a word's ROM and address
 
-use crate::faults::roms_fault;
-use crate::in_domain::stored_in;
 use crate::place::fault_of;
 use crate::reading::reading;
-use crate::stored::SlotType;
-use crate::stored::StoredSlot;
-use crate::window::entries;
 use bytes::copy;
-use kept::collect;
-use listing::FirstFault;
+use refusal::Refusal;
+use refusal::first::FirstFault;
 use slot::description::ChipSetType;
-use slot::refusal::Refusal;
+use stored_slot::faults::roms_fault;
+use stored_slot::in_domain::stored_in;
+use stored_slot::stored::SlotType;
+use stored_slot::stored::StoredSlot;
+use stored_slot::window::entries;
+use table_read::collect;
 ghost use mathlib.Core.Path.{_≡_};
 ghost use mathlib.Core.Bool.{true};
 ghost use mathlib.Core.List.{List};
 ghost use Prim.Native.Nat.{ℕ};
 ghost use lib.ListN.{length};
-ghost use Rattle.listing.specs.Listing.{orElse};
-ghost use Rattle.listing.specs.declared.FirstFault.the-variants.{None};
-ghost use Rattle.unscramble.specs.Stored.{storedIn};
-ghost use Rattle.unscramble.specs.Faults.{romsFault};
+ghost use Rattle.refusal.specs.First.{orElse};
+ghost use Rattle.refusal.specs.declared.first.FirstFault.the-variants.{None};
+ghost use Rattle.stored_slot.specs.Stored.{storedIn};
+ghost use Rattle.stored_slot.specs.Faults.{romsFault};
 ghost use Rattle.unscramble.specs.Recovered.{readBack, pluginRead, inconsistent, unserved, afterEntries, afterFault, unscrambled};
 
 // A plugin is stored as it is.

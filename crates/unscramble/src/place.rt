@@ -1,10 +1,10 @@
 // A word's ROM and address, of words counted through all ROMs.
-use crate::roms::words_before;
-use crate::stored::StoredSlot;
-use gpio::array::one_if;
-use kept::Outcome;
-use listing::FirstFault;
-use slot::refusal::Refusal;
+use lists::array::one_if;
+use refusal::Refusal;
+use refusal::first::FirstFault;
+use stored_slot::roms::words_before;
+use stored_slot::stored::StoredSlot;
+use table_read::Outcome;
 ghost use mathlib.Core.Path.{_≡_};
 ghost use Rattle.unscramble.specs.Place.{romOf, addressOf, faultOf};
 

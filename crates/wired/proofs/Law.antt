@@ -10,8 +10,8 @@ use borrow.Author.Tests.{ltb-true, ltb-false, leb-true, eqb-true, eqb-false, not
 use Rattle.gpio.specs.declared.candidates.Candidates.{Candidates}
 use Rattle.gpio.specs.declared.candidates.Candidates.the-variants.{Absent, One, Two}
 use Rattle.gpio.specs.declared.candidates.Pin.{Pin}
-use Rattle.gpio.proofs.Bools.{and-left, and-right, asked}
-use Rattle.gpio.proofs.Each.{each-at}
+use Rattle.lists.proofs.Bools.{and-left, and-right, asked}
+use Rattle.lists.proofs.Each.{each-at}
 use Rattle.slot.specs.Description.{isSingle, isMulti, noPin}
 use Rattle.slot.specs.declared.description.Board.{Board}
 use Rattle.slot.specs.declared.description.Description.{Description}

@@ -1,9 +1,9 @@
--- Document 01, "Well wired", as a test of a description and of the address layout found. Assumes nothing.
+-- A well wired slot as document 01 has it, as a test of a description and of the address layout found. Assumes nothing.
 use Prim.Native.Nat.{ℕ, _+_, _*_}
 use mathlib.Core.Bool.{Bool, true, false, _&&_, _||_, not, cond}
 use lib.Dec.{leb, ltb, eqb}
 use lib.ListN.{length}
-use Rattle.gpio.specs.Each.{each}
+use Rattle.lists.specs.Each.{each}
 use Rattle.gpio.specs.Candidates.{two}
 use Rattle.gpio.specs.declared.candidates.Candidates.{Candidates}
 use Rattle.gpio.specs.declared.candidates.Candidates.the-variants.{Absent, One, Two}
@@ -36,11 +36,13 @@ disjoint Absent e = true
 disjoint (One a) e = not (holds e a)
 disjoint (Two a b) e = not (holds e a) && not (holds e b)
 
--- "No GPIO is a candidate for two pins, X pins included."
+-- 01 Well wired 2: pin i has no candidate in common with another pin of the board
 unfoldable pub aloneAt : ℕ → Board → ℕ → Bool
 aloneAt n b i = each (n + 2) (λ j. eqb i j || disjoint (boardPin n b i) (boardPin n b j))
 
+-- 01 Well wired 2: no two of the socket's pins, X1 and X2 have a candidate in common
 unfoldable pub unsharedAmong : ℕ → Board → Bool
+-- 01 Well wired 2: no two of the socket's pins, X1 and X2 have a candidate in common
 unsharedAmong n b = each (n + 2) (λ i. aloneAt n b i)
 
 abbrev pub unshared : Board → Bool
@@ -57,40 +59,55 @@ apart n pin = each n (λ j. apartFrom n pin j)
 unfoldable pub noneOn : ℕ → (ℕ → ℕ) → ℕ → Bool
 noneOn n pin p = each n (λ k. not (eqb (pin k) p))
 
--- "The address lines in use, and in Multi the per-chip select, lie on different chip pins."
+-- 01 Well wired 1: an address line is in use where its number is below inRange
+-- 01 Well wired 3: no two address lines in use share a chip pin
 abbrev pub linesApart : Description → Bool
 linesApart d = apart (inRange d) (λ n. addressPin d n)
 
+-- 01 Well wired 3: no address line in use shares the chip pin of the select
 abbrev pub selectApart : Description → Bool
+-- 01 Well wired 3: no address line in use shares the chip pin of the select
 selectApart d = noneOn (inRange d) (λ n. addressPin d n) (selectPin d)
 
--- "The data lines too, 8w of them."
+-- 01 Well wired 4: no two data lines share a chip pin
 abbrev pub dataApart : Description → Bool
 dataApart d = apart (numData d) (λ n. dataPin d n)
 
+-- 01 Well wired 4: the chip has 8w data lines
 abbrev pub dataLines : Description → Bool
+-- 01 Well wired 4: the chip has 8w data lines
 dataLines d = eqb (numData d) (8 * d .«word_bytes»)
 
--- "In Multi the select pin has one candidate. A Multi chip has no qualifiers."
+-- 01 Well wired 5: the pin of the select does not have two candidates
 abbrev pub selectOne : Description → Bool
 selectOne d = not (two (pinCandidates d (selectPin d)))
 
+-- 01 Well wired 6: the list of qualifiers is empty
 abbrev pub noQualifiers : Description → Bool
+-- 01 Well wired 6: the list of qualifiers is empty
 noQualifiers d = eqb (d .«num_qualifiers») 0
 
--- "has one candidate in the found address window"
+-- the window of the address layout
 abbrev pub inWindow : AddrLayout → ℕ → Bool
 inWindow a g = leb (a .«gpio_base») g && ltb g (a .«gpio_base» + a .«num_addr_pins»)
 
 abbrev pub oneOf : Bool → Bool → Bool → Bool
 oneOf first second same = (first || second) && (not first || not second || same)
 
+-- 01 Well wired 7: a candidate of the pin is in the window, and no other is
 abbrev pub oneInside : AddrLayout → Candidates → Bool
+-- 01 Well wired 7: a candidate of the pin is in the window, and no other is
 oneInside a Absent = false
+-- 01 Well wired 7: a candidate of the pin is in the window, and no other is
 oneInside a (One g) = inWindow a g
+-- 01 Well wired 7: a candidate of the pin is in the window, and no other is
 oneInside a (Two g h) = oneOf (inWindow a g) (inWindow a h) (eqb g h)
 
--- the sentences in their order; "X1 in Banked and Multi, and X2 with 3 chips or more"
+-- the sentences in their order
+-- 01 Well wired 3: selectApart is asked for in Multi only
+-- 01 Well wired 5: selectOne is asked for in Multi only
+-- 01 Well wired 6: noQualifiers is asked for in Multi only
+-- 01 Well wired 7: oneInside is asked for of X1 outside of Single, and of X2 there from three chips on
 unfoldable pub wired : Description → AddrLayout → Bool
 wired d a =
     unshared (d .board)

@@ -1,5 +1,5 @@
 // Whether lines lie on different pins: n lines, the pin of line k at place first + k of a list.
-use gpio::array::entry;
+use lists::array::entry;
 ghost use mathlib.Core.Path.{_≡_};
 ghost use Prim.Native.Nat.{_+_};
 ghost use lib.ListN.{getD};

@@ -8,7 +8,7 @@ use native.Mathlib.Omega.{arith}
 use lib.ListN.{length, replicate, length-append}
 use lib.Pow.{pow-add}
 use lib.Seq.{getD-at, append-snoc}
-use Rattle.gpio.specs.Tab.{joined}
+use Rattle.lists.specs.Tab.{joined}
 use Rattle.words.specs.Words.{wordFrom, word, bytesOf, padWord, wordsBytes}
 use Rattle.words.proofs.Words.{words-length}
 

@@ -8,7 +8,7 @@ use native.Mathlib.Omega.{arith}
 use lib.ListN.{length, take, drop, getD, length-append}
 use lib.Pow.{pow-add, pow-mono}
 use lib.Seq.{take-at, getD-take, getD-drop, drop-append-add, drop-drop}
-use Rattle.gpio.specs.Tab.{joined}
+use Rattle.lists.specs.Tab.{joined}
 use Rattle.words.specs.Words.{wordFrom, bytesOf, padWord, wordsBytes}
 
 -- one byte more

@@ -2,9 +2,10 @@
 use Prim.Native.Nat.{ℕ, zero, suc, _+_, _*_, _/_, _%_}
 use mathlib.Core.List.{List, [], _∷_}
 use lib.ListN.{getD}
-use Rattle.gpio.specs.Tab.{joined}
+use Rattle.lists.specs.Tab.{joined}
 
--- the number of w bytes from a place: "Words are low byte first."
+-- the number of w bytes from a place
+-- 01 rom_image 9: the first byte of a word is its lowest
 unfoldable pub wordFrom : ℕ → List ℕ → ℕ → ℕ
 wordFrom zero b at = 0
 wordFrom (suc w) b at = getD b at 0 + 256 * wordFrom w b (at + 1)
@@ -13,12 +14,12 @@ wordFrom (suc w) b at = getD b at 0 + 256 * wordFrom w b (at + 1)
 abbrev pub word : ℕ → List ℕ → ℕ → ℕ
 word w b n = wordFrom w b (n * w)
 
--- the bytes of a word, low byte first
+-- 01 rom_image 9: of the bytes of a word, the lowest comes first
 unfoldable pub bytesOf : ℕ → ℕ → List ℕ
 bytesOf zero v = []
 bytesOf (suc w) v = v % 256 ∷ bytesOf w (v / 256)
 
--- the pad word: "hex AA in each byte", over the pad byte
+-- 01 rom_image 6: the pad word has the pad byte, which is handed in here, in each of its w bytes
 unfoldable pub padWord : ℕ → ℕ → ℕ
 padWord zero pad = 0
 padWord (suc w) pad = pad + 256 * padWord w pad

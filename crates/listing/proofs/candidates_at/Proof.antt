@@ -5,7 +5,7 @@ use native.Mathlib.Omega.{arith}
 use borrow.Author.Tests.{le-leb, lt-leb}
 use lib.ListN.{length, List·getD-eq-default}
 use Rattle.slot.specs.Description.{noPin}
-use Rattle.gpio.proofs.Lists.{mapped-length}
+use Rattle.lists.proofs.Lists.{mapped-length}
 use borrow.Author.Needs.{needs}
 use Rattle.listing.proofs.candidates_at.Statement.{statement}
 use Rattle.listing.proofs.candidates_at.Tie as tie

@@ -6,9 +6,9 @@ use native.Mathlib.Numerals.{add-one}
 use native.Mathlib.Omega.{arith}
 use lib.ListN.{length, take, getD}
 use lib.Seq.{take-suc}
-use Rattle.gpio.proofs.Lists.{mapped-length}
+use Rattle.lists.proofs.Lists.{mapped-length}
 use Rattle.listing.specs.declared.Listed.{Listed}
-use Rattle.listing.specs.declared.FirstFault.{FirstFault}
+use Rattle.refusal.specs.declared.first.FirstFault.{FirstFault}
 use Rattle.listing.specs.Listing.{faultFrom, firstFault, keepFault}
 use Rattle.listing.proofs.Faults.{fault-snoc}
 use borrow.Author.Needs.{needs}

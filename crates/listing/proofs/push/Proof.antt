@@ -5,7 +5,7 @@ use native.Mathlib.Numerals.{add-one}
 use native.Mathlib.Omega.{arith}
 use lib.ListN.{length}
 use lib.Seq.{take-suc-set}
-use Rattle.gpio.proofs.Lists.{mapped-length}
+use Rattle.lists.proofs.Lists.{mapped-length}
 use borrow.Author.Needs.{needs}
 use Rattle.listing.proofs.push.Statement.{statement}
 use Rattle.listing.proofs.push.Tie as tie

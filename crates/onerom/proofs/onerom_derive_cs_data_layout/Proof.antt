@@ -3,9 +3,9 @@ use mathlib.Core.Path.{_≡_, ap, _∙_}
 use mathlib.Core.List.{List}
 use Prim.Native.Nat.{ℕ}
 use borrow.Author.Needs.{needs}
-use Rattle.record.specs.Record.{decodedOf}
-use Rattle.record.specs.declared.Answer.the-variants.{Described}
-use Rattle.record.specs.declared.Decoded.{Decoded}
+use Rattle.description_record.specs.Record.{decodedOf}
+use Rattle.description_record.specs.declared.Answer.the-variants.{Described}
+use Rattle.description_record.specs.declared.Decoded.{Decoded}
 use Rattle.cs_data_layout.specs.Search.{csDataAnswer}
 use Rattle.cs_data_layout.specs.declared.layout.CsDataAnswer.{CsDataAnswer}
 use Rattle.cs_data_layout.specs.declared.layout.GivenLayout.{GivenLayout}

@@ -1,7 +1,7 @@
 -- `onerom_round_trip` meets its contract. Assumes nothing.
 use mathlib.Core.Path.{ap, _∙_}
 use Prim.Native.Nat.{ℕ}
-use Rattle.slot.specs.declared.refusal.Refusal.{Refusal}
+use Rattle.refusal.specs.declared.Refusal.{Refusal}
 use Rattle.onerom.specs.Calls.{TripAnswered, tripAnswer, tripRefused, tripCall}
 use Rattle.onerom.proofs.Records.{taken, no-record, formed, not-formed}
 use borrow.Author.Needs.{needs}

@@ -5,12 +5,12 @@ use Prim.Native.Nat.{ℕ, _-_}
 use native.Mathlib.Omega.{arith}
 use lib.ListN.{take}
 use Rattle.slot.specs.declared.description.Description.{Description}
-use Rattle.listing.specs.declared.FirstFault.{FirstFault}
+use Rattle.refusal.specs.declared.first.FirstFault.{FirstFault}
 use Rattle.addr_layout.specs.declared.layout.AddrLayout.{AddrLayout}
 use Rattle.cs_data_layout.specs.declared.layout.CsDataLayout.{CsDataLayout}
-use Rattle.rom_slot.specs.Faults.{tableSize}
+use Rattle.build_args.specs.Faults.{tableSize}
 use Rattle.unscramble.specs.Recovered.{readBack, unscrambled}
-use Rattle.unscramble.specs.declared.stored.StoredSlot.{StoredSlot}
+use Rattle.stored_slot.specs.declared.stored.StoredSlot.{StoredSlot}
 use Rattle.round_trip.specs.Stored.{storedOf}
 use Rattle.round_trip.specs.Chain.{trip, tripRead, readOf}
 use borrow.Author.Needs.{needs}

@@ -6,7 +6,7 @@ use Rattle.stored_record.proofs.formed.Tie as tie
 
 returns : tie.Need-returns
 unfolding storedFormed
-returns c = rw (c .roms-formed .ensures, c .before .pair-in2 .ensures, c .before .before .pair-in .ensures, c .before .before .before .byte-at .ensures)
+returns c = rw (c .roms-formed .ensures, c .before .pair-in2 .ensures, c .before .before .pair-in .ensures, c .before .before .before .entry .ensures)
 
 pub formed-spec : {M : Type 1} → statement M
 formed-spec =

@@ -9,18 +9,18 @@ unfolding storedAt
 returns c = rw (
   c .before .before .before .before .before .before .before .before .before .before .before .before .before .four-at .ensures,
   c .before .before .before .before .before .before .before .before .before .before .before .slot-type .ensures,
-  c .before .before .before .before .before .before .before .before .before .before .before .before .byte-at .ensures,
-  c .before .before .before .before .before .before .before .before .before .before .byte-at2 .ensures,
+  c .before .before .before .before .before .before .before .before .before .before .before .before .entry .ensures,
+  c .before .before .before .before .before .before .before .before .before .before .entry2 .ensures,
   c .before .before .before .before .before .before .before .before .before .alg-addr .ensures,
   c .before .before .before .before .before .before .before .before .alg-data .ensures,
   c .before .before .before .before .before .before .before .alg-dma .ensures,
   c .before .before .before .before .before .before .alg-cs .ensures,
   c .before .before .before .before .before .overrides .ensures,
-  c .before .before .before .before .byte-at3 .ensures,
-  c .before .before .before .candidates-at .ensures,
-  c .before .before .candidates-at2 .ensures,
+  c .before .before .before .before .entry3 .ensures,
+  c .before .before .before .pair-at .ensures,
+  c .before .before .pair-at2 .ensures,
   c .before .roms .ensures,
-  c .byte-at4 .ensures,
+  c .entry4 .ensures,
 )
 
 pub stored-at-spec : {M : Type 1} → statement M

@@ -5,12 +5,12 @@ use mathlib.Core.List.{List}
 use Prim.Native.Nat.{ℕ}
 use lib.ListN.{length}
 use borrow.Author.Tests.{not-true, not-false, eq-eqb, ne-eqb}
-use Rattle.slot.specs.declared.refusal.Refusal.the-variants.{OutOfDomain, WrongSize}
-use Rattle.unscramble.specs.Stored.{storedIn}
-use Rattle.unscramble.specs.Faults.{wrongSize}
+use Rattle.refusal.specs.declared.Refusal.the-variants.{OutOfDomain, WrongSize}
+use Rattle.stored_slot.specs.Stored.{storedIn}
+use Rattle.stored_slot.specs.Faults.{wrongSize}
 use Rattle.unscramble.specs.Recovered.{ReadBack, refused, ofType, unscrambled}
-use Rattle.unscramble.specs.declared.stored.SlotType.{SlotType}
-use Rattle.unscramble.specs.declared.stored.StoredSlot.{StoredSlot}
+use Rattle.stored_slot.specs.declared.stored.SlotType.{SlotType}
+use Rattle.stored_slot.specs.declared.stored.StoredSlot.{StoredSlot}
 use borrow.Author.Needs.{needs}
 use Rattle.unscramble.proofs.unscramble_slot.Statement.{statement}
 use Rattle.unscramble.proofs.unscramble_slot.Tie as tie

@@ -7,10 +7,10 @@ use native.Mathlib.Omega.{arith}
 use native.Mathlib.Nat.{zero-mul}
 use lib.ListN.{length, getD, take}
 use Rattle.gpio.specs.Span.{joined}
-use Rattle.gpio.specs.Tab.{tab}
+use Rattle.lists.specs.Tab.{tab}
 use Rattle.gpio.specs.declared.span.Span.{Span}
-use Rattle.gpio.proofs.Shifts.{shifted-one}
-use Rattle.gpio.proofs.Tab.{getD-begins}
+use Rattle.lists.proofs.Shifts.{shifted-one}
+use Rattle.lists.proofs.Tab.{getD-begins}
 use Rattle.slot.specs.declared.description.Description.{Description}
 use Rattle.listing.specs.Listing.{listOf}
 use Rattle.listing.specs.declared.Listed.{Listed}

@@ -7,11 +7,11 @@ use native.Mathlib.Omega.{arith}
 use lib.Dec.{leb, ltb}
 use lib.ListN.{getD}
 use borrow.Author.Tests.{ltb-false}
-use Rattle.gpio.specs.Tab.{tab}
+use Rattle.lists.specs.Tab.{tab}
 use Rattle.gpio.specs.Window.{fits}
 use Rattle.gpio.specs.declared.span.Span.{Span}
 use Rattle.gpio.proofs.Fits.{fits-within}
-use Rattle.gpio.proofs.Tab.{getD-tab, tab-cong}
+use Rattle.lists.proofs.Tab.{getD-tab, tab-cong}
 use Rattle.search.specs.declared.Trial.the-variants.{Misfit, Score}
 use Rattle.addr_layout.specs.Choices.{reach, inRange, fixedSpan, choiceSpan, pinsOf, trialOf, layoutFrom, layoutOf}
 use Rattle.slot.specs.Description.{isSingle}

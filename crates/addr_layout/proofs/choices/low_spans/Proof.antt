@@ -5,12 +5,12 @@ use Prim.Native.Nat.{ℕ, _^_, _≤_, _-_}
 use native.Mathlib.Omega.{arith}
 use lib.ListN.{take}
 use mathlib.Core.List.{List}
-use Rattle.gpio.specs.Tab.{tab}
+use Rattle.lists.specs.Tab.{tab}
 use Rattle.gpio.specs.declared.span.Span.{Span}
-use Rattle.gpio.proofs.Tab.{Filled, filled-none, filled-turn}
+use Rattle.lists.proofs.Tab.{Filled, filled-none, filled-turn}
 use Rattle.listing.specs.Listing.{listOf}
 use Rattle.addr_layout.specs.Parts.{partSpan}
-use Rattle.gpio.proofs.Shifts.{shifted-one}
+use Rattle.lists.proofs.Shifts.{shifted-one}
 use Rattle.search.proofs.Rows.{row-short}
 use borrow.Author.Needs.{needs}
 use Rattle.addr_layout.proofs.choices.low_spans.Statement.{statement}

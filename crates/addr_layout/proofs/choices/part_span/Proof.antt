@@ -9,10 +9,10 @@ use lib.ListN.{length, take, length-take}
 use Rattle.gpio.specs.Span.{widened}
 use Rattle.gpio.specs.declared.candidates.Candidates.{Candidates}
 use Rattle.gpio.specs.declared.span.Span.{Span}
-use Rattle.gpio.proofs.Lists.{mapped-length}
+use Rattle.lists.proofs.Lists.{mapped-length}
 use Rattle.listing.specs.Listing.{listOf}
 use Rattle.listing.specs.Choice.{chosen, leftBy, pinAt, restAt, gpioAt, bitOf, inPart}
-use Rattle.gpio.proofs.Each.{tally-none}
+use Rattle.lists.proofs.Each.{tally-none}
 use Rattle.listing.proofs.Walked.{pin-taken, rest-left, bit-served}
 use Rattle.listing.specs.declared.Listed.{Listed}
 use Rattle.listing.specs.declared.choice.Picked.{Picked}

@@ -6,8 +6,8 @@ use native.Mathlib.Omega.{arith}
 use native.Mathlib.Nat.{pow-suc}
 use lib.Dec.{leb}
 use lib.Pow.{pow-mono}
-use Rattle.gpio.specs.Each.{tally}
-use Rattle.gpio.proofs.Each.{tally-none, tally-turn, tally-done}
+use Rattle.lists.specs.Each.{tally}
+use Rattle.lists.proofs.Each.{tally-none, tally-turn, tally-done}
 use Rattle.addr_layout.specs.Choices.{reach}
 use borrow.Author.Needs.{needs}
 use Rattle.addr_layout.proofs.choices.reach.Statement.{statement}

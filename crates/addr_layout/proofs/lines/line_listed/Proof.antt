@@ -3,7 +3,7 @@ use mathlib.Core.Path.{_≡_}
 use Prim.Native.Nat.{ℕ}
 use Rattle.gpio.specs.declared.candidates.Candidates.{Candidates}
 use Rattle.slot.specs.declared.description.Description.{Description}
-use Rattle.slot.specs.declared.refusal.Refusal.the-variants.{UnmappedPin}
+use Rattle.refusal.specs.declared.Refusal.the-variants.{UnmappedPin}
 use Rattle.slot.specs.declared.slot_context.Socket.{Socket}
 use Rattle.slot.specs.declared.slot_context.Socket.the-variants.{On, Off}
 use Rattle.listing.specs.declared.Listed.{Listed}

@@ -3,7 +3,7 @@ use mathlib.Core.Path.{_≡_}
 use mathlib.Core.List.{[]}
 use Prim.Native.Nat.{_≤_, _-_}
 use native.Mathlib.Omega.{arith}
-use Rattle.gpio.specs.Tab.{tab}
+use Rattle.lists.specs.Tab.{tab}
 use Rattle.listing.specs.Listing.{listOf}
 use Rattle.listing.proofs.Pushed.{pushed-none, pushed-turn, pushed-done}
 use Rattle.addr_layout.specs.Lines.{lines, lineListed}

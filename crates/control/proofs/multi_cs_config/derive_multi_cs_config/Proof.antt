@@ -1,6 +1,6 @@
 -- `derive_multi_cs_config` meets its contract: lines in the domain are at most 8, as `sort` asks. Assumes nothing.
 use mathlib.Core.Path.{_≡_, sym, _∙_}
-use Rattle.gpio.proofs.Bools.{and-left}
+use Rattle.lists.proofs.Bools.{and-left}
 use Rattle.control.specs.MultiCsConfig.{answerOf, multiAnswer}
 use borrow.Author.Needs.{needs}
 use borrow.Author.Tests.{leb-true}

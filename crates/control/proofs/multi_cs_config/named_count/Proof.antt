@@ -3,8 +3,8 @@
 use mathlib.Core.Path.{_≡_}
 use Prim.Native.Nat.{_≤_, _-_}
 use native.Mathlib.Omega.{arith}
-use Rattle.gpio.specs.Each.{tally}
-use Rattle.gpio.proofs.Each.{tally-none, tally-turn, tally-done}
+use Rattle.lists.specs.Each.{tally}
+use Rattle.lists.proofs.Each.{tally-none, tally-turn, tally-done}
 use Rattle.slot.specs.Description.{kindAt}
 use Rattle.control.specs.MultiCsConfig.{named}
 use borrow.Author.Needs.{needs}

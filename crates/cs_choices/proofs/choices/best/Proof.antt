@@ -4,7 +4,7 @@ use Prim.Native.Nat.{_*_, _^_, _-_}
 use native.Mathlib.Nat.{zero-mul}
 use native.Mathlib.Omega.{arith}
 use lib.ListN.{length}
-use Rattle.gpio.proofs.Lists.{mapped-length}
+use Rattle.lists.proofs.Lists.{mapped-length}
 use Rattle.listing.specs.Listing.{listOf}
 use Rattle.search.specs.Search.{best}
 use Rattle.search.proofs.Rows.{rows-turn, rows-done}

@@ -5,9 +5,9 @@ use mathlib.Core.List.{List}
 use Prim.Native.Nat.{ℕ, _^_, _≤_, _-_}
 use native.Mathlib.Omega.{arith}
 use lib.ListN.{take}
-use Rattle.gpio.specs.Tab.{tab}
-use Rattle.gpio.proofs.Shifts.{shifted-one}
-use Rattle.gpio.proofs.Tab.{Filled, filled-none, filled-turn}
+use Rattle.lists.specs.Tab.{tab}
+use Rattle.lists.proofs.Shifts.{shifted-one}
+use Rattle.lists.proofs.Tab.{Filled, filled-none, filled-turn}
 use Rattle.listing.specs.Listing.{listOf}
 use Rattle.listing.specs.Choice.{GpiosIn}
 use Rattle.search.proofs.Rows.{row-short}

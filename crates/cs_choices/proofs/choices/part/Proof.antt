@@ -8,8 +8,8 @@ use native.Mathlib.Omega.{arith}
 use lib.Dec.{leb}
 use lib.ListN.{length}
 use Rattle.gpio.specs.Set.{with}
-use Rattle.gpio.proofs.Each.{tally-none}
-use Rattle.gpio.proofs.Lists.{mapped-length}
+use Rattle.lists.proofs.Each.{tally-none}
+use Rattle.lists.proofs.Lists.{mapped-length}
 use Rattle.listing.specs.Listing.{listOf}
 use Rattle.listing.specs.Choice.{restAt, gpioAt, bitOf, inPart, GpiosIn}
 use Rattle.listing.specs.declared.Listed.{Listed}

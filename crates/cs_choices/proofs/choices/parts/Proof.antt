@@ -5,7 +5,7 @@ use mathlib.Core.List.{List}
 use Prim.Native.Nat.{ℕ}
 use native.Mathlib.Omega.{arith}
 use lib.ListN.{length, length-take}
-use Rattle.gpio.proofs.Lists.{mapped-length}
+use Rattle.lists.proofs.Lists.{mapped-length}
 use Rattle.listing.specs.Listing.{listOf}
 use Rattle.listing.specs.declared.Listed.{Listed}
 use Rattle.cs_choices.specs.Parts.{partAt, partsOf}

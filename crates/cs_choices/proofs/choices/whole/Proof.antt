@@ -6,7 +6,7 @@ use native.Mathlib.Omega.{arith}
 use lib.Bits.{bitOr}
 use lib.ListN.{length, length-take}
 use mathlib.Core.Bool.{false}
-use Rattle.gpio.proofs.Lists.{mapped-length}
+use Rattle.lists.proofs.Lists.{mapped-length}
 use Rattle.listing.specs.Listing.{listOf}
 use Rattle.listing.specs.declared.Listed.{Listed}
 use Rattle.cs_choices.specs.Parts.{partsOf, setsOf}

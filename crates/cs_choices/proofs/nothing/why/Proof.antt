@@ -5,9 +5,10 @@ use Prim.Native.Nat.{ℕ, _*_, _+_, _^_, _<_, _-_}
 use native.Mathlib.Nat.{zero-mul}
 use native.Mathlib.Omega.{arith}
 use lib.ListN.{length}
-use Rattle.gpio.proofs.Lists.{mapped-length}
-use Rattle.listing.specs.Listing.{listOf, orElse}
-use Rattle.listing.specs.declared.FirstFault.{FirstFault}
+use Rattle.lists.proofs.Lists.{mapped-length}
+use Rattle.listing.specs.Listing.{listOf}
+use Rattle.refusal.specs.First.{orElse}
+use Rattle.refusal.specs.declared.first.FirstFault.{FirstFault}
 use Rattle.listing.specs.declared.Listed.{Listed}
 use Rattle.search.proofs.Rows.{row-added, rows-done}
 use Rattle.cs_choices.specs.Nothing.{interiorIn, nothingFits}

@@ -3,7 +3,7 @@ use mathlib.Core.Path.{_≡_, refl, _∙_}
 use mathlib.Core.List.{List}
 use Prim.Native.Nat.{ℕ, _+_, _-_, _≤_}
 use lib.ListN.{getD}
-use Rattle.gpio.proofs.Tab.{Filled, filled-none, filled-turn, filled}
+use Rattle.lists.proofs.Tab.{Filled, filled-none, filled-turn, filled}
 use Rattle.slot.specs.declared.description.Description.{Description}
 use Rattle.cs_data_layout.specs.Choices.{commonedLine}
 use Rattle.cs_data_layout.specs.declared.layout.SelectLine.{SelectLine}

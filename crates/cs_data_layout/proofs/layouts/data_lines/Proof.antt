@@ -4,7 +4,7 @@ use mathlib.Core.Bool.{cond}
 use Prim.Native.Nat.{_-_}
 use lib.Dec.{ltb}
 use lib.ListN.{getD}
-use Rattle.gpio.proofs.Tab.{Filled, filled-none, filled-turn, filled}
+use Rattle.lists.proofs.Tab.{Filled, filled-none, filled-turn, filled}
 use borrow.Author.Needs.{needs}
 use Rattle.cs_data_layout.proofs.layouts.data_lines.Statement.{statement}
 use Rattle.cs_data_layout.proofs.layouts.data_lines.Tie as tie

@@ -7,11 +7,11 @@ use native.Mathlib.Omega.{arith}
 use lib.Dec.{ltb}
 use lib.ListN.{length, getD, length-take, List·getD-eq-default}
 use borrow.Author.Tests.{ltb-true, ltb-false}
-use Rattle.gpio.specs.Tab.{tab}
+use Rattle.lists.specs.Tab.{tab}
 use Rattle.gpio.specs.declared.candidates.Candidates.the-variants.{Absent}
-use Rattle.gpio.proofs.Tab.{tab-length, getD-tab, tab-cong}
+use Rattle.lists.proofs.Tab.{tab-length, getD-tab, tab-cong}
 use Rattle.slot.specs.declared.description.Description.{Description}
-use Rattle.slot.specs.declared.refusal.Refusal.the-variants.{OutOfDomain}
+use Rattle.refusal.specs.declared.Refusal.the-variants.{OutOfDomain}
 use Rattle.listing.specs.Choice.{chosen, restAt, gpioAt}
 use Rattle.listing.specs.Listing.{listed, listOf}
 use Rattle.listing.specs.declared.Listed.{Listed}

@@ -8,7 +8,7 @@ use borrow.Author.Tests.{leb-true}
 use Rattle.gpio.specs.Candidates.{candidatesIn, gpioIn}
 use Rattle.gpio.specs.declared.candidates.Candidates.{Candidates}
 use Rattle.gpio.specs.declared.candidates.Candidates.the-variants.{One, Two}
-use Rattle.gpio.proofs.Bools.{and-left, and-right}
+use Rattle.lists.proofs.Bools.{and-left, and-right}
 use borrow.Author.Needs.{needs}
 use Rattle.cs_data_layout.proofs.sets.with_candidates.Statement.{statement}
 use Rattle.cs_data_layout.proofs.sets.with_candidates.Tie as tie

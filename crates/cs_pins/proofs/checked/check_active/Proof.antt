@@ -4,9 +4,9 @@ use mathlib.Core.List.{List, [], _∷_, _++_}
 use Prim.Native.Nat.{ℕ, zero, suc, _<_}
 use native.Mathlib.Omega.{arith}
 use lib.ListN.{length, take}
-use Rattle.gpio.proofs.Lists.{mapped-length}
+use Rattle.lists.proofs.Lists.{mapped-length}
 use Rattle.gpio.specs.declared.candidates.Candidates.the-variants.{Absent}
-use Rattle.slot.specs.declared.refusal.Refusal.the-variants.{NoSelectLine}
+use Rattle.refusal.specs.declared.Refusal.the-variants.{NoSelectLine}
 use Rattle.listing.specs.Listing.{listed}
 use Rattle.listing.specs.declared.Listed.{Listed}
 use Rattle.cs_pins.specs.Checked.{orNoActive}

@@ -4,7 +4,7 @@ use mathlib.Core.List.{[]}
 use Prim.Native.Nat.{_≤_, _-_}
 use native.Mathlib.Omega.{arith}
 use lib.ListN.{getD}
-use Rattle.gpio.specs.Tab.{tab}
+use Rattle.lists.specs.Tab.{tab}
 use Rattle.slot.specs.Description.{chip0}
 use Rattle.slot.specs.declared.description.Chip.{Chip}
 use Rattle.listing.specs.Listing.{listOf}

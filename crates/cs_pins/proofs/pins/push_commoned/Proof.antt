@@ -4,7 +4,7 @@ use mathlib.Core.List.{_++_}
 use Prim.Native.Nat.{_+_, _≤_, _-_}
 use native.Mathlib.Omega.{arith}
 use lib.ListN.{getD}
-use Rattle.gpio.specs.Tab.{tab}
+use Rattle.lists.specs.Tab.{tab}
 use Rattle.listing.specs.Listing.{listOf}
 use Rattle.listing.proofs.Pushed.{pushed-none, pushed-turn, pushed-done}
 use Rattle.cs_pins.specs.Pins.{kindListed}

@@ -2,7 +2,7 @@
 use mathlib.Core.Path.{_≡_}
 use native.Mathlib.Omega.{arith}
 use lib.ListN.{length, List·getD-eq-default}
-use Rattle.gpio.proofs.Lists.{mapped-length}
+use Rattle.lists.proofs.Lists.{mapped-length}
 use Rattle.slot.specs.Description.{noLine}
 use borrow.Author.Needs.{needs}
 use Rattle.domain.proofs.chip.control_line.Statement.{statement}

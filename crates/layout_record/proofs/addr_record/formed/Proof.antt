@@ -6,7 +6,7 @@ use Rattle.layout_record.proofs.addr_record.formed.Tie as tie
 
 returns : tie.Need-returns
 unfolding layoutFormed
-returns c = rw (c .before .before .byte-at .ensures, c .before .byte-at2 .ensures, c .four-at .ensures)
+returns c = rw (c .before .before .entry .ensures, c .before .entry2 .ensures, c .four-at .ensures)
 
 pub formed-spec : {M : Type 1} → statement M
 formed-spec =

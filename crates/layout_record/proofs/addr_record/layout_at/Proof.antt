@@ -6,7 +6,7 @@ use Rattle.layout_record.proofs.addr_record.layout_at.Tie as tie
 
 returns : tie.Need-returns
 unfolding layoutAt
-returns c = rw (c .byte-at6 .ensures, c .before .byte-at5 .ensures, c .before .before .twenty-four-at .ensures, c .before .before .before .x-of2 .ensures, c .before .before .before .before .byte-at4 .ensures, c .before .before .before .before .before .x-of .ensures, c .before .before .before .before .before .before .byte-at3 .ensures, c .before .before .before .before .before .before .before .byte-at2 .ensures, c .before .before .before .before .before .before .before .before .byte-at .ensures)
+returns c = rw (c .entry6 .ensures, c .before .entry5 .ensures, c .before .before .twenty-four-at .ensures, c .before .before .before .x-of2 .ensures, c .before .before .before .before .entry4 .ensures, c .before .before .before .before .before .x-of .ensures, c .before .before .before .before .before .before .entry3 .ensures, c .before .before .before .before .before .before .before .entry2 .ensures, c .before .before .before .before .before .before .before .before .entry .ensures)
 
 pub layout-at-spec : {M : Type 1} → statement M
 layout-at-spec =

@@ -1,6 +1,6 @@
 -- `commoned_lines` meets its contract: each line is what its two bytes have. Assumes nothing.
 use borrow.Author.Needs.{needs}
-use Rattle.gpio.specs.Tab.{tab}
+use Rattle.lists.specs.Tab.{tab}
 use Rattle.layout_record.proofs.cs_data_record.commoned_lines.Statement.{statement}
 use Rattle.layout_record.proofs.cs_data_record.commoned_lines.Tie as tie
 

@@ -6,7 +6,7 @@ use Rattle.layout_record.proofs.cs_data_record.formed.Tie as tie
 
 returns : tie.Need-returns
 unfolding csDataFormed
-returns c = rw (c .byte-at .ensures)
+returns c = rw (c .entry .ensures)
 
 pub formed-spec : {M : Type 1} → statement M
 formed-spec =

@@ -6,7 +6,7 @@ use Rattle.layout_record.proofs.cs_data_record.layout_at.Tie as tie
 
 returns : tie.Need-returns
 unfolding csDataAt
-returns c = rw (c .qualifiers .ensures, c .before .byte-at8 .ensures, c .before .before .commoned-lines .ensures, c .before .before .before .byte-at7 .ensures, c .before .before .before .before .select-lines .ensures, c .before .before .before .before .before .ignore-of .ensures, c .before .before .before .before .before .before .byte-at6 .ensures, c .before .before .before .before .before .before .before .byte-at5 .ensures, c .before .before .before .before .before .before .before .before .byte-at4 .ensures, c .before .before .before .before .before .before .before .before .before .sixteen-at .ensures, c .before .before .before .before .before .before .before .before .before .before .byte-at3 .ensures, c .before .before .before .before .before .before .before .before .before .before .before .byte-at2 .ensures, c .before .before .before .before .before .before .before .before .before .before .before .before .byte-at .ensures)
+returns c = rw (c .qualifiers .ensures, c .before .entry8 .ensures, c .before .before .commoned-lines .ensures, c .before .before .before .entry7 .ensures, c .before .before .before .before .select-lines .ensures, c .before .before .before .before .before .ignore-of .ensures, c .before .before .before .before .before .before .entry6 .ensures, c .before .before .before .before .before .before .before .entry5 .ensures, c .before .before .before .before .before .before .before .before .entry4 .ensures, c .before .before .before .before .before .before .before .before .before .sixteen-at .ensures, c .before .before .before .before .before .before .before .before .before .before .entry3 .ensures, c .before .before .before .before .before .before .before .before .before .before .before .entry2 .ensures, c .before .before .before .before .before .before .before .before .before .before .before .before .entry .ensures)
 
 pub layout-at-spec : {M : Type 1} → statement M
 layout-at-spec =

@@ -4,7 +4,7 @@ use Rattle.layout_record.proofs.cs_data_record.line_from.Statement.{sta
 use Rattle.layout_record.proofs.cs_data_record.line_from.Tie as tie
 
 returns : tie.Need-returns
-returns c = rw (c .byte-at2 .ensures, c .before .byte-at .ensures)
+returns c = rw (c .entry2 .ensures, c .before .entry .ensures)
 
 pub line-from-spec : {M : Type 1} → statement M
 line-from-spec =

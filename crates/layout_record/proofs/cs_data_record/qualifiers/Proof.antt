@@ -4,7 +4,7 @@ use Rattle.layout_record.proofs.cs_data_record.qualifiers.Statement.{st
 use Rattle.layout_record.proofs.cs_data_record.qualifiers.Tie as tie
 
 returns : tie.Need-returns
-returns c = rw (c .byte-at4 .ensures, c .before .byte-at3 .ensures, c .before .before .byte-at2 .ensures, c .before .before .before .byte-at .ensures)
+returns c = rw (c .entry4 .ensures, c .before .entry3 .ensures, c .before .before .entry2 .ensures, c .before .before .before .entry .ensures)
 
 pub qualifiers-spec : {M : Type 1} → statement M
 qualifiers-spec =

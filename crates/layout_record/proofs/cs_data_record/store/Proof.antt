@@ -5,7 +5,7 @@ use Prim.Native.Nat.{ℕ}
 use native.Mathlib.Omega.{arith}
 use lib.ListN.{length, drop}
 use borrow.Author.Needs.{needs}
-use Rattle.gpio.proofs.Tab.{tab-length}
+use Rattle.lists.proofs.Tab.{tab-length}
 use Rattle.cs_data_layout.specs.declared.layout.CsDataLayout.{CsDataLayout}
 use Rattle.layout_record.specs.CsDataRecord.{csDataSize, csDataHead, linesBytes, csDataBytes}
 use Rattle.layout_record.proofs.Parts.{room, three-parts, array-is}

@@ -1,6 +1,6 @@
 -- `formed` meets its contract: each chip is looked at. Assumes nothing.
 use borrow.Author.Needs.{needs}
-use Rattle.gpio.specs.Each.{each}
+use Rattle.lists.specs.Each.{each}
 use Rattle.layout_record.specs.ImageRecord.{spansFormed}
 use Rattle.layout_record.proofs.image_record.formed.Statement.{statement}
 use Rattle.layout_record.proofs.image_record.formed.Tie as tie

@@ -4,7 +4,7 @@ use Rattle.layout_record.proofs.image_record.span_from.Statement.{state
 use Rattle.layout_record.proofs.image_record.span_from.Tie as tie
 
 returns : tie.Need-returns
-returns c = rw (c .four-at2 .ensures, c .before .four-at .ensures, c .before .before .byte-at .ensures)
+returns c = rw (c .four-at2 .ensures, c .before .four-at .ensures, c .before .before .entry .ensures)
 
 pub span-from-spec : {M : Type 1} → statement M
 span-from-spec =

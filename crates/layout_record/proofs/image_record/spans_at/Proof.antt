@@ -1,6 +1,6 @@
 -- `spans_at` meets its contract: each chip's span is what its 12 bytes have. Assumes nothing.
 use borrow.Author.Needs.{needs}
-use Rattle.gpio.specs.Tab.{tab}
+use Rattle.lists.specs.Tab.{tab}
 use Rattle.layout_record.proofs.image_record.spans_at.Statement.{statement}
 use Rattle.layout_record.proofs.image_record.spans_at.Tie as tie
 

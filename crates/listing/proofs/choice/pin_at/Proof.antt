@@ -6,8 +6,8 @@ use native.Mathlib.Omega.{arith}
 use lib.ListN.{length, take, length-take, List·getD-eq-default}
 use lib.Seq.{getD-take}
 use Rattle.gpio.specs.declared.candidates.Candidates.the-variants.{Absent}
-use Rattle.gpio.proofs.Lists.{mapped-length}
-use Rattle.slot.specs.declared.refusal.Refusal.the-variants.{OutOfDomain}
+use Rattle.lists.proofs.Lists.{mapped-length}
+use Rattle.refusal.specs.declared.Refusal.the-variants.{OutOfDomain}
 use Rattle.listing.specs.declared.Listed.{Listed}
 use Rattle.listing.specs.Listing.{listed}
 use Rattle.listing.specs.Choice.{pinAt}

@@ -1,7 +1,7 @@
 -- `resolve` meets its contract. The loop's invariant: the GPIOs of the pins passed are in place, and `rest` is what they left of the choice. Assumes nothing.
 use mathlib.Core.Path.{_≡_, refl}
 use Prim.Native.Nat.{_-_}
-use Rattle.gpio.proofs.Tab.{Filled, filled-none, filled-turn, filled}
+use Rattle.lists.proofs.Tab.{Filled, filled-none, filled-turn, filled}
 use Rattle.listing.specs.Listing.{listOf}
 use Rattle.listing.specs.Choice.{restAt, gpioAt}
 use Rattle.listing.proofs.Walked.{gpio-taken, rest-left}

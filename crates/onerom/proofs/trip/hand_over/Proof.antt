@@ -1,7 +1,7 @@
 -- `hand_over` meets its contract. Assumes nothing.
 use mathlib.Core.Path.{ap, _∙_}
 use mathlib.Core.List.{List}
-use Rattle.rom_slot.specs.declared.images.ImageSpan.{ImageSpan}
+use Rattle.build_args.specs.declared.images.ImageSpan.{ImageSpan}
 use Rattle.round_trip.specs.Chain.{roundTripOf}
 use Rattle.onerom.specs.Calls.{tripFound}
 use borrow.Author.Needs.{needs}

@@ -3,8 +3,8 @@ use mathlib.Core.Path.{refl}
 use Prim.Native.Nat.{_-_}
 use native.Mathlib.Omega.{arith}
 use borrow.Author.Needs.{needs}
-use Rattle.gpio.proofs.Tab.{Filled, filled-none, filled-turn, filled}
-use Rattle.rom_slot.specs.Picks.{pickedBy}
+use Rattle.lists.proofs.Tab.{Filled, filled-none, filled-turn, filled}
+use Rattle.picks.specs.Picks.{pickedBy}
 use Rattle.rom_image.specs.Wiring.{sourceOf}
 use Rattle.rom_image.proofs.sources.sources.Statement.{statement}
 use Rattle.rom_image.proofs.sources.sources.Tie as tie

@@ -5,17 +5,17 @@ use Prim.Native.Nat.{ℕ, _*_, _%_, _^_, _<_, _≤_}
 use native.Mathlib.Omega.{arith}
 use borrow.Author.Needs.{needs}
 use lib.ListN.{drop}
-use Rattle.gpio.proofs.Shifts.{shifted-one}
+use Rattle.lists.proofs.Shifts.{shifted-one}
 use Rattle.words.proofs.Words.{pad-lt}
-use Rattle.entries.specs.Entries.{WiringIn, SourcesIn, tableBy}
-use Rattle.entries.specs.declared.wiring.Wiring.{Wiring}
-use Rattle.entries.specs.declared.sources.Source.{Source}
+use Rattle.table_fill.specs.Entries.{WiringIn, SourcesIn, tableBy}
+use Rattle.table_fill.specs.declared.wiring.Wiring.{Wiring}
+use Rattle.table_fill.specs.declared.sources.Source.{Source}
 use Rattle.slot.specs.declared.description.Description.{Description}
 use Rattle.addr_layout.specs.declared.layout.AddrLayout.{AddrLayout}
 use Rattle.cs_data_layout.specs.declared.layout.CsDataLayout.{CsDataLayout}
-use Rattle.rom_slot.proofs.Facts.{selected, data-base}
-use Rattle.rom_slot.specs.Faults.{entriesOf, tableSize}
-use Rattle.rom_slot.specs.declared.images.ImageSpan.{ImageSpan}
+use Rattle.build_args.proofs.Facts.{selected, data-base}
+use Rattle.build_args.specs.Faults.{entriesOf, tableSize}
+use Rattle.build_args.specs.declared.images.ImageSpan.{ImageSpan}
 use Rattle.rom_image.specs.Entry.{padByte, padOf, tableOf}
 use Rattle.rom_image.specs.Wiring.{wiringOf, sourcesOf}
 use Rattle.rom_image.proofs.Buildable.{Buildable}

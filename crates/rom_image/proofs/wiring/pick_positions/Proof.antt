@@ -3,9 +3,9 @@ use mathlib.Core.Path.{refl}
 use Prim.Native.Nat.{_-_}
 use native.Mathlib.Omega.{arith}
 use borrow.Author.Needs.{needs}
-use Rattle.gpio.proofs.Tab.{Filled, filled-none, filled-turn, filled}
-use Rattle.rom_slot.specs.Positions.{xPosition}
-use Rattle.rom_slot.specs.Picks.{pickOf}
+use Rattle.lists.proofs.Tab.{Filled, filled-none, filled-turn, filled}
+use Rattle.picks.specs.Positions.{xPosition}
+use Rattle.build_args.specs.Picks.{pickOf}
 use Rattle.rom_image.proofs.wiring.pick_positions.Statement.{statement}
 use Rattle.rom_image.proofs.wiring.pick_positions.Tie as tie
 

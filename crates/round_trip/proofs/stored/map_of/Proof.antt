@@ -6,7 +6,7 @@ use native.Mathlib.Omega.{arith}
 use lib.Dec.{ltb}
 use lib.ListN.{getD}
 use borrow.Author.Needs.{needs}
-use Rattle.gpio.proofs.Tab.{Filled, filled-none, filled-turn, filled}
+use Rattle.lists.proofs.Tab.{Filled, filled-none, filled-turn, filled}
 use Rattle.round_trip.proofs.stored.map_of.Statement.{statement}
 use Rattle.round_trip.proofs.stored.map_of.Tie as tie
 

@@ -3,7 +3,7 @@ use mathlib.Core.Path.{refl}
 use Prim.Native.Nat.{_-_}
 use native.Mathlib.Omega.{arith}
 use borrow.Author.Needs.{needs}
-use Rattle.gpio.proofs.Tab.{Filled, filled-none, filled-turn, filled}
+use Rattle.lists.proofs.Tab.{Filled, filled-none, filled-turn, filled}
 use Rattle.round_trip.specs.Stored.{romOf}
 use Rattle.round_trip.proofs.stored.roms.Statement.{statement}
 use Rattle.round_trip.proofs.stored.roms.Tie as tie

@@ -5,10 +5,10 @@ use Rattle.stored_record.proofs.parts.alg_addr.Tie as tie
 
 returns : tie.Need-returns
 returns c = rw (
-  c .before .before .before .byte-at .ensures,
-  c .before .before .byte-at2 .ensures,
-  c .before .byte-at3 .ensures,
-  c .byte-at4 .ensures,
+  c .before .before .before .entry .ensures,
+  c .before .before .entry2 .ensures,
+  c .before .entry3 .ensures,
+  c .entry4 .ensures,
 )
 
 pub alg-addr-spec : {M : Type 1} → statement M

@@ -4,7 +4,7 @@ use Rattle.stored_record.proofs.parts.alg_data.Statement.{statement}
 use Rattle.stored_record.proofs.parts.alg_data.Tie as tie
 
 returns : tie.Need-returns
-returns c = rw (c .byte-at3 .ensures, c .before .byte-at2 .ensures, c .before .before .byte-at .ensures)
+returns c = rw (c .entry3 .ensures, c .before .entry2 .ensures, c .before .before .entry .ensures)
 
 pub alg-data-spec : {M : Type 1} → statement M
 alg-data-spec =

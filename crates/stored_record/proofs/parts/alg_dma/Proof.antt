@@ -4,7 +4,7 @@ use Rattle.stored_record.proofs.parts.alg_dma.Statement.{statement}
 use Rattle.stored_record.proofs.parts.alg_dma.Tie as tie
 
 returns : tie.Need-returns
-returns c = rw (c .byte-at2 .ensures, c .before .byte-at .ensures)
+returns c = rw (c .entry2 .ensures, c .before .entry .ensures)
 
 pub alg-dma-spec : {M : Type 1} → statement M
 alg-dma-spec =

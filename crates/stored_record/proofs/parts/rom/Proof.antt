@@ -6,7 +6,7 @@ use Rattle.stored_record.proofs.parts.rom.Tie as tie
 
 returns : tie.Need-returns
 unfolding romFrom
-returns c = rw (c .lines2 .ensures, c .before .lines .ensures, c .before .before .four-at .ensures, c .before .before .before .byte-at .ensures)
+returns c = rw (c .lines2 .ensures, c .before .lines .ensures, c .before .before .four-at .ensures, c .before .before .before .entry .ensures)
 
 pub rom-spec : {M : Type 1} → statement M
 rom-spec =

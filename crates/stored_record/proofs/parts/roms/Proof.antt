@@ -1,6 +1,6 @@
 -- `roms` meets its contract: each ROM is what its 72 bytes have. Assumes nothing.
 use borrow.Author.Needs.{needs}
-use Rattle.gpio.specs.Tab.{tab}
+use Rattle.lists.specs.Tab.{tab}
 use Rattle.stored_record.proofs.parts.roms.Statement.{statement}
 use Rattle.stored_record.proofs.parts.roms.Tie as tie
 

@@ -1,6 +1,6 @@
 -- `roms_formed` meets its contract: each ROM is looked at. Assumes nothing.
 use borrow.Author.Needs.{needs}
-use Rattle.gpio.specs.Each.{each}
+use Rattle.lists.specs.Each.{each}
 use Rattle.stored_record.proofs.parts.roms_formed.Statement.{statement}
 use Rattle.stored_record.proofs.parts.roms_formed.Tie as tie
 

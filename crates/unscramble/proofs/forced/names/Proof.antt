@@ -2,7 +2,7 @@
 use mathlib.Core.Path.{_≡_}
 use Prim.Native.Nat.{_-_, _≤_}
 use native.Mathlib.Omega.{arith}
-use Rattle.unscramble.specs.Stored.{names}
+use Rattle.stored_slot.specs.Stored.{names}
 use Rattle.unscramble.proofs.Loops.{names-none, names-turn, names-done}
 use borrow.Author.Needs.{needs}
 use Rattle.unscramble.proofs.forced.names.Statement.{statement}

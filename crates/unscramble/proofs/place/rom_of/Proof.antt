@@ -6,10 +6,10 @@ use native.Mathlib.Omega.{arith}
 use native.Mathlib.Numerals.{add-one}
 use lib.Dec.{leb}
 use borrow.Author.Needs.{needs}
-use Rattle.gpio.specs.Each.{tally}
-use Rattle.gpio.proofs.Each.{tally-none, tally-done}
-use Rattle.unscramble.specs.Words.{wordsBefore}
-use Rattle.unscramble.specs.declared.stored.StoredSlot.{StoredSlot}
+use Rattle.lists.specs.Each.{tally}
+use Rattle.lists.proofs.Each.{tally-none, tally-done}
+use Rattle.stored_slot.specs.Words.{wordsBefore}
+use Rattle.stored_slot.specs.declared.stored.StoredSlot.{StoredSlot}
 use Rattle.unscramble.proofs.place.rom_of.Statement.{statement}
 use Rattle.unscramble.proofs.place.rom_of.Tie as tie
 

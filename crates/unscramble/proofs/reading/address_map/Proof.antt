@@ -1,9 +1,9 @@
 -- `address_map` meets its contract. Assumes nothing.
 use mathlib.Core.Path.{_∙_, ap}
 use Prim.Native.Nat.{ℕ}
-use Rattle.unscramble.specs.Stored.{addrBase}
+use Rattle.stored_slot.specs.Stored.{addrBase}
 use Rattle.unscramble.specs.Reading.{mapOf}
-use Rattle.unscramble.specs.declared.stored.Rom.{Rom}
+use Rattle.stored_slot.specs.declared.stored.Rom.{Rom}
 use borrow.Author.Needs.{needs}
 use Rattle.unscramble.proofs.reading.address_map.Statement.{statement}
 use Rattle.unscramble.proofs.reading.address_map.Tie as tie

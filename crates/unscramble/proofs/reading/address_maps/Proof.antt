@@ -1,5 +1,5 @@
 -- `address_maps` meets its contract: each place's in its place. Assumes nothing.
-use Rattle.gpio.specs.Tab.{tab}
+use Rattle.lists.specs.Tab.{tab}
 use borrow.Author.Needs.{needs}
 use Rattle.unscramble.proofs.reading.address_maps.Statement.{statement}
 use Rattle.unscramble.proofs.reading.address_maps.Tie as tie

@@ -2,9 +2,9 @@
 use mathlib.Core.Path.{_∙_, ap}
 use Prim.Native.Nat.{ℕ}
 use borrow.Author.Tests.{lt-ltb, le-ltb}
-use Rattle.unscramble.specs.Stored.{dataBase}
+use Rattle.stored_slot.specs.Stored.{dataBase}
 use Rattle.unscramble.specs.Reading.{mapOf}
-use Rattle.unscramble.specs.declared.stored.Rom.{Rom}
+use Rattle.stored_slot.specs.declared.stored.Rom.{Rom}
 use borrow.Author.Needs.{needs}
 use Rattle.unscramble.proofs.reading.data_map.Statement.{statement}
 use Rattle.unscramble.proofs.reading.data_map.Tie as tie

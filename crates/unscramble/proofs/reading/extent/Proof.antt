@@ -2,7 +2,7 @@
 use Prim.Native.Nat.{suc, _^_, _≤_}
 use native.Mathlib.Omega.{arith}
 use borrow.Author.Tests.{lt-ltb, le-ltb}
-use Rattle.unscramble.specs.Words.{wordsBefore, romWords}
+use Rattle.stored_slot.specs.Words.{wordsBefore, romWords}
 use Rattle.unscramble.proofs.Flat.{before-le, before-next}
 use borrow.Author.Needs.{needs}
 use Rattle.unscramble.proofs.reading.extent.Statement.{statement}

@@ -1,5 +1,5 @@
 -- `extents` meets its contract: each place's in its place. Assumes nothing.
-use Rattle.gpio.specs.Tab.{tab}
+use Rattle.lists.specs.Tab.{tab}
 use borrow.Author.Needs.{needs}
 use Rattle.unscramble.proofs.reading.extents.Statement.{statement}
 use Rattle.unscramble.proofs.reading.extents.Tie as tie

@@ -4,8 +4,8 @@ use mathlib.Core.Bool.{cond}
 use Prim.Native.Nat.{_-_}
 use native.Mathlib.Omega.{arith}
 use lib.Dec.{ltb}
-use Rattle.gpio.proofs.Tab.{Filled, filled-none, filled-turn, filled}
-use Rattle.unscramble.specs.Words.{pickPosition}
+use Rattle.lists.proofs.Tab.{Filled, filled-none, filled-turn, filled}
+use Rattle.stored_slot.specs.Words.{pickPosition}
 use borrow.Author.Needs.{needs}
 use Rattle.unscramble.proofs.reading.pick_positions.Statement.{statement}
 use Rattle.unscramble.proofs.reading.pick_positions.Tie as tie

@@ -2,8 +2,8 @@
 use mathlib.Core.Path.{refl, _∙_, ap}
 use Prim.Native.Nat.{_-_}
 use native.Mathlib.Omega.{arith}
-use Rattle.gpio.proofs.Tab.{Filled, filled-none, filled-turn, filled}
-use Rattle.rom_slot.specs.Picks.{pickedBy}
+use Rattle.lists.proofs.Tab.{Filled, filled-none, filled-turn, filled}
+use Rattle.picks.specs.Picks.{pickedBy}
 use Rattle.unscramble.specs.Reading.{placeOf}
 use borrow.Author.Needs.{needs}
 use Rattle.unscramble.proofs.reading.places.Statement.{statement}

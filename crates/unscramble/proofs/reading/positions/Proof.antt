@@ -3,7 +3,7 @@ use mathlib.Core.Path.{refl}
 use Prim.Native.Nat.{_-_}
 use native.Mathlib.Omega.{arith}
 use lib.ListN.{getD}
-use Rattle.gpio.proofs.Tab.{Filled, filled-none, filled-turn, filled}
+use Rattle.lists.proofs.Tab.{Filled, filled-none, filled-turn, filled}
 use borrow.Author.Needs.{needs}
 use Rattle.unscramble.proofs.reading.positions.Statement.{statement}
 use Rattle.unscramble.proofs.reading.positions.Tie as tie

@@ -4,8 +4,8 @@ use Prim.Native.Nat.{_+_, _≤_, _-_}
 use native.Mathlib.Omega.{arith}
 use lib.ListN.{getD}
 use borrow.Author.Needs.{needs}
-use Rattle.gpio.specs.Each.{each}
-use Rattle.gpio.proofs.Each.{each-none, each-turn, each-done}
+use Rattle.lists.specs.Each.{each}
+use Rattle.lists.proofs.Each.{each-none, each-turn, each-done}
 use Rattle.wired.specs.Wired.{apartFrom, apart}
 use Rattle.wired.proofs.apart.apart.Statement.{statement}
 use Rattle.wired.proofs.apart.apart.Tie as tie

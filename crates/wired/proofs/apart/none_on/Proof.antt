@@ -6,8 +6,8 @@ use native.Mathlib.Omega.{arith}
 use lib.Dec.{eqb}
 use lib.ListN.{getD}
 use borrow.Author.Needs.{needs}
-use Rattle.gpio.specs.Each.{each}
-use Rattle.gpio.proofs.Each.{each-none, each-turn, each-done}
+use Rattle.lists.specs.Each.{each}
+use Rattle.lists.proofs.Each.{each-none, each-turn, each-done}
 use Rattle.wired.specs.Wired.{noneOn}
 use Rattle.wired.proofs.apart.none_on.Statement.{statement}
 use Rattle.wired.proofs.apart.none_on.Tie as tie

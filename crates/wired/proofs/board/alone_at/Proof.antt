@@ -5,8 +5,8 @@ use Prim.Native.Nat.{_≤_, _-_}
 use native.Mathlib.Omega.{arith}
 use lib.Dec.{eqb}
 use borrow.Author.Needs.{needs}
-use Rattle.gpio.specs.Each.{each}
-use Rattle.gpio.proofs.Each.{each-none, each-turn, each-done}
+use Rattle.lists.specs.Each.{each}
+use Rattle.lists.proofs.Each.{each-none, each-turn, each-done}
 use Rattle.wired.specs.Wired.{boardPin, disjoint, aloneAt}
 use Rattle.wired.proofs.board.alone_at.Statement.{statement}
 use Rattle.wired.proofs.board.alone_at.Tie as tie

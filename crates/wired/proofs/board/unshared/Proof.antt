@@ -4,9 +4,9 @@ use Prim.Native.Nat.{ℕ, _≤_, _-_}
 use native.Mathlib.Omega.{arith}
 use lib.ListN.{length}
 use borrow.Author.Needs.{needs}
-use Rattle.gpio.specs.Each.{each}
-use Rattle.gpio.proofs.Each.{each-none, each-turn, each-done}
-use Rattle.gpio.proofs.Lists.{mapped-length}
+use Rattle.lists.specs.Each.{each}
+use Rattle.lists.proofs.Each.{each-none, each-turn, each-done}
+use Rattle.lists.proofs.Lists.{mapped-length}
 use Rattle.wired.specs.Wired.{aloneAt, unsharedAmong}
 use Rattle.wired.proofs.board.unshared.Statement.{statement}
 use Rattle.wired.proofs.board.unshared.Tie as tie

@@ -1,0 +1,42 @@
+// The bytes that are lent for the chips: one slice, and for each chip where its bytes stand in it.
+ghost use mathlib.Core.Path.{_≡_};
+ghost use lib.ListN.{length};
+ghost use Rattle.build_args.specs.Images.{chipBytes, spanAt};
+
+// Where a chip's bytes stand in the lent ones; those past the end are not there.
+pub struct ImageSpan {
+    // Whether the chip has bytes at all.
+    pub present: bool,
+    pub start: u32,
+    pub length: u32,
+}
+
+// The span of chip k.
+pub fn span_at(spans: [ImageSpan; 4], k: usize) -> ImageSpan
+    ensures { λ r. ⌜ r ≡ spanAt spans k ⌝ }
+{
+    if 4 <= k {
+        return ImageSpan {
+            present: false,
+            start: 0,
+            length: 0,
+        };
+    }
+    spans[k]
+}
+
+// How many bytes of a span the slice has.
+pub fn bytes_lent(images: &[u8], span: ImageSpan) -> usize
+    ensures { λ r. ⌜ r ≡ length (chipBytes (now (images .entry)) span) ⌝ }
+{
+    let start = span.start as usize;
+    let length = span.length as usize;
+    if images.len() < start {
+        return 0;
+    }
+    let rest = images.len() - start;
+    if rest < length {
+        return rest;
+    }
+    length
+}

@@ -1,0 +1,86 @@
+// Number 1 in a build: the description, and both layouts that are handed in.
+use addr_layout::layout::AddrLayout;
+use addr_layout::layout::layout_in;
+use cs_data_layout::layout::CsDataLayout;
+use cs_data_layout::layout::SelectLine;
+use domain::description::description_in;
+use domain::qualifiers::qualifiers_in;
+use lists::array::all_between;
+use slot::description::Description;
+ghost use mathlib.Core.Path.{_≡_};
+ghost use mathlib.Core.Bool.{true, false};
+ghost use Rattle.build_args.specs.Domain.{lineOf, selectLineIn, selectLinesIn, csDataIn, inDomain};
+
+fn select_line(c: CsDataLayout, k: usize) -> SelectLine
+    ensures { λ r. ⌜ r ≡ lineOf c false k ⌝ }
+{
+    if 30 <= k {
+        return SelectLine { role: 0, gpio: 0 };
+    }
+    let lines = c.select_lines;
+    lines[k]
+}
+
+fn commoned_line(c: CsDataLayout, k: usize) -> SelectLine
+    ensures { λ r. ⌜ r ≡ lineOf c true k ⌝ }
+{
+    if 6 <= k {
+        return SelectLine { role: 0, gpio: 0 };
+    }
+    let lines = c.commoned_lines;
+    lines[k]
+}
+
+// A commoned line, or a select line; all 0 past the last.
+fn line_of(c: CsDataLayout, commoned: bool, k: usize) -> SelectLine
+    ensures { λ r. ⌜ r ≡ lineOf c commoned k ⌝ }
+{
+    if commoned {
+        return commoned_line(c, k);
+    }
+    select_line(c, k)
+}
+
+fn select_line_in(l: SelectLine) -> bool
+    ensures { λ r. ⌜ r ≡ selectLineIn l ⌝ }
+{
+    (l.role <= 8) & (l.gpio <= 47)
+}
+
+fn select_lines_in(c: CsDataLayout, commoned: bool, count: u8) -> bool
+    ensures { λ r. ⌜ r ≡ selectLinesIn c commoned count ⌝ }
+{
+    let n = count as usize;
+    let mut ok = true;
+    let mut k: usize = 0;
+    while k < n {
+        ok = ok & select_line_in(line_of(c, commoned, k));
+        k += 1;
+    }
+    ok
+}
+
+// Whether a select layout keeps to the domain.
+fn cs_data_in(c: CsDataLayout) -> bool
+    ensures { λ r. ⌜ r ≡ csDataIn c ⌝ }
+{
+    let gpios = c.data_pin_gpios;
+    let q = c.qualifiers;
+    let bases_in = (c.gpio_base <= 47) & (c.base_data_pin <= 47) & (c.base_cs_pin <= 47);
+    let qualifiers_in = !q.present | (q.base_qualifier_pin <= 47);
+    let n = c.num_data_pins;
+    let data_in = (1 <= n) & (n <= 16) & all_between(&gpios, n, 0, 47);
+    let selects_in = (c.num_select_lines <= 30) & select_lines_in(c, false, c.num_select_lines);
+    let commoned_in = (c.num_commoned_lines <= 6) & select_lines_in(c, true, c.num_commoned_lines);
+    bases_in & qualifiers_in & data_in & selects_in & commoned_in
+}
+
+// Whether all that a build is handed keeps to the domain.
+pub fn in_domain(d: Description, a: AddrLayout, c: CsDataLayout) -> bool
+    ensures { λ r. ⌜ r ≡ inDomain d a c ⌝ }
+{
+    let qualifiers = d.qualifiers;
+    let gpios = a.gpios;
+    let list_in = qualifiers_in(qualifiers, d.num_qualifiers, gpios, a.num_lines);
+    description_in(d) & layout_in(a) & list_in & cs_data_in(c)
+}

@@ -1,0 +1,42 @@
+-- `levels_in` meets its contract. The invariant: the first k lines are looked at. Assumes nothing.
+use mathlib.Core.Path.{_≡_}
+use Prim.Native.Nat.{_+_, _*_, _-_, _≤_}
+use native.Mathlib.Omega.{arith}
+use borrow.Author.Needs.{needs}
+use Rattle.lists.specs.Each.{each}
+use Rattle.lists.proofs.Each.{each-none, each-turn, each-done}
+use lib.Dec.{eqb}
+use Rattle.fields.specs.Fields.{byteAt}
+use Rattle.description_record.proofs.shape.levels_in.Statement.{statement}
+use Rattle.description_record.proofs.shape.levels_in.Tie as tie
+
+abbrev Inv-loop : tie.InvT-loop
+Inv-loop b p ok₀ k₀ ok k = (k ≤ 8) × (ok ≡ each k (λ j. eqb (byteAt b (p + 50 + 3 * j)) 0))
+
+abbrev μ-loop : tie.MeasureT-loop
+μ-loop b p ok₀ k₀ ok k = 8 - k
+
+loop-holds : tie.Need-loop-holds Inv-loop μ-loop
+loop-holds c = (omega arith, each-none _)
+
+loop-again : tie.Need-loop-again Inv-loop μ-loop
+loop-again c = (omega arith, rw (c .entry .ensures) (each-turn _ _ _ (c .before .before .loop .inv .1)))
+
+returns : tie.Need-returns Inv-loop μ-loop
+returns c = each-done _ _ _ _ (omega arith) (c .before .loop .inv .1)
+
+pub levels-in-spec : {M : Type 1} → statement M
+levels-in-spec =
+    tie.close
+    (tie.spec
+    Inv-loop
+    μ-loop
+    loop-holds
+    (λ c. search needs)
+    (λ c. search needs)
+    (λ c. search needs)
+    (λ c κs. search needs)
+    (λ c. search needs)
+    (λ c. search needs)
+    loop-again
+    returns)

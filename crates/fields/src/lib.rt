@@ -1,0 +1,82 @@
+// Numbers at a place of a byte record. A place past the record's end reads 0, so that each function here answers for any length; a
+// record of another length is refused by whoever reads it. A place is below 2^32, which no record comes near.
+pub mod candidates; // the candidates of a pin, two bytes
+
+use lists::array::entry;
+ghost use mathlib.Core.Path.{_≡_};
+ghost use Prim.Native.Nat.{_<_, _^_};
+ghost use lib.ListN.{length};
+ghost use Rattle.fields.specs.Fields.{bytesAt, fourAt, flagFormed};
+
+fn wide(x: u8) -> u32
+    ensures { λ r. ⌜ r ≡ x ⌝ }
+    ensures { λ r. ⌜ r < 256 ⌝ }
+{
+    x as u32
+}
+
+// The number of four bytes from a place, low byte first.
+pub fn four_at(b: &[u8], p: usize) -> u32
+    requires { ⌜ p < 2 ^ 32 ⌝ }
+    ensures { λ r. ⌜ r ≡ fourAt (now (b .entry)) p ⌝ }
+{
+    let b0 = wide(entry(b, p));
+    let b1 = wide(entry(b, p + 1));
+    let b2 = wide(entry(b, p + 2));
+    let b3 = wide(entry(b, p + 3));
+    b0 + 0x100 * b1 + 0x1_0000 * b2 + 0x100_0000 * b3
+}
+
+// Fills `out` with the bytes from the place p on.
+pub fn fill(b: &[u8], p: usize, out: &mut [u8])
+    requires { ⌜ p < 2 ^ 32 ⌝ }
+    ensures { λ r. ⌜ now (out .exit) ≡ bytesAt (now (b .entry)) p (length (now (out .entry))) ⌝ }
+{
+    let mut k: usize = 0;
+    while k < out.len() {
+        out[k] = entry(b, p + k);
+        k += 1;
+    }
+}
+
+// The eight bytes from a place.
+pub fn eight_at(b: &[u8], p: usize) -> [u8; 8]
+    requires { ⌜ p < 2 ^ 32 ⌝ }
+    ensures { λ r. ⌜ r ≡ bytesAt (now (b .entry)) p 8 ⌝ }
+{
+    let mut out = [0u8; 8];
+    fill(b, p, &mut out);
+    out
+}
+
+// The sixteen bytes from a place.
+pub fn sixteen_at(b: &[u8], p: usize) -> [u8; 16]
+    requires { ⌜ p < 2 ^ 32 ⌝ }
+    ensures { λ r. ⌜ r ≡ bytesAt (now (b .entry)) p 16 ⌝ }
+{
+    let mut out = [0u8; 16];
+    fill(b, p, &mut out);
+    out
+}
+
+// The twenty-four bytes from a place.
+pub fn twenty_four_at(b: &[u8], p: usize) -> [u8; 24]
+    requires { ⌜ p < 2 ^ 32 ⌝ }
+    ensures { λ r. ⌜ r ≡ bytesAt (now (b .entry)) p 24 ⌝ }
+{
+    let mut out = [0u8; 24];
+    fill(b, p, &mut out);
+    out
+}
+
+// Whether a flag is 0 or 1, and the three places kept behind it are 0.
+pub fn flag_formed(b: &[u8], p: usize) -> bool
+    requires { ⌜ p < 2 ^ 32 ⌝ }
+    ensures { λ r. ⌜ r ≡ flagFormed (now (b .entry)) p ⌝ }
+{
+    let flag = entry(b, p);
+    let spare = entry(b, p + 1);
+    let spare_2 = entry(b, p + 2);
+    let spare_3 = entry(b, p + 3);
+    (flag <= 1) & (spare == 0) & (spare_2 == 0) & (spare_3 == 0)
+}

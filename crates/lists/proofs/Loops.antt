@@ -1,0 +1,12 @@
+-- How a loop ends, and what cannot be. Assumes nothing.
+use mathlib.Core.Path.{_≡_}
+use Prim.Native.Nat.{ℕ}
+use native.Mathlib.Omega.{arith}
+
+-- a loop that has counted to n has found what is asked of n
+pub at-count : {A : Type 0} (f : ℕ → A) (k n : ℕ) (x : A) → k ≡ n → x ≡ f k → x ≡ f n
+at-count f k n x e h = rw e at h
+
+-- two constructors are told apart by an equation of 0 and 1, which `cc` finds
+pub zero-one : _≡_ {A = ℕ} 0 1 → ⊥
+zero-one z = omega arith

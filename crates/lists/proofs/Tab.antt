@@ -1,0 +1,73 @@
+-- What a loop that fills an array entry by entry needs of `tab`, and when a list is a `tab`. Assumes nothing.
+use mathlib.Core.Path.{_≡_, refl, sym, _∙_, ap}
+use mathlib.Core.List.{List, [], _∷_}
+use mathlib.Core.Logic.{inl, inr}
+use Prim.Native.Nat.{ℕ, zero, suc, _+_, _≤_, _<_}
+use native.Mathlib.Numerals.{add-one}
+use native.Mathlib.Omega.{arith}
+use native.Mathlib.Nat.{le-of-suc-le-suc, eq-or-lt-of-le}
+use lib.ListN.{length, take, getD, set, length-set, length-append, List·getD-append}
+use lib.Seq.{take-suc-set, take-all, take-suc, getD-at, getD-take}
+use Rattle.lists.specs.Tab.{tab}
+
+-- the loop's invariant: the first k of n entries are in place
+pub record Filled {A : Type 0} (n : ℕ) (f : ℕ → A) (out : List A) (k : ℕ) : Type 0 where
+  pub within : k ≤ n
+  pub long : length out ≡ n
+  pub first : take k out ≡ tab k f
+
+module _ {A : Type 0} {n : ℕ} {f : ℕ → A} {out : List A} where
+  -- before the first turn
+  pub filled-none : length out ≡ n → Filled n f out 0
+  unfolding tab
+  filled-none l = record { within = omega arith; long = l; first = refl }
+
+  -- one turn: the entry k is stored
+  pub filled-turn : {k : ℕ} {v : A} → Filled n f out k → k < n → v ≡ f k → Filled n f (set out k v) (k + 1)
+  unfolding tab
+  filled-turn {k} i h e =
+      let l : k < length out = omega arith in
+      record { within = omega arith; long = simp length-set (i .long); first = rw (add-one, take-suc-set, i .first, e) }
+
+  -- the array is full
+  pub filled : {k : ℕ} → Filled n f out k → n ≤ k → out ≡ tab n f
+  filled {k} i h =
+      let e : k ≡ n = omega arith in
+      let l : length out ≤ n = omega arith in
+      rw (e, take-all n out l) at (i .first)
+
+module _ {A : Type 0} (f : ℕ → A) (l : List A) (z : A) where
+  tab-take : (k : ℕ) → k ≤ length l → ((j : ℕ) → j < k → f j ≡ getD l j z) → tab k f ≡ take k l
+  unfolding tab
+  tab-take zero h e = refl
+  tab-take (suc k) h e = rw (tab-take k (omega arith) (λ j q. e j (omega arith)), e k (omega arith), take-suc l k z (omega arith))
+
+  -- the list whose entries are f's
+  pub tab-is : (n : ℕ) → length l ≡ n → ((j : ℕ) → j < n → f j ≡ getD l j z) → tab n f ≡ l
+  tab-is n h e = tab-take n (omega arith) e ∙ take-all n l (omega arith)
+
+module _ {A : Type 0} (f : ℕ → A) where
+  pub tab-length : (n : ℕ) → length (tab n f) ≡ n
+  unfolding tab
+  tab-length zero = refl
+  tab-length (suc n) = simp length-append (omega (arith, tab-length n))
+
+  -- an entry below the count
+  pub getD-tab : (n k : ℕ) (z : A) → k < n → getD (tab n f) k z ≡ f k
+  unfolding tab
+  getD-tab zero k z h = absurd (omega arith)
+  getD-tab (suc n) k z h =
+      elim (eq-or-lt-of-le (le-of-suc-le-suc h)) [
+        | inl e ↦ rw e (getD-at (tab n f) (f n) [] z n (tab-length n))
+        | inr l ↦ List·getD-append (tab n f) (f n ∷ []) z k (rw (tab-length n) l) ∙ getD-tab n k z l
+      ]
+
+-- two fillings that agree below the count
+pub tab-cong : {A : Type 0} (f g : ℕ → A) (n : ℕ) → ((k : ℕ) → k < n → f k ≡ g k) → tab n f ≡ tab n g
+unfolding tab
+tab-cong f g zero h = refl
+tab-cong f g (suc n) h = rw (tab-cong f g n (λ k l. h k (omega arith)), h n (omega arith))
+
+-- an entry of a list that begins with a filling
+pub getD-begins : {A : Type 0} (f : ℕ → A) (l : List A) (n k : ℕ) (z : A) → take n l ≡ tab n f → k < n → getD l k z ≡ f k
+getD-begins {A} f l n k z e h = sym (getD-take n l k z h) ∙ ap (λ (x : List A). getD x k z) e ∙ getD-tab f n k z h

@@ -1,0 +1,3 @@
+pub mod Each
+pub mod Tab
+pub mod First

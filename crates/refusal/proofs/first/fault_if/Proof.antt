@@ -1,0 +1,16 @@
+-- `fault_if` meets its contract. Assumes nothing.
+use Rattle.refusal.proofs.first.fault_if.Statement.{statement}
+use Rattle.refusal.proofs.first.fault_if.Tie as tie
+
+returns : tie.Need-returns
+returns c = rw (c .if1 .taken)
+
+returns-2 : tie.Need-returns-2
+returns-2 c = rw (c .if1 .left)
+
+pub fault-if-spec : {M : Type 1} → statement M
+fault-if-spec =
+    tie.close
+    (tie.spec
+    returns
+    returns-2)

@@ -1,3 +1,0 @@
-pub mod Firsts
-pub mod Facts
-pub mod Picking

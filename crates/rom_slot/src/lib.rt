@@ -1,6 +1,0 @@
-// What a build is asked for: the slot, its layouts, the chips' bytes and the lent table; and what it is refused for.
-pub mod images; // the bytes that are lent for the chips
-pub mod positions; // where a line stands in an index or in an entry
-pub mod picks; // which lines pick a chip, and which chip they pick
-pub mod in_domain; // number 1
-pub mod faults; // the refusals in their order

@@ -1,0 +1,3 @@
+pub mod Listed
+pub mod Counted
+pub mod Whole

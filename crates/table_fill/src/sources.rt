@@ -1,0 +1,40 @@
+// Where the words of a chip stand in the lent bytes.
+use words::word_at;
+ghost use mathlib.Core.Path.{_≡_};
+ghost use Prim.Native.Nat.{_+_, _*_, _≤_, _<_, _^_};
+ghost use lib.ListN.{length};
+ghost use Rattle.words.specs.Words.{wordFrom};
+ghost use Rattle.table_fill.specs.Entries.{rawFrom, SourceIn};
+
+// A chip's words: where the first stands, how many there are, and what is read past them.
+pub struct Source {
+    pub start: u32,
+    // Words of the chip.
+    pub count: u32,
+    // Whether addresses past them read them again.
+    pub mirrored: bool,
+}
+
+// Word n of a source.
+fn word_of(images: &[u8], w: usize, s: Source, n: u32) -> u32
+    requires { ⌜ (w ≤ 2) × (s .start + n * w + w ≤ length (now images)) ⌝ }
+    ensures { λ r. ⌜ r ≡ wordFrom w (now (images .entry)) (s .start + n * w) ⌝ }
+    ensures { λ r. ⌜ r < 2 ^ (8 * w) ⌝ }
+{
+    word_at(images, s.start as usize + n as usize * w, w)
+}
+
+// The word at an address of a source, or the pad word.
+pub fn raw(images: &[u8], w: usize, s: Source, pad: u32, n: u32) -> u32
+    requires { ⌜ (w ≤ 2) × SourceIn (now images) w s × (pad < 2 ^ (8 * w)) ⌝ }
+    ensures { λ r. ⌜ r ≡ rawFrom (now (images .entry)) w s pad n ⌝ }
+    ensures { λ r. ⌜ r < 2 ^ (8 * w) ⌝ }
+{
+    if n < s.count {
+        return word_of(images, w, s, n);
+    }
+    if s.mirrored {
+        return word_of(images, w, s, n % s.count);
+    }
+    pad
+}

@@ -1,0 +1,109 @@
+-- A loop that takes the entries in turn: what the buffers hold of those passed, against what stood there at first. Assumes nothing.
+use mathlib.Core.Path.{_≡_, refl, sym, _∙_, ap}
+use mathlib.Core.Bool.{true, false}
+use mathlib.Core.List.{List, _++_}
+use Prim.Native.Nat.{ℕ, suc, _*_, _^_, _≤_, _<_}
+use native.Mathlib.Omega.{arith}
+use lib.ListN.{length, drop}
+use lib.Seq.{drop-at}
+use Rattle.table_read.specs.Kept.{outputAfter, marksAfter}
+use Rattle.table_read.specs.Buffers.{kept, keepWord, outputHeld, marksHeld, walkedOf}
+use Rattle.table_read.specs.declared.row.Walked.{Walked}
+use Rattle.table_read.specs.declared.row.Walked.the-variants.{Through, Disagrees}
+use Rattle.table_read.proofs.Cong.{output-length, marks-length}
+use Rattle.table_read.proofs.Step.{step-skip, step-keep, step-bad}
+
+-- the loop's invariant: none of the m entries passed disagrees, and the buffers hold what they told
+pub record Held (w words : ℕ) (t v : ℕ → ℕ) (output₀ marks₀ : List ℕ) (m : ℕ) (output marks : List ℕ) : Type 0 where
+  pub long : length output ≡ length output₀
+  pub marks-long : length marks ≡ length marks₀
+  pub through : walkedOf t v words m ≡ Through
+  pub values : output ≡ outputHeld w t v words m output₀
+  pub told : marks ≡ marksHeld t words m marks₀
+
+-- an entry that is for a word f, and says x
+pub record Entry (w words : ℕ) (t v : ℕ → ℕ) (output₀ marks₀ : List ℕ) (m : ℕ) (output marks : List ℕ) (f x : ℕ) : Type 0 where
+  pub held : Held w words t v output₀ marks₀ m output marks
+  pub room : words * w ≤ length output₀
+  pub marks-room : words ≤ length marks₀
+  pub few : (i : ℕ) → v i < 2 ^ (8 * w)
+  pub for : f ≡ t m
+  pub says : x ≡ v m
+  pub below : f < words
+
+-- what a walk over n entries answers, and leaves in the buffers
+abbrev pub Read : ℕ → ℕ → (ℕ → ℕ) → (ℕ → ℕ) → ℕ → List ℕ → List ℕ → Walked → List ℕ → List ℕ → Type 0
+Read w words t v n output₀ marks₀ x output marks =
+    (x ≡ walkedOf t v words n)
+    × (((drop (words * w) output ≡ drop (words * w) output₀) × (drop words marks ≡ drop words marks₀))
+    × (x ≡ Through → (output ≡ outputHeld w t v words n output₀) × (marks ≡ marksHeld t words n marks₀)))
+
+-- what stands behind a front that was put before it
+behind : (n : ℕ) (front old new : List ℕ) → length front ≡ n → new ≡ front ++ drop n old → drop n new ≡ drop n old
+behind n front old new l e = ap (λ (x : List ℕ). drop n x) e ∙ drop-at front (drop n old) n l
+
+pub never : (f : ℕ) → Disagrees f ≡ Through → ⊥
+never f e = let z : _≡_ {A = ℕ} 0 1 = cc in omega arith
+
+module _ {w words : ℕ} {t v : ℕ → ℕ} {output₀ marks₀ : List ℕ} {m : ℕ} {output marks : List ℕ} where
+  module _ (h : Held w words t v output₀ marks₀ m output marks) where
+    pub rest : drop (words * w) output ≡ drop (words * w) output₀
+    rest = behind (words * w) (outputAfter w t v words m) output₀ output (output-length w t v words m) (h .values)
+
+    pub marks-rest : drop words marks ≡ drop words marks₀
+    marks-rest = behind words (marksAfter t words m) marks₀ marks (marks-length t words m) (h .told)
+
+    -- against what stands there now
+    pub own : output ≡ outputHeld w t v words m output
+    own = h .values ∙ ap (λ (x : List ℕ). outputAfter w t v words m ++ x) (sym rest)
+
+    pub marks-own : marks ≡ marksHeld t words m marks
+    marks-own = h .told ∙ ap (λ (x : List ℕ). marksAfter t words m ++ x) (sym marks-rest)
+
+    -- one entry more
+    held-next : (n : ℕ) (output′ marks′ : List ℕ) → n ≡ suc m → length output′ ≡ length output → length marks′ ≡ length marks
+        → (walkedOf t v words (suc m) ≡ Through) × (output′ ≡ outputHeld w t v words (suc m) output) × (marks′ ≡ marksHeld t words (suc m) marks)
+        → Held w words t v output₀ marks₀ n output′ marks′
+    held-next n output′ marks′ e l k s =
+        rw e
+        (record {
+          long = l ∙ h .long;
+          marks-long = k ∙ h .marks-long;
+          through = s .0;
+          values = s .1 ∙ ap (λ (x : List ℕ). outputAfter w t v words (suc m) ++ x) rest;
+          told = s .2 ∙ ap (λ (x : List ℕ). marksAfter t words (suc m) ++ x) marks-rest;
+        })
+
+    -- one that is for no word
+    pub held-skip : (n f : ℕ) → n ≡ suc m → f ≡ t m → words ≤ f → Held w words t v output₀ marks₀ n output marks
+    held-skip n f e g l = held-next n output marks e refl refl (step-skip w words m t v output marks (rw g at l) (h .through) own marks-own)
+
+    -- the end
+    pub held-done : (n : ℕ) → m ≡ n → Read w words t v n output₀ marks₀ Through output marks
+    held-done n e = (sym (rw e at (h .through)), ((rest, marks-rest), λ _. (rw e at (h .values), rw e at (h .told))))
+
+    -- by other names
+    pub held-same : (output′ marks′ : List ℕ) → output′ ≡ output → marks′ ≡ marks → Held w words t v output₀ marks₀ m output′ marks′
+    held-same output′ marks′ e f = rw (e, f) h
+
+  -- an entry for a word: one that is kept, and one that disagrees
+  module _ {f x : ℕ} (h : Entry w words t v output₀ marks₀ m output marks f x) (output′ marks′ : List ℕ) where
+    below : t m < words
+    below = rw (h .for) at (h .below)
+
+    room : words * w ≤ length output
+    room = rw (h .held .long) (h .room)
+
+    marks-room : words ≤ length marks
+    marks-room = rw (h .held .marks-long) (h .marks-room)
+
+    pub held-keep : (n : ℕ) → n ≡ suc m → length output′ ≡ length output → length marks′ ≡ length marks
+        → kept true output′ marks′ ≡ keepWord w f x output marks → Held w words t v output₀ marks₀ n output′ marks′
+    held-keep n e p q k =
+        held-next (h .held) n output′ marks′ e p q
+        (step-keep w words m t v output marks output′ marks′ below (h .few) room marks-room (h .held .through) (own (h .held)) (marks-own (h .held)) (rw (h .for, h .says) at k))
+
+    pub held-bad : (n : ℕ) → m < n → kept false output′ marks′ ≡ keepWord w f x output marks → Read w words t v n output₀ marks₀ (Disagrees f) output′ marks′
+    held-bad n b k =
+        let s = step-bad w words m t v output marks output′ marks′ below (h .few) room marks-room (h .held .through) (own (h .held)) (marks-own (h .held)) (rw (h .for, h .says) at k) n b in
+        (ap Disagrees (h .for) ∙ sym (s .0), ((s .1 ∙ rest (h .held), s .2 ∙ marks-rest (h .held)), λ e. absurd (never f e)))

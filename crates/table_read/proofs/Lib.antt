@@ -1,0 +1,9 @@
+pub mod Cong
+pub mod Whole
+pub mod Lookups
+pub mod Put
+pub mod Step
+pub mod Held
+pub mod Cleared
+pub mod RowRead
+pub mod Collected

@@ -1,0 +1,73 @@
+// Entries of a table back into words: each entry is for a word and says a value, and the first value of a word is kept. Bits of an
+// index and of an entry are taken in two parts of eight, so that each part's answer stands in a table.
+pub mod maps; // lines by their positions, and what a number's bits at them come to
+pub mod reading; // which word an entry is for, and what it says
+mod buffers; // the lent output and marks
+mod row; // the entries of a row
+mod walk; // the entries in order
+
+use crate::buffers::clear;
+use crate::buffers::first_missing;
+use crate::reading::Reading;
+use crate::row::Walked;
+use crate::walk::walk;
+ghost use mathlib.Core.Path.{_≡_};
+ghost use mathlib.Core.List.{_++_};
+ghost use Prim.Native.Nat.{_*_, _^_, _≤_};
+ghost use lib.Dec.{eqb};
+ghost use lib.ListN.{length, getD, drop, replicate};
+ghost use Rattle.table_read.specs.Reading.{ReadingIn, wordBy, valueBy};
+ghost use Rattle.lists.specs.First.{firstWhere};
+ghost use Rattle.table_read.specs.Buffers.{kept, servedBy, collectedOf};
+
+// What all entries come to; the word that one is at fault for is counted through all ROMs.
+pub enum Outcome {
+    Whole,
+    Disagrees(u32),
+    Missing(u32),
+}
+
+fn clear_both(r: Reading, output: &mut [u8], marks: &mut [u8])
+    requires { ⌜ (r .words ≤ 2 ^ 26) × (r .words * r .«word_bytes» ≤ length (now output)) × (r .words ≤ length (now marks)) ⌝ }
+    ensures { λ _. ⌜ now (output .exit) ≡ replicate (r .words * r .«word_bytes») 0 ++ drop (r .words * r .«word_bytes») (now (output .entry)) ⌝ }
+    ensures { λ _. ⌜ now (marks .exit) ≡ replicate (r .words) 0 ++ drop (r .words) (now (marks .entry)) ⌝ }
+{
+    let words = r.words as usize;
+    clear(output, words * r.word_bytes as usize);
+    clear(marks, words);
+}
+
+// What the marks say once no entry disagrees.
+fn served(r: Reading, output: &mut [u8], marks: &mut [u8]) -> Outcome
+    requires { ⌜ (r .words ≤ 2 ^ 26) × (r .words * r .«word_bytes» ≤ length (now output)) × (r .words ≤ length (now marks)) ⌝ }
+    ensures { λ x. ⌜ kept x (now (output .exit)) (now (marks .exit)) ≡ servedBy (r .«word_bytes») (r .words) (now (output .entry)) (now (marks .entry)) (firstWhere (r .words) (λ f. eqb (getD (now (marks .entry)) f 0) 0)) ⌝ }
+{
+    let f = first_missing(marks, r.words);
+    if f < r.words {
+        clear_both(r, output, marks);
+        return Outcome::Missing(f);
+    }
+    Outcome::Whole
+}
+
+// Reads the first entries of a table into words and their marks.
+pub fn collect(
+    r: Reading,
+    stored: &[u8],
+    entries: u32,
+    output: &mut [u8],
+    marks: &mut [u8],
+) -> Outcome
+    requires { ⌜ ReadingIn r × (entries ≤ 2 ^ 31) × (entries * r .«word_bytes» ≤ length (now stored)) ⌝ }
+    requires { ⌜ (r .words * r .«word_bytes» ≤ length (now output)) × (r .words ≤ length (now marks)) ⌝ }
+    ensures { λ x. ⌜ kept x (now (output .exit)) (now (marks .exit)) ≡ collectedOf (r .«word_bytes») (wordBy r) (valueBy r (now (stored .entry))) (r .words) entries (now (output .entry)) (now (marks .entry)) ⌝ }
+{
+    clear_both(r, output, marks);
+    match walk(r, stored, entries, output, marks) {
+        Walked::Disagrees(f) => {
+            clear_both(r, output, marks);
+            Outcome::Disagrees(f)
+        }
+        Walked::Through => served(r, output, marks),
+    }
+}

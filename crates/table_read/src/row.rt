@@ -1,0 +1,80 @@
+// The entries of a row: those whose index has the same bits above the low eight.
+use crate::buffers::keep;
+use crate::reading::Reading;
+use crate::reading::unforced;
+use crate::reading::word_for;
+use words::word_at;
+ghost use mathlib.Core.Path.{_≡_};
+ghost use Prim.Native.Nat.{_+_, _*_, _/_, _%_, _<_, _≤_, _^_};
+ghost use lib.ListN.{length, drop, getD};
+ghost use Rattle.table_read.specs.Reading.{ReadingIn, wordBy, valueBy};
+ghost use Rattle.table_read.specs.Buffers.{outputHeld, marksHeld, walkedOf};
+ghost use Rattle.table_read.specs.Rows.{TablesIn, RowIn};
+ghost use Rattle.table_read.specs.declared.row.Walked.the-variants.{Through};
+
+// A row: what the bits above the low eight say of its indices, the first of them, and how many there are.
+pub struct Row {
+    pub high: [u32; 5],
+    pub start: u32,
+    pub count: u32,
+}
+
+// Whether a row is read to its end, or stops at a word.
+pub enum Walked {
+    Through,
+    // The word that an entry says another value of than the one kept.
+    Disagrees(u32),
+}
+
+// What an entry says of a word of a ROM, by the tables of its bytes.
+fn said(low_bytes: &[u32], high_bytes: &[u32], rom: u8, entry: u32) -> u32
+    requires { ⌜ (rom < 5) × (entry < 2 ^ 16) × (length (now «low_bytes») ≡ 1280) × (length (now «high_bytes») ≡ 1280) ⌝ }
+    requires { ⌜ getD (now «low_bytes») (rom * 256 + entry % 256) 0 + getD (now «high_bytes») (rom * 256 + entry / 256) 0 < 2 ^ 32 ⌝ }
+    ensures { λ r. ⌜ r ≡ getD (now («low_bytes» .entry)) (rom * 256 + entry % 256) 0 + getD (now («high_bytes» .entry)) (rom * 256 + entry / 256) 0 ⌝ }
+{
+    let place = rom as usize * 256;
+    let low = place + (entry % 256) as usize;
+    let high = place + (entry / 256) as usize;
+    low_bytes[low] + high_bytes[high]
+}
+
+// Reads the entries of a row up to the first that disagrees.
+pub fn read_row(
+    r: Reading,
+    row: Row,
+    lows: &[u32],
+    low_bytes: &[u32],
+    high_bytes: &[u32],
+    stored: &[u8],
+    output: &mut [u8],
+    marks: &mut [u8],
+) -> Walked
+    requires { ⌜ ReadingIn r × RowIn r row × TablesIn r (now lows) (now «low_bytes») (now «high_bytes») ⌝ }
+    requires { ⌜ ((row .start + row .count) * r .«word_bytes» ≤ length (now stored)) × (r .words * r .«word_bytes» ≤ length (now output)) × (r .words ≤ length (now marks)) ⌝ }
+    requires { ⌜ walkedOf (wordBy r) (valueBy r (now stored)) (r .words) (row .start) ≡ Through ⌝ }
+    requires { ⌜ (now output ≡ outputHeld (r .«word_bytes») (wordBy r) (valueBy r (now stored)) (r .words) (row .start) (now output)) × (now marks ≡ marksHeld (wordBy r) (r .words) (row .start) (now marks)) ⌝ }
+    ensures { λ x. ⌜ x ≡ walkedOf (wordBy r) (valueBy r (now (stored .entry))) (r .words) (row .start + row .count) ⌝ }
+    ensures { λ _. ⌜ (drop (r .words * r .«word_bytes») (now (output .exit)) ≡ drop (r .words * r .«word_bytes») (now (output .entry))) × (drop (r .words) (now (marks .exit)) ≡ drop (r .words) (now (marks .entry))) ⌝ }
+    ensures { λ x. ⌜ (x ≡ Through → (now (output .exit) ≡ outputHeld (r .«word_bytes») (wordBy r) (valueBy r (now (stored .entry))) (r .words) (row .start + row .count) (now (output .entry))) × (now (marks .exit) ≡ marksHeld (wordBy r) (r .words) (row .start + row .count) (now (marks .entry)))) ⌝ }
+{
+    let w = r.word_bytes as usize;
+    let roms = r.roms;
+    let extents = r.extents;
+    let high = row.high;
+    let mut low: u32 = 0;
+    while low < row.count {
+        let i = row.start + low;
+        let rom = roms[(lows[1024 + low as usize] + high[4]) as usize];
+        let address = lows[rom as usize * 256 + low as usize] + high[rom as usize];
+        let counts = unforced(i, r.forced, r.forced_high);
+        let f = word_for(extents[rom as usize], counts, address, r.words);
+        if f < r.words {
+            let entry = word_at(stored, i as usize * w, w);
+            if !keep(output, marks, w, f, said(low_bytes, high_bytes, rom, entry)) {
+                return Walked::Disagrees(f);
+            }
+        }
+        low += 1;
+    }
+    Walked::Through
+}
