@@ -32,7 +32,7 @@ use Rattle.listing.proofs.Candidate.{candidate-at}
 use Rattle.listing.proofs.Faults.{no-fault-at}
 use Rattle.search.specs.declared.Trial.the-variants.{Misfit, Score}
 use Rattle.addr_layout.specs.Lines.{lines, lineListed, addrListed}
-use Rattle.addr_layout.specs.Choices.{reach, inRange, widenedFirst, kindCandidates, selectSpan, fixedSpan, spanned, spanAt, choiceSpan, width, pinsOf, trialOf, addrTrial, layoutOf}
+use Rattle.addr_layout.specs.Choices.{reach, inRange, widenedFirst, kindCandidates, selectSpan, fixedSpan, spanned, spanUpTo, choiceSpan, spanWidth, paddedPins, spanTrial, addrTrial, addrLayoutOf}
 use Rattle.addr_layout.specs.Law.{FirstOf, PastTests, Spanned, of-pin, of-select, of-commoned, InWindow, XLaid, SoundLayout, Sound}
 use Rattle.gpio.specs.declared.line.LineGpio.{LineGpio}
 use Rattle.gpio.specs.declared.line.LineGpio.the-variants.{At}
@@ -108,7 +108,7 @@ counted-first g x false e = absurd e
 module _ (d : Description) (c : ℕ) where
   -- the span once k listed pins are passed, what pin k adds to it, and the k-th commoned line
   abbrev spanTo : ℕ → Span
-  spanTo k = spanAt (addrListed d) (inRange d) (lines d) (fixedSpan d) c k
+  spanTo k = spanUpTo (addrListed d) (inRange d) (lines d) (fixedSpan d) c k
 
   abbrev addedAt : ℕ → Candidates
   addedAt k = counted (spanned (inRange d) (lines d) k) (gpioAt (addrListed d) c k)
@@ -117,7 +117,7 @@ module _ (d : Description) (c : ℕ) where
   commonedAt k = kindCandidates d (getD (d .multi .commoned) k 0)
 
   span-turn : (k : ℕ) → spanTo (suc k) ≡ widenedFirst (spanTo k) (addedAt k)
-  unfolding spanAt
+  unfolding spanUpTo
   span-turn k = counted-turn (spanTo k) (gpioAt (addrListed d) c k) (spanned (inRange d) (lines d) k)
 
   select-turn : (k : ℕ) → selectSpan d (suc k) ≡ widenedFirst (selectSpan d k) (commonedAt k)
@@ -125,7 +125,7 @@ module _ (d : Description) (c : ℕ) where
   select-turn k = refl
 
   fixed-keeps : (g : ℕ) → isMulti (d .«set_type») ≡ true → Within (selectSpan d (d .multi .«num_commoned»)) g → Within (spanTo (length (addrListed d))) g
-  unfolding spanAt fixedSpan
+  unfolding spanUpTo fixedSpan
   fixed-keeps g m w = turns-keep spanTo addedAt span-turn (length (addrListed d)) g (rw m w)
 
   -- each GPIO that is spanned is within the span, and the span's lowest is one of them
@@ -144,23 +144,23 @@ module _ (d : Description) (c : ℕ) where
       (first-attained (Spanned d c) empty (kindCandidates d (d .multi .select)) (λ g h. of-select e h) (inl refl))
 
   lowest : Attained (Spanned d c) (spanTo (length (addrListed d)) .low)
-  unfolding spanAt fixedSpan
+  unfolding spanUpTo fixedSpan
   lowest =
       turns-attain spanTo addedAt span-turn (Spanned d c) (length (addrListed d))
       (λ k g l h. let is = counted-first (gpioAt (addrListed d) c k) g (spanned (inRange d) (lines d) k) h in of-pin k l (is .0) (is .1))
       (fixed-attained (isMulti (d .«set_type»)) refl)
 
-pins-wide : (s : Span) (t : Bool) → ltb 8 (width s) ≡ t → (8 ≤ cond t (width s) 8) × (width s ≤ cond t (width s) 8)
-pins-wide s true e = omega (arith, ltb-true 8 (width s) e)
-pins-wide s false e = omega (arith, ltb-false 8 (width s) e)
+pins-wide : (s : Span) (t : Bool) → ltb 8 (spanWidth s) ≡ t → (8 ≤ cond t (spanWidth s) 8) × (spanWidth s ≤ cond t (spanWidth s) 8)
+pins-wide s true e = omega (arith, ltb-true 8 (spanWidth s) e)
+pins-wide s false e = omega (arith, ltb-false 8 (spanWidth s) e)
 
 scored : (base n s : ℕ) (t : Bool) → fits base n ≡ t → cond t (Score (n * 1000 + base)) Misfit ≡ Score s → fits base n ≡ true
 scored base n s true e h = e
 scored base n s false e h = let z : _≡_ {A = ℕ} 0 1 = cc in absurd (omega arith)
 
-window-of : (s : Span) (score : ℕ) → trialOf s ≡ Score score → fits (s .low) (pinsOf s) ≡ true
-unfolding trialOf
-window-of s score e = scored (s .low) (pinsOf s) score (fits (s .low) (pinsOf s)) refl e
+window-of : (s : Span) (score : ℕ) → spanTrial s ≡ Score score → fits (s .low) (paddedPins s) ≡ true
+unfolding spanTrial
+window-of s score e = scored (s .low) (paddedPins s) score (fits (s .low) (paddedPins s)) refl e
 
 -- no window starts at 255
 not-empty : (P : ℕ → Type 0) (base n : ℕ) → fits base n ≡ true → Attained P base → P base
@@ -175,10 +175,10 @@ fewer-both m n false e = omega (arith, ltb-false m n e)
 -- the fields of the layout of choice c, its GPIOs being candidates and in the window
 module _ (d : Description) (c : ℕ) (e : descriptionIn d ≡ true)
     (candidate : (k : ℕ) → k < length (addrListed d) → CandidateOf (pinAt (addrListed d) k) (gpioAt (addrListed d) c k))
-    (inside : (g : ℕ) → Spanned d c g → InWindow (layoutOf d (addrListed d) c) g)
-    (window : fits (layoutOf d (addrListed d) c .«gpio_base») (layoutOf d (addrListed d) c .«num_addr_pins») ≡ true) where
+    (inside : (g : ℕ) → Spanned d c g → InWindow (addrLayoutOf d (addrListed d) c) g)
+    (window : fits (addrLayoutOf d (addrListed d) c .«gpio_base») (addrLayoutOf d (addrListed d) c .«num_addr_pins») ≡ true) where
   abbrev laid : AddrLayout
-  laid = layoutOf d (addrListed d) c
+  laid = addrLayoutOf d (addrListed d) c
 
   abbrev xs : List Listed
   xs = xPins (d .board) (not (isSingle (d .«set_type»))) (leb 3 (d .«num_chips»))
@@ -244,14 +244,14 @@ pub sound : (d : Description) → PastTests d → (c s : ℕ) → addrTrial d c 
 sound d past c s e =
     let ls = addrListed d in
     let span = choiceSpan ls (inRange d) (lines d) (fixedSpan d) c in
-    let wide = pins-wide span (ltb 8 (width span)) refl in
+    let wide = pins-wide span (ltb 8 (spanWidth span)) refl in
     let window = window-of span s e in
-    let inside : (g : ℕ) → Spanned d c g → InWindow (layoutOf d ls c) g = λ g t. let w = within d c g t in (w .0, omega (arith, wide .1, w .0, w .1)) in
+    let inside : (g : ℕ) → Spanned d c g → InWindow (addrLayoutOf d ls c) g = λ g t. let w = within d c g t in (w .0, omega (arith, wide .1, w .0, w .1)) in
     let candidate : (k : ℕ) → k < length ls → CandidateOf (pinAt ls k) (gpioAt ls c k) = λ k l. candidate-at ls c k (no-fault-at ls (past .no-fault) k l) in
     record {
       window = window;
       wide = wide .0;
-      attained = not-empty (Spanned d c) (span .low) (pinsOf span) window (lowest d c);
+      attained = not-empty (Spanned d c) (span .low) (paddedPins span) window (lowest d c);
       inside = inside;
       candidate = candidate;
       layout = sound-layout d c (and-left (descriptionIn d) (leb (twos ls) 16) (past .domain)) candidate inside window;

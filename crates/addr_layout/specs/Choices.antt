@@ -64,48 +64,48 @@ abbrev pub spanned : ℕ → ℕ → ℕ → Bool
 spanned r n k = ltb k r || leb n k
 
 -- the GPIOs that a choice spans, the first k listed pins passed
-unfoldable pub spanAt : List Listed → ℕ → ℕ → Span → ℕ → ℕ → Span
-spanAt ls r n fixed c zero = fixed
-spanAt ls r n fixed c (suc k) =
-    cond (spanned r n k) (widened (spanAt ls r n fixed c k) (gpioAt ls c k)) (spanAt ls r n fixed c k)
+unfoldable pub spanUpTo : List Listed → ℕ → ℕ → Span → ℕ → ℕ → Span
+spanUpTo ls r n fixed c zero = fixed
+spanUpTo ls r n fixed c (suc k) =
+    cond (spanned r n k) (widened (spanUpTo ls r n fixed c k) (gpioAt ls c k)) (spanUpTo ls r n fixed c k)
 
 abbrev pub choiceSpan : List Listed → ℕ → ℕ → Span → ℕ → Span
-choiceSpan ls r n fixed c = spanAt ls r n fixed c (length ls)
+choiceSpan ls r n fixed c = spanUpTo ls r n fixed c (length ls)
 
 -- 01 addr_layout 8: the span is how many GPIOs there are from the lowest to the highest
-abbrev pub width : Span → ℕ
-width s = s .high - s .low + 1
+abbrev pub spanWidth : Span → ℕ
+spanWidth s = s .high - s .low + 1
 
 -- 01 addr_layout 8: the pins are as many as the span, but never fewer than 8
-abbrev pub pinsOf : Span → ℕ
+abbrev pub paddedPins : Span → ℕ
 -- 01 addr_layout 8: the pins are as many as the span, but never fewer than 8
-pinsOf s = cond (ltb 8 (width s)) (width s) 8
+paddedPins s = cond (ltb 8 (spanWidth s)) (spanWidth s) 8
 
 -- 01 gpio_window 1: a choice fits if one window holds its pins, counted from its base
 -- 01 addr_layout 9: the base of a choice is the lowest of the GPIOs that it spans
 -- 01 addr_layout 10: a choice scores 1000 for each pin, and its base on top
-unfoldable pub trialOf : Span → Trial
-trialOf s = cond (fits (s .low) (pinsOf s)) (Score (pinsOf s * 1000 + s .low)) Misfit
+unfoldable pub spanTrial : Span → Trial
+spanTrial s = cond (fits (s .low) (paddedPins s)) (Score (paddedPins s * 1000 + s .low)) Misfit
 
 -- what choice c of a description comes to
 abbrev pub addrTrial : Description → ℕ → Trial
-addrTrial d c = trialOf (choiceSpan (addrListed d) (inRange d) (lines d) (fixedSpan d) c)
+addrTrial d c = spanTrial (choiceSpan (addrListed d) (inRange d) (lines d) (fixedSpan d) c)
 
 -- the X pins that pick a bank or a chip, behind the lines
 -- 01 Shape 4: an X GPIO of a layout is unused, or is at a GPIO
-abbrev pub xGpio : Bool → ℕ → LineGpio
-xGpio used g = cond used (At g) Unused
+abbrev pub lineGpio : Bool → ℕ → LineGpio
+lineGpio used g = cond used (At g) Unused
 
 -- the layout of pins resolved to GPIOs, of n lines u in use
 -- 01 addr_layout 2: the lines behind those in use are the excess ones
 -- 01 addr_layout 8: a layout has as many pins as its GPIOs span, but never fewer than 8
 -- 01 addr_layout 9: the base of a layout is the lowest GPIO of its span
-abbrev pub layoutFrom : Span → (ℕ → ℕ) → Bool → Bool → ℕ → ℕ → AddrLayout
-layoutFrom s gpio one both n u = record {
+abbrev pub addrLayoutFrom : Span → (ℕ → ℕ) → Bool → Bool → ℕ → ℕ → AddrLayout
+addrLayoutFrom s gpio one both n u = record {
   «gpio_base» = s .low;
-  «num_addr_pins» = pinsOf s;
-  «x1_gpio» = xGpio one (gpio n);
-  «x2_gpio» = xGpio both (gpio (n + 1));
+  «num_addr_pins» = paddedPins s;
+  «x1_gpio» = lineGpio one (gpio n);
+  «x2_gpio» = lineGpio both (gpio (n + 1));
   gpios = tab 24 (λ k. cond (ltb k n) (gpio k) 0);
   «num_lines» = u;
   «num_excess» = n - u;
@@ -114,8 +114,8 @@ layoutFrom s gpio one both n u = record {
 -- the layout that choice c makes
 -- 01 Well wired 1: a layout uses as many lines as are in range
 -- 01 addr_layout 5: X1 is behind the lines in any set but Single, and X2 behind X1 if there are at least 3 chips
-abbrev pub layoutOf : Description → List Listed → ℕ → AddrLayout
+abbrev pub addrLayoutOf : Description → List Listed → ℕ → AddrLayout
 -- 01 cs_data_layout 3: the layout that choice c makes has the base of the window that holds all its GPIOs
-layoutOf d ls c =
-    layoutFrom (choiceSpan ls (inRange d) (lines d) (fixedSpan d) c) (λ k. gpioAt ls c k) (not (isSingle (d .«set_type»)))
+addrLayoutOf d ls c =
+    addrLayoutFrom (choiceSpan ls (inRange d) (lines d) (fixedSpan d) c) (λ k. gpioAt ls c k) (not (isSingle (d .«set_type»)))
     (not (isSingle (d .«set_type»)) && leb 3 (d .«num_chips»)) (lines d) (inRange d)

@@ -13,8 +13,8 @@ use Rattle.listing.specs.Choice.{CandidateOf, pinAt, gpioAt}
 use Rattle.refusal.specs.declared.first.FirstFault.the-variants.{None}
 use Rattle.search.specs.Law.{Best}
 use Rattle.addr_layout.specs.Lines.{lines, lineListed, addrListed}
-use Rattle.addr_layout.specs.Choices.{inRange, kindCandidates, spanned, addrTrial, layoutOf}
-use Rattle.addr_layout.specs.Search.{inDomain, addrAnswer}
+use Rattle.addr_layout.specs.Choices.{inRange, kindCandidates, spanned, addrTrial, addrLayoutOf}
+use Rattle.addr_layout.specs.Search.{addrSearchIn, addrAnswer}
 use Rattle.gpio.specs.declared.line.LineGpio.{LineGpio}
 use Rattle.gpio.specs.declared.line.LineGpio.the-variants.{At}
 use Rattle.addr_layout.specs.declared.layout.AddrLayout.{AddrLayout}
@@ -22,7 +22,7 @@ use Rattle.addr_layout.specs.declared.layout.AddrOutcome.the-variants.{L
 
 -- 00 Demand 2: the tests before the search are past: the description is in the domain, and every listed pin has a candidate
 pub record PastTests (d : Description) : Type 0 where
-  pub domain : inDomain d ≡ true
+  pub domain : addrSearchIn d ≡ true
   pub no-fault : firstFault (addrListed d) ≡ None
 
 -- how many choices there are
@@ -32,7 +32,7 @@ choices d = 2 ^ twos (addrListed d)
 -- 00 Demand 2: the layout found is that of choice c, which fits with score s; no fitting choice scores lower, every earlier one
 -- higher
 pub record LaidOutBest (d : Description) (c s : ℕ) : Type 0 where
-  pub answer : addrAnswer d ≡ record { outcome = LaidOut; layout = layoutOf d (addrListed d) c }
+  pub answer : addrAnswer d ≡ record { outcome = LaidOut; layout = addrLayoutOf d (addrListed d) c }
   pub best : Best (addrTrial d) (choices d) c s
 
 -- a GPIO is the first of a pin's candidates
@@ -75,16 +75,16 @@ pub record SoundLayout (d : Description) (c : ℕ) (l : AddrLayout) : Type 0 whe
 -- what the layout of a choice that fits keeps
 pub record Sound (d : Description) (c : ℕ) : Type 0 where
   -- 01 gpio_window 1: base and pins fit one of the PIO's windows
-  pub window : fits (layoutOf d (addrListed d) c .«gpio_base») (layoutOf d (addrListed d) c .«num_addr_pins») ≡ true
+  pub window : fits (addrLayoutOf d (addrListed d) c .«gpio_base») (addrLayoutOf d (addrListed d) c .«num_addr_pins») ≡ true
   -- 01 addr_layout 8: there are at least 8 pins
-  pub wide : 8 ≤ layoutOf d (addrListed d) c .«num_addr_pins»
+  pub wide : 8 ≤ addrLayoutOf d (addrListed d) c .«num_addr_pins»
   -- 01 addr_layout 9: the base is one of the GPIOs that the choice spans
-  pub attained : Spanned d c (layoutOf d (addrListed d) c .«gpio_base»)
+  pub attained : Spanned d c (addrLayoutOf d (addrListed d) c .«gpio_base»)
   -- 01 addr_layout 9: no GPIO that the choice spans is below the base, and each is in the window
   pub inside : (g : ℕ) → Spanned d c g
-      → (layoutOf d (addrListed d) c .«gpio_base» ≤ g)
-      × (g < layoutOf d (addrListed d) c .«gpio_base» + layoutOf d (addrListed d) c .«num_addr_pins»)
+      → (addrLayoutOf d (addrListed d) c .«gpio_base» ≤ g)
+      × (g < addrLayoutOf d (addrListed d) c .«gpio_base» + addrLayoutOf d (addrListed d) c .«num_addr_pins»)
   -- each listed pin's GPIO is a candidate of its pin
   pub candidate : (k : ℕ) → k < length (addrListed d) → CandidateOf (pinAt (addrListed d) k) (gpioAt (addrListed d) c k)
   -- and the fields of the layout say so
-  pub layout : SoundLayout d c (layoutOf d (addrListed d) c)
+  pub layout : SoundLayout d c (addrLayoutOf d (addrListed d) c)

@@ -23,8 +23,8 @@ noLayout = record {
   «num_excess» = 0;
 }
 
-abbrev pub refusedFor : Refusal → AddrAnswer
-refusedFor why = record { outcome = Refused why; layout = noLayout }
+abbrev pub addrRefused : Refusal → AddrAnswer
+addrRefused why = record { outcome = Refused why; layout = noLayout }
 
 -- 01 Domain 13: all address lines are those in use and the excess ones
 abbrev pub allLines : AddrLayout → ℕ

@@ -1,6 +1,6 @@
 pub mod Lines
 pub mod Layout
 pub mod Choices
-pub mod Parts
 pub mod Search
 pub mod Law
+pub mod design

@@ -28,12 +28,14 @@ ghost use Prim.Native.Nat.{_+_, _^_, _≤_};
 ghost use lib.Dec.{ltb};
 ghost use lib.ListN.{getD, take};
 ghost use Rattle.lists.specs.Tab.{tab};
-ghost use Rattle.gpio.specs.Span.{widened, joined};
+ghost use Rattle.gpio.specs.Span.{widened};
+ghost use Rattle.gpio.specs.design.Span.{spansJoined};
 ghost use Rattle.listing.specs.Listing.{listOf};
-ghost use Rattle.search.specs.Search.{best, bestOnward};
+ghost use Rattle.search.specs.Search.{best};
+ghost use Rattle.search.specs.design.Rows.{bestOnward};
 ghost use Rattle.addr_layout.specs.Lines.{lines};
-ghost use Rattle.addr_layout.specs.Choices.{mostEntries, reach, inRange, widenedFirst, kindCandidates, selectSpan, fixedSpan, choiceSpan, width, pinsOf, trialOf, xGpio, layoutFrom, layoutOf};
-ghost use Rattle.addr_layout.specs.Parts.{partSpan, noSpan};
+ghost use Rattle.addr_layout.specs.Choices.{mostEntries, reach, inRange, widenedFirst, kindCandidates, selectSpan, fixedSpan, choiceSpan, spanWidth, paddedPins, spanTrial, lineGpio, addrLayoutFrom, addrLayoutOf};
+ghost use Rattle.addr_layout.specs.design.Parts.{partSpan, pastSpans};
 
 // The entries of the largest table.
 fn most_entries(d: Description) -> u32
@@ -167,7 +169,7 @@ fn span_of(l: Listing, in_range: usize, lines: usize, fixed: Span, choice: u32) 
 }
 
 fn width(s: Span) -> u32
-    ensures { λ r. ⌜ r ≡ width s ⌝ }
+    ensures { λ r. ⌜ r ≡ spanWidth s ⌝ }
 {
     if s.high < s.low {
         return 1;
@@ -177,7 +179,7 @@ fn width(s: Span) -> u32
 
 // The PIO reads at least 8 GPIOs.
 fn pins(s: Span) -> u32
-    ensures { λ r. ⌜ r ≡ pinsOf s ⌝ }
+    ensures { λ r. ⌜ r ≡ paddedPins s ⌝ }
 {
     let w = width(s);
     if 8 < w { w } else { 8 }
@@ -185,7 +187,7 @@ fn pins(s: Span) -> u32
 
 // The score of a choice with a span, if one window holds it.
 fn trial(s: Span) -> Trial
-    ensures { λ r. ⌜ r ≡ trialOf s ⌝ }
+    ensures { λ r. ⌜ r ≡ spanTrial s ⌝ }
 {
     let n = pins(s);
     if 48 < n {
@@ -215,7 +217,7 @@ fn low_spans(l: Listing, in_range: usize, lines: usize, fixed: Span, split: u32)
 // The better of what was found and of a row of choices from `first` on.
 fn best_in_row(before: Found, lows: [Span; 64], high: Span, first: u32, len: u32) -> Found
     requires { ⌜ (len ≤ 64) × (first + len ≤ 65536) ⌝ }
-    ensures { λ r. ⌜ r ≡ bestOnward before (λ q. trialOf (joined (getD lows q noSpan) high)) first len ⌝ }
+    ensures { λ r. ⌜ r ≡ bestOnward before (λ q. spanTrial (spansJoined (getD lows q pastSpans) high)) first len ⌝ }
 {
     let mut found = before;
     let mut q: u32 = 0;
@@ -230,7 +232,7 @@ fn best_in_row(before: Found, lows: [Span; 64], high: Span, first: u32, len: u32
 // The best of the choices that `bits` two-candidate pins leave.
 pub fn best(d: Description, l: Listing, bits: u32) -> Found
     requires { ⌜ (l .count ≤ 30) × (bits ≤ 16) ⌝ }
-    ensures { λ r. ⌜ r ≡ best (λ c. trialOf (choiceSpan (listOf l) (inRange d) (lines d) (fixedSpan d) c)) (2 ^ bits) ⌝ }
+    ensures { λ r. ⌜ r ≡ best (λ c. spanTrial (choiceSpan (listOf l) (inRange d) (lines d) (fixedSpan d) c)) (2 ^ bits) ⌝ }
 {
     let used = in_range(d) as usize;
     let all = num_lines(d) as usize;
@@ -263,7 +265,7 @@ fn line_gpios(all: [u8; 30], lines: usize) -> [u8; 24]
 }
 
 fn x_gpio(used: bool, g: u8) -> LineGpio
-    ensures { λ r. ⌜ r ≡ xGpio used g ⌝ }
+    ensures { λ r. ⌜ r ≡ lineGpio used g ⌝ }
 {
     if used {
         LineGpio::At(g)
@@ -274,8 +276,8 @@ fn x_gpio(used: bool, g: u8) -> LineGpio
 
 // The layout of resolved pins: the lines' GPIOs, then those of X1 and X2 where they pick a bank or a chip.
 fn layout(span: Span, all: [u8; 30], one: bool, both: bool, lines: u8, used: u8) -> AddrLayout
-    requires { ⌜ (pinsOf span ≤ 255) × (used ≤ lines) × (lines ≤ 24) ⌝ }
-    ensures { λ r. ⌜ r ≡ layoutFrom span (λ k. getD all k 0) one both lines used ⌝ }
+    requires { ⌜ (paddedPins span ≤ 255) × (used ≤ lines) × (lines ≤ 24) ⌝ }
+    ensures { λ r. ⌜ r ≡ addrLayoutFrom span (λ k. getD all k 0) one both lines used ⌝ }
 {
     let n = lines as usize;
     AddrLayout {
@@ -291,8 +293,8 @@ fn layout(span: Span, all: [u8; 30], one: bool, both: bool, lines: u8, used: u8)
 
 // The layout that a choice makes which fits.
 pub fn laid_out(d: Description, l: Listing, choice: u32, score: u32) -> AddrAnswer
-    requires { ⌜ (l .count ≤ 30) × (lines d ≤ 24) × (trialOf (choiceSpan (listOf l) (inRange d) (lines d) (fixedSpan d) choice) ≡ Trial.Score score) ⌝ }
-    ensures { λ r. ⌜ r ≡ record { outcome = AddrOutcome.LaidOut; layout = layoutOf d (listOf l) choice } ⌝ }
+    requires { ⌜ (l .count ≤ 30) × (lines d ≤ 24) × (spanTrial (choiceSpan (listOf l) (inRange d) (lines d) (fixedSpan d) choice) ≡ Trial.Score score) ⌝ }
+    ensures { λ r. ⌜ r ≡ record { outcome = AddrOutcome.LaidOut; layout = addrLayoutOf d (listOf l) choice } ⌝ }
 {
     let used = in_range(d);
     let all = num_lines(d);

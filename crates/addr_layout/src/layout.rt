@@ -7,7 +7,7 @@ ghost use mathlib.Core.Bool.{_&&_};
 ghost use lib.Dec.{leb};
 ghost use lib.ListN.{getD};
 ghost use Rattle.lists.specs.Each.{each, between};
-ghost use Rattle.addr_layout.specs.Layout.{noLayout, refusedFor, allLines, layoutIn};
+ghost use Rattle.addr_layout.specs.Layout.{noLayout, addrRefused, allLines, layoutIn};
 
 // Which GPIOs the address PIO reads, and which line each serves.
 pub struct AddrLayout {
@@ -52,7 +52,7 @@ pub fn no_layout() -> AddrLayout
 
 // A refused call: nothing is laid out.
 pub fn refused(why: Refusal) -> AddrAnswer
-    ensures { λ r. ⌜ r ≡ refusedFor why ⌝ }
+    ensures { λ r. ⌜ r ≡ addrRefused why ⌝ }
 {
     AddrAnswer {
         outcome: AddrOutcome::Refused(why),

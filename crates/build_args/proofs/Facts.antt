@@ -17,7 +17,7 @@ use Rattle.addr_layout.specs.declared.layout.AddrLayout.{AddrLayout}
 use Rattle.cs_data_layout.proofs.Bounds.{few-lines}
 use Rattle.cs_data_layout.specs.declared.layout.CsDataLayout.{CsDataLayout}
 use Rattle.build_args.specs.Positions.{dataBase}
-use Rattle.build_args.specs.Domain.{selectLinesIn, csDataIn, inDomain}
+use Rattle.build_args.specs.Domain.{selectLinesIn, csDataIn, buildIn}
 
 -- a select layout's numbers
 module _ (c : CsDataLayout) (e : csDataIn c ≡ true) where
@@ -57,12 +57,12 @@ module _ (c : CsDataLayout) (e : csDataIn c ≡ true) where
       let other = leb-true (c .«base_data_pin») 47 (and-right (gpioIn (c .«gpio_base»)) (gpioIn (c .«base_data_pin»)) two) in
       omega (arith, one, other)
 
-module _ (d : Description) (a : AddrLayout) (c : CsDataLayout) (e : inDomain d a c ≡ true) where
+module _ (d : Description) (a : AddrLayout) (c : CsDataLayout) (e : buildIn d a c ≡ true) where
   qualified : Bool
   qualified = qualifiersIn (d .qualifiers) (d .«num_qualifiers») (a .gpios) (a .«num_lines»)
 
   layouts : descriptionIn d && layoutIn a ≡ true
-  unfolding inDomain qualified
+  unfolding buildIn qualified
   layouts = and-left (descriptionIn d && layoutIn a) qualified (and-left (descriptionIn d && layoutIn a && qualified) (csDataIn c) e)
 
   pub described : descriptionIn d ≡ true
@@ -72,7 +72,7 @@ module _ (d : Description) (a : AddrLayout) (c : CsDataLayout) (e : inDomain d a
   addressed = and-right (descriptionIn d) (layoutIn a) layouts
 
   pub selected : csDataIn c ≡ true
-  unfolding inDomain qualified
+  unfolding buildIn qualified
   selected = and-right (descriptionIn d && layoutIn a && qualified) (csDataIn c) e
 
   pub lines-few : a .«num_lines» ≤ 24

@@ -14,8 +14,8 @@ use Rattle.cs_data_layout.specs.declared.layout.SelectLine.{SelectLine}
 use Rattle.cs_data_layout.specs.declared.layout.CsDataLayout.{CsDataLayout}
 
 -- a commoned line, or a select line
-abbrev pub lineOf : CsDataLayout → Bool → ℕ → SelectLine
-lineOf c commoned k = cond commoned (getD (c .«commoned_lines») k (line 0 0)) (getD (c .«select_lines») k (line 0 0))
+abbrev pub selectLineOf : CsDataLayout → Bool → ℕ → SelectLine
+selectLineOf c commoned k = cond commoned (getD (c .«commoned_lines») k (line 0 0)) (getD (c .«select_lines») k (line 0 0))
 
 -- the roles are 0 to 8
 -- 01 Domain 2: a select or commoned line has a GPIO of 0 to 47
@@ -23,7 +23,7 @@ abbrev pub selectLineIn : SelectLine → Bool
 selectLineIn l = leb (l .role) 8 && gpioIn (l .gpio)
 
 unfoldable pub selectLinesIn : CsDataLayout → Bool → ℕ → Bool
-selectLinesIn c commoned n = each n (λ k. selectLineIn (lineOf c commoned k))
+selectLinesIn c commoned n = each n (λ k. selectLineIn (selectLineOf c commoned k))
 
 -- 01 Domain 2: a data line has a GPIO of 0 to 47
 -- 01 Domain 13: there are 1 to 16 data lines, at most 30 select lines and at most 6 commoned ones
@@ -37,6 +37,6 @@ csDataIn c =
     && (leb (c .«num_commoned_lines») 6 && selectLinesIn c true (c .«num_commoned_lines»))
 
 -- 01 Domain 15: a build always has an address layout, and so always looks at the qualifiers
-unfoldable pub inDomain : Description → AddrLayout → CsDataLayout → Bool
-inDomain d a c =
+unfoldable pub buildIn : Description → AddrLayout → CsDataLayout → Bool
+buildIn d a c =
     descriptionIn d && layoutIn a && qualifiersIn (d .qualifiers) (d .«num_qualifiers») (a .gpios) (a .«num_lines») && csDataIn c

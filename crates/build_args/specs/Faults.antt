@@ -13,7 +13,7 @@ use Rattle.refusal.specs.declared.first.FirstFault.{FirstFault}
 use Rattle.addr_layout.specs.declared.layout.AddrLayout.{AddrLayout}
 use Rattle.cs_data_layout.specs.declared.layout.CsDataLayout.{CsDataLayout}
 use Rattle.build_args.specs.declared.images.ImageSpan.{ImageSpan}
-use Rattle.build_args.specs.Images.{spanAt, chipBytes}
+use Rattle.build_args.specs.Images.{chipSpan, chipBytes}
 use Rattle.build_args.specs.Positions.{linePositionIn, dataPositionIn}
 use Rattle.picks.specs.Positions.{xPositionIn}
 use Rattle.picks.specs.Picks.{chipsFit}
@@ -29,8 +29,8 @@ abbrev pub tableSize : Description → AddrLayout → ℕ
 tableSize d a = entriesOf a * d .«word_bytes»
 
 -- 01 Number 11: the table would have more than L bytes
-abbrev pub tooLarge : Description → AddrLayout → Bool
-tooLarge d a = ltb (d .«max_image_size») (tableSize d a)
+abbrev pub tableTooLarge : Description → AddrLayout → Bool
+tableTooLarge d a = ltb (d .«max_image_size») (tableSize d a)
 
 -- 01 Number 13: passed where each address line in use has a position of 0 to 31
 unfoldable pub addressIn : AddrLayout → Bool
@@ -43,17 +43,17 @@ unfoldable pub picksIn : Description → AddrLayout → CsDataLayout → Bool
 picksIn d a c = each (numPicks d) (λ k. xPositionIn (a .«gpio_base») (pickAt d a c k))
 
 -- 01 Number 13: passed where each data line has a position of 0 to 31
-unfoldable pub linesIn : CsDataLayout → Bool
+unfoldable pub dataPositionsIn : CsDataLayout → Bool
 -- 01 Number 13: passed where each data line has a position of 0 to 31
-linesIn c = each (c .«num_data_pins») (λ k. dataPositionIn c k)
+dataPositionsIn c = each (c .«num_data_pins») (λ k. dataPositionIn c k)
 
 -- 01 Number 14: chip k has the mark of a chip without bytes; k is the place
 abbrev pub missingAt : List ImageSpan → ℕ → FirstFault
-missingAt spans k = faultIf (not (spanAt spans k .present)) (MissingImageData k)
+missingAt spans k = faultIf (not (chipSpan spans k .present)) (MissingImageData k)
 
 -- 01 Number 15: chip k was given fewer bytes than its size says; k is the place
 abbrev pub shortAt : Description → List ℕ → List ImageSpan → ℕ → FirstFault
-shortAt d images spans k = faultIf (ltb (length (chipBytes images (spanAt spans k))) (getD (d .chips) k noChip .size)) (ShortImageData k)
+shortAt d images spans k = faultIf (ltb (length (chipBytes images (chipSpan spans k))) (getD (d .chips) k noChip .size)) (ShortImageData k)
 
 -- 01 Number 16: the table lent has fewer bytes than the build would write
 abbrev pub tooShort : Description → AddrLayout → ℕ → Bool
@@ -65,7 +65,7 @@ abbrev pub linesFault : Description → AddrLayout → CsDataLayout → FirstFau
 linesFault d a c =
     orElse (faultIf (not (addressIn a)) BadPosition)
     (orElse (faultIf (not (chipsFit (d .«set_type») (d .«num_chips»))) InvalidConfig)
-    (faultIf (not (picksIn d a c && linesIn c)) BadPosition))
+    (faultIf (not (picksIn d a c && dataPositionsIn c)) BadPosition))
 
 -- 01 Number 14: of several chips without bytes the lowest answers
 -- 01 Number 15: of several chips with too few bytes the lowest answers
@@ -82,4 +82,4 @@ lentFault d a images spans lent =
 -- 01 Numbers 3: the table's size (11), then the lines and the number of chips, then what is lent
 unfoldable pub buildFault : Description → AddrLayout → CsDataLayout → List ℕ → List ImageSpan → ℕ → FirstFault
 buildFault d a c images spans lent =
-    orElse (faultIf (tooLarge d a) RomTableTooLarge) (orElse (linesFault d a c) (lentFault d a images spans lent))
+    orElse (faultIf (tableTooLarge d a) RomTableTooLarge) (orElse (linesFault d a c) (lentFault d a images spans lent))

@@ -8,8 +8,8 @@ use Rattle.build_args.specs.declared.images.ImageSpan.{ImageSpan}
 abbrev pub noSpan : ImageSpan
 noSpan = record { present = false; start = 0; length = 0 }
 
-abbrev pub spanAt : List ImageSpan → ℕ → ImageSpan
-spanAt spans k = getD spans k noSpan
+abbrev pub chipSpan : List ImageSpan → ℕ → ImageSpan
+chipSpan spans k = getD spans k noSpan
 
 -- a chip's bytes: those of its span that the slice has
 unfoldable pub chipBytes : List ℕ → ImageSpan → List ℕ

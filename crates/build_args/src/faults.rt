@@ -19,8 +19,8 @@ ghost use Prim.Native.Nat.{_≤_, _<_, _^_};
 ghost use lib.ListN.{getD};
 ghost use Rattle.slot.specs.Description.{noChip};
 ghost use Rattle.build_args.specs.Positions.{dataBase};
-ghost use Rattle.build_args.specs.Domain.{inDomain};
-ghost use Rattle.build_args.specs.Faults.{tableSize, tooLarge, addressIn, linesIn, missingAt, shortAt, linesFault, lentFault, buildFault};
+ghost use Rattle.build_args.specs.Domain.{buildIn};
+ghost use Rattle.build_args.specs.Faults.{tableSize, tableTooLarge, addressIn, dataPositionsIn, missingAt, shortAt, linesFault, lentFault, buildFault};
 ghost use Rattle.refusal.specs.First.{firstOf};
 
 // Bytes of the table.
@@ -35,7 +35,7 @@ pub fn table_size(d: Description, a: AddrLayout) -> u64
 // Whether the table has more bytes than the slot's largest. With 32 and more pins it has, and nothing is shifted.
 fn too_large(d: Description, a: AddrLayout) -> bool
     requires { ⌜ (d .«max_image_size» ≤ 2 ^ 20) × (1 ≤ d .«word_bytes») × (d .«word_bytes» ≤ 2) ⌝ }
-    ensures { λ r. ⌜ r ≡ tooLarge d a ⌝ }
+    ensures { λ r. ⌜ r ≡ tableTooLarge d a ⌝ }
     ensures { λ r. ⌜ (r ≡ false → a .«num_addr_pins» < 32) ⌝ }
 {
     if 31 < a.num_addr_pins {
@@ -55,7 +55,7 @@ fn address_in(a: AddrLayout) -> bool
 // Whether each data line has a position.
 fn lines_in(c: CsDataLayout) -> bool
     requires { ⌜ dataBase c ≤ 255 ⌝ }
-    ensures { λ r. ⌜ r ≡ linesIn c ⌝ }
+    ensures { λ r. ⌜ r ≡ dataPositionsIn c ⌝ }
 {
     let gpios = c.data_pin_gpios;
     positions_in(&gpios, c.num_data_pins, data_base(c))
@@ -141,7 +141,7 @@ pub fn build_fault(
     spans: [ImageSpan; 4],
     lent: usize,
 ) -> FirstFault
-    requires { ⌜ inDomain d a c ≡ true ⌝ }
+    requires { ⌜ buildIn d a c ≡ true ⌝ }
     ensures { λ r. ⌜ r ≡ buildFault d a c (now (images .entry)) spans lent ⌝ }
 {
     if too_large(d, a) {

@@ -1,7 +1,7 @@
 // The bytes that are lent for the chips: one slice, and for each chip where its bytes stand in it.
 ghost use mathlib.Core.Path.{_≡_};
 ghost use lib.ListN.{length};
-ghost use Rattle.build_args.specs.Images.{chipBytes, spanAt};
+ghost use Rattle.build_args.specs.Images.{chipBytes, chipSpan};
 
 // Where a chip's bytes stand in the lent ones; those past the end are not there.
 pub struct ImageSpan {
@@ -13,7 +13,7 @@ pub struct ImageSpan {
 
 // The span of chip k.
 pub fn span_at(spans: [ImageSpan; 4], k: usize) -> ImageSpan
-    ensures { λ r. ⌜ r ≡ spanAt spans k ⌝ }
+    ensures { λ r. ⌜ r ≡ chipSpan spans k ⌝ }
 {
     if 4 <= k {
         return ImageSpan {

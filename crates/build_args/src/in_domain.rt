@@ -9,10 +9,10 @@ use lists::array::all_between;
 use slot::description::Description;
 ghost use mathlib.Core.Path.{_≡_};
 ghost use mathlib.Core.Bool.{true, false};
-ghost use Rattle.build_args.specs.Domain.{lineOf, selectLineIn, selectLinesIn, csDataIn, inDomain};
+ghost use Rattle.build_args.specs.Domain.{selectLineOf, selectLineIn, selectLinesIn, csDataIn, buildIn};
 
 fn select_line(c: CsDataLayout, k: usize) -> SelectLine
-    ensures { λ r. ⌜ r ≡ lineOf c false k ⌝ }
+    ensures { λ r. ⌜ r ≡ selectLineOf c false k ⌝ }
 {
     if 30 <= k {
         return SelectLine { role: 0, gpio: 0 };
@@ -22,7 +22,7 @@ fn select_line(c: CsDataLayout, k: usize) -> SelectLine
 }
 
 fn commoned_line(c: CsDataLayout, k: usize) -> SelectLine
-    ensures { λ r. ⌜ r ≡ lineOf c true k ⌝ }
+    ensures { λ r. ⌜ r ≡ selectLineOf c true k ⌝ }
 {
     if 6 <= k {
         return SelectLine { role: 0, gpio: 0 };
@@ -33,7 +33,7 @@ fn commoned_line(c: CsDataLayout, k: usize) -> SelectLine
 
 // A commoned line, or a select line; all 0 past the last.
 fn line_of(c: CsDataLayout, commoned: bool, k: usize) -> SelectLine
-    ensures { λ r. ⌜ r ≡ lineOf c commoned k ⌝ }
+    ensures { λ r. ⌜ r ≡ selectLineOf c commoned k ⌝ }
 {
     if commoned {
         return commoned_line(c, k);
@@ -77,7 +77,7 @@ fn cs_data_in(c: CsDataLayout) -> bool
 
 // Whether all that a build is handed keeps to the domain.
 pub fn in_domain(d: Description, a: AddrLayout, c: CsDataLayout) -> bool
-    ensures { λ r. ⌜ r ≡ inDomain d a c ⌝ }
+    ensures { λ r. ⌜ r ≡ buildIn d a c ⌝ }
 {
     let qualifiers = d.qualifiers;
     let gpios = a.gpios;

@@ -31,17 +31,17 @@ namedCount lines = tally (lines .count) (λ k. named (kindAt lines k))
 -- 01 multi_cs_config 2: the only line with a name is the select, and its setting is not looked at
 -- 01 multi_cs_config 3: where several have a name, a line is the select unless the secondary ignores it; if it does, the line is
 -- ignored where chip 0 ignores it too, and commoned where not
-abbrev pub partOf : Bool → CsConfig → CsConfig → ℕ → Part
-partOf single chip0 secondary kind =
+abbrev pub linePart : Bool → CsConfig → CsConfig → ℕ → Part
+linePart single chip0 secondary kind =
     cond (named kind)
     (cond (single || not (ignores secondary kind)) Select (cond (ignores chip0 kind) Ignored Commoned))
     Dropped
 
 -- a line joins the lines of its part
 -- 01 multi_cs_config 3: a new select takes the place of the one before it, which joins no list
-abbrev pub placed : Part → ℕ → Sorted → Sorted
-placed Dropped kind s = s
-placed Select kind s = record {
+abbrev pub sortedWith : Part → ℕ → Sorted → Sorted
+sortedWith Dropped kind s = s
+sortedWith Select kind s = record {
   config = record {
     -- 01 Well wired 12: in Multi the select is at the GPIO of the first select line
     select = kind;
@@ -52,7 +52,7 @@ placed Select kind s = record {
   };
   found = true;
 }
-placed Commoned kind s = record {
+sortedWith Commoned kind s = record {
   config = record {
     -- 01 Well wired 12: in Multi the select is at the GPIO of the first select line
     select = s .config .select;
@@ -63,7 +63,7 @@ placed Commoned kind s = record {
   };
   found = s .found;
 }
-placed Ignored kind s = record {
+sortedWith Ignored kind s = record {
   config = record {
     -- 01 Well wired 12: in Multi the select is at the GPIO of the first select line
     select = s .config .select;
@@ -89,14 +89,14 @@ nothing = record {
 unfoldable pub sorted : ControlLines → CsConfig → CsConfig → ℕ → Sorted
 sorted lines chip0 secondary zero = record { config = nothing; found = false }
 sorted lines chip0 secondary (suc k) =
-    placed (partOf (eqb (namedCount lines) 1) chip0 secondary (kindAt lines k)) (kindAt lines k) (sorted lines chip0 secondary k)
+    sortedWith (linePart (eqb (namedCount lines) 1) chip0 secondary (kindAt lines k)) (kindAt lines k) (sorted lines chip0 secondary k)
 
-abbrev pub refusedFor : Refusal → MultiAnswer
-refusedFor why = record { outcome = Refused why; config = nothing }
+abbrev pub multiRefused : Refusal → MultiAnswer
+multiRefused why = record { outcome = Refused why; config = nothing }
 
 -- 01 Number 25: no line became the select
-abbrev pub answerOf : Sorted → MultiAnswer
-answerOf s = cond (s .found) (record { outcome = Derived; config = s .config }) (refusedFor NoActiveLine)
+abbrev pub multiAnswerOf : Sorted → MultiAnswer
+multiAnswerOf s = cond (s .found) (record { outcome = Derived; config = s .config }) (multiRefused NoActiveLine)
 
 -- 01 Number 1: the control lines are outside the domain
 -- 01 Numbers 2: the domain is tested before any line is sorted
@@ -104,4 +104,4 @@ abbrev pub multiAnswer : ControlLines → CsConfig → CsConfig → MultiAnswer
 -- 01 Number 1: the control lines are outside the domain
 -- 01 Numbers 2: the domain is tested before any line is sorted
 multiAnswer lines chip0 secondary =
-    cond (controlIn lines) (answerOf (sorted lines chip0 secondary (lines .count))) (refusedFor OutOfDomain)
+    cond (controlIn lines) (multiAnswerOf (sorted lines chip0 secondary (lines .count))) (multiRefused OutOfDomain)

@@ -10,7 +10,7 @@ use slot::description::MultiCsConfig;
 ghost use mathlib.Core.Path.{_≡_};
 ghost use mathlib.Core.Bool.{cond};
 ghost use Prim.Native.Nat.{_≤_, _<_};
-ghost use Rattle.control.specs.MultiCsConfig.{named, namedCount, partOf, placed, nothing, sorted, refusedFor, multiAnswer};
+ghost use Rattle.control.specs.MultiCsConfig.{named, namedCount, linePart, sortedWith, nothing, sorted, multiRefused, multiAnswer};
 
 // The part that a control line has in a Multi set.
 pub enum Part {
@@ -64,7 +64,7 @@ fn named_count(lines: ControlLines) -> u8
 
 // The part of the line of a kind. A line that has no other beside it is the select, whatever its setting.
 fn part_of(single: bool, chip0: CsConfig, secondary: CsConfig, kind: u8) -> Part
-    ensures { λ r. ⌜ r ≡ partOf single chip0 secondary kind ⌝ }
+    ensures { λ r. ⌜ r ≡ linePart single chip0 secondary kind ⌝ }
 {
     if 5 < kind {
         return Part::Dropped;
@@ -80,7 +80,7 @@ fn part_of(single: bool, chip0: CsConfig, secondary: CsConfig, kind: u8) -> Part
 
 // The last select wins: an earlier one goes to no list.
 fn with_select(s: Sorted, kind: u8) -> Sorted
-    ensures { λ r. ⌜ r ≡ placed Part.Select kind s ⌝ }
+    ensures { λ r. ⌜ r ≡ sortedWith Part.Select kind s ⌝ }
 {
     let mut config = s.config;
     config.select = kind;
@@ -92,7 +92,7 @@ fn with_select(s: Sorted, kind: u8) -> Sorted
 
 fn with_commoned(s: Sorted, kind: u8) -> Sorted
     requires { ⌜ s .config .«num_commoned» < 8 ⌝ }
-    ensures { λ r. ⌜ r ≡ placed Part.Commoned kind s ⌝ }
+    ensures { λ r. ⌜ r ≡ sortedWith Part.Commoned kind s ⌝ }
 {
     let mut config = s.config;
     let n = config.num_commoned as usize;
@@ -106,7 +106,7 @@ fn with_commoned(s: Sorted, kind: u8) -> Sorted
 
 fn with_ignored(s: Sorted, kind: u8) -> Sorted
     requires { ⌜ s .config .«num_ignored» < 8 ⌝ }
-    ensures { λ r. ⌜ r ≡ placed Part.Ignored kind s ⌝ }
+    ensures { λ r. ⌜ r ≡ sortedWith Part.Ignored kind s ⌝ }
 {
     let mut config = s.config;
     let n = config.num_ignored as usize;
@@ -121,7 +121,7 @@ fn with_ignored(s: Sorted, kind: u8) -> Sorted
 // A line joins the lines of its part.
 fn place(part: Part, kind: u8, s: Sorted) -> Sorted
     requires { ⌜ (s .config .«num_commoned» < 8) × (s .config .«num_ignored» < 8) ⌝ }
-    ensures { λ r. ⌜ r ≡ placed part kind s ⌝ }
+    ensures { λ r. ⌜ r ≡ sortedWith part kind s ⌝ }
 {
     match part {
         Part::Dropped => s,
@@ -167,7 +167,7 @@ fn sort(lines: ControlLines, chip0: CsConfig, secondary: CsConfig) -> Sorted
 }
 
 fn refused(why: Refusal) -> MultiAnswer
-    ensures { λ r. ⌜ r ≡ refusedFor why ⌝ }
+    ensures { λ r. ⌜ r ≡ multiRefused why ⌝ }
 {
     let outcome = MultiOutcome::Refused(why);
     let config = nothing();

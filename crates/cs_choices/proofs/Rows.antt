@@ -13,7 +13,7 @@ use Rattle.listing.specs.Listing.{listOf}
 use Rattle.listing.specs.declared.Listing.{Listing}
 use Rattle.search.proofs.Rows.{row-first, row-fits}
 use Rattle.cs_choices.specs.Sets.{verdictOn}
-use Rattle.cs_choices.specs.Parts.{partsOf, noSets, inRow}
+use Rattle.cs_choices.specs.design.Parts.{partsOf, noSets, inRow}
 use Rattle.cs_choices.specs.declared.choices.Fixed.{Fixed}
 use Rattle.cs_choices.specs.declared.choices.Sets.{Sets}
 use Rattle.cs_choices.proofs.Parts.{row-verdict}

@@ -15,9 +15,9 @@ use Rattle.refusal.specs.declared.first.FirstFault.{FirstFault}
 use Rattle.refusal.specs.declared.first.FirstFault.the-variants.{None, Of}
 use Rattle.listing.specs.declared.Listed.{Listed}
 use Rattle.cs_choices.specs.Sets.{verdictOn}
-use Rattle.cs_choices.specs.Verdict.{selectable, allOf, inWindow, scoreOf, verdictOf}
+use Rattle.cs_choices.specs.Verdict.{selectable, allOf, inOneWindow, scoreOf, verdictOf}
 use Rattle.cs_choices.specs.Nothing.{interiorIn, interiorOf, interior, refusedOf, lastRefused, nothingFits}
-use Rattle.cs_choices.specs.Seen.{orSet, interiorSet, refusedSet, refusedIn, noneSeen, seenOnward}
+use Rattle.cs_choices.specs.design.Seen.{orSet, interiorSet, refusedSet, refusedIn, noneSeen, seenOnward}
 use Rattle.cs_choices.specs.declared.choices.Fixed.{Fixed}
 use Rattle.cs_choices.specs.declared.nothing.Seen.{Seen}
 use Rattle.cs_choices.specs.declared.verdict.Verdict.{Verdict}
@@ -60,7 +60,7 @@ refused-judged true false z s score h = rw (h refl)
 refused-by-set : (multi : Bool) (q d s : ℕ) → refusedOf (verdictOf multi q d s) ≡ refusedIn (refusedSet (verdictOf multi q d s))
 unfolding verdictOf
 refused-by-set multi q d s =
-    refused-judged (gapless d) (selectable multi s) (inWindow (allOf d s q)) s (scoreOf s q (allOf d s q)) (some-refused multi s (eqb s 0) refl)
+    refused-judged (gapless d) (selectable multi s) (inOneWindow (allOf d s q)) s (scoreOf s q (allOf d s q)) (some-refused multi s (eqb s 0) refl)
 
 module _ (ls : List Listed) (f : Fixed) (ignored : ℕ) where
   -- what the choices below k show

@@ -3,16 +3,16 @@ use mathlib.Core.Path.{_≡_}
 use mathlib.Core.Bool.{Bool, true, false}
 use Prim.Native.Nat.{ℕ}
 use Rattle.gpio.specs.Set.{gapless}
-use Rattle.cs_choices.specs.Verdict.{selectable, allOf, inWindow, scoreOf, verdictOf}
+use Rattle.cs_choices.specs.Verdict.{selectable, allOf, inOneWindow, scoreOf, verdictOf}
 use Rattle.cs_choices.specs.declared.verdict.Verdict.the-variants.{DataGap, SelectGap, OutsideWindow, Fits}
 
 module _ (multi : Bool) (qualifiers dataGpios selectGpios : ℕ) where
-  pub fits-given : gapless dataGpios ≡ true → selectable multi selectGpios ≡ true → inWindow (allOf dataGpios selectGpios qualifiers) ≡ true
+  pub fits-given : gapless dataGpios ≡ true → selectable multi selectGpios ≡ true → inOneWindow (allOf dataGpios selectGpios qualifiers) ≡ true
       → verdictOf multi qualifiers dataGpios selectGpios ≡ Fits (scoreOf selectGpios qualifiers (allOf dataGpios selectGpios qualifiers))
   unfolding verdictOf
   fits-given p q r = rw (p, q, r)
 
-  pub outside-given : gapless dataGpios ≡ true → selectable multi selectGpios ≡ true → inWindow (allOf dataGpios selectGpios qualifiers) ≡ false
+  pub outside-given : gapless dataGpios ≡ true → selectable multi selectGpios ≡ true → inOneWindow (allOf dataGpios selectGpios qualifiers) ≡ false
       → verdictOf multi qualifiers dataGpios selectGpios ≡ OutsideWindow
   unfolding verdictOf
   outside-given p q r = rw (p, q, r)

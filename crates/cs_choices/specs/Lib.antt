@@ -1,5 +1,4 @@
 pub mod Verdict
 pub mod Sets
-pub mod Parts
 pub mod Nothing
-pub mod Seen
+pub mod design

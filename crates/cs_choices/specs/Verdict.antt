@@ -24,8 +24,8 @@ abbrev pub baseOf : ℕ → ℕ
 baseOf all = baseOver (lowest all)
 
 -- 01 cs_data_layout 3: the window from the base on reaches the highest GPIO that it has to hold
-abbrev pub inWindow : ℕ → Bool
-inWindow all = fits (baseOf all) (end all - baseOf all)
+abbrev pub inOneWindow : ℕ → Bool
+inOneWindow all = fits (baseOf all) (end all - baseOf all)
 
 -- 01 alg_preference 1: a choice is with qualifiers if there is a qualifier GPIO, and with an ignore index if its select GPIOs
 -- have a gap
@@ -43,13 +43,13 @@ unfoldable pub verdictOf : Bool → ℕ → ℕ → ℕ → Verdict
 verdictOf multi qualifiers dataGpios selectGpios =
     cond (gapless dataGpios)
     (cond (selectable multi selectGpios)
-    (cond (inWindow (allOf dataGpios selectGpios qualifiers)) (Fits (scoreOf selectGpios qualifiers (allOf dataGpios selectGpios qualifiers))) OutsideWindow)
+    (cond (inOneWindow (allOf dataGpios selectGpios qualifiers)) (Fits (scoreOf selectGpios qualifiers (allOf dataGpios selectGpios qualifiers))) OutsideWindow)
     (SelectGap selectGpios))
     DataGap
 
 -- a choice by its verdict
-abbrev pub trialOf : Verdict → Trial
-trialOf DataGap = Misfit
-trialOf (SelectGap s) = Misfit
-trialOf OutsideWindow = Misfit
-trialOf (Fits score) = Score score
+abbrev pub verdictTrial : Verdict → Trial
+verdictTrial DataGap = Misfit
+verdictTrial (SelectGap s) = Misfit
+verdictTrial OutsideWindow = Misfit
+verdictTrial (Fits score) = Score score

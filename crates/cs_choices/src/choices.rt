@@ -18,10 +18,11 @@ ghost use Rattle.gpio.specs.Set.{with};
 ghost use Rattle.lists.specs.Tab.{tab};
 ghost use Rattle.listing.specs.Choice.{GpiosIn};
 ghost use Rattle.listing.specs.Listing.{listOf};
-ghost use Rattle.search.specs.Search.{best, bestOnward};
-ghost use Rattle.cs_choices.specs.Verdict.{trialOf};
+ghost use Rattle.search.specs.Search.{best};
+ghost use Rattle.search.specs.design.Rows.{bestOnward};
+ghost use Rattle.cs_choices.specs.Verdict.{verdictTrial};
 ghost use Rattle.cs_choices.specs.Sets.{verdictOn};
-ghost use Rattle.cs_choices.specs.Parts.{partAt, partsOf, setsOf, noSets, inRow};
+ghost use Rattle.cs_choices.specs.design.Parts.{setPartAt, partsOf, setsOf, noSets, inRow};
 
 // The GPIOs of a choice, or of a part of its number.
 pub struct Sets {
@@ -47,7 +48,7 @@ fn with_if(s: u64, wanted: bool, g: u8) -> u64
 // The GPIOs of the pins from `from` up to `to` that one part of the choice number serves.
 fn part(l: Listing, from: usize, to: usize, low: bool, split: u32, choice: u32) -> u64
     requires { ⌜ (to ≤ l .count) × (l .count ≤ 30) × GpiosIn (listOf l) ⌝ }
-    ensures { λ r. ⌜ r ≡ partAt (listOf l) from low split choice to ⌝ }
+    ensures { λ r. ⌜ r ≡ setPartAt (listOf l) from low split choice to ⌝ }
 {
     let mut s: u64 = 0;
     let mut rest = choice;
@@ -101,7 +102,7 @@ pub fn whole(l: Listing, fixed: Fixed, choice: u32) -> Sets
 }
 
 fn trial(v: Verdict) -> Trial
-    ensures { λ r. ⌜ r ≡ trialOf v ⌝ }
+    ensures { λ r. ⌜ r ≡ verdictTrial v ⌝ }
 {
     match v {
         Verdict::DataGap => Trial::Misfit,
@@ -140,7 +141,7 @@ fn best_in_row(
     len: u32,
 ) -> Found
     requires { ⌜ (len ≤ 64) × (first + len ≤ 65536) ⌝ }
-    ensures { λ r. ⌜ r ≡ bestOnward before (λ q. trialOf (inRow fixed (getD lows q noSets) high)) first len ⌝ }
+    ensures { λ r. ⌜ r ≡ bestOnward before (λ q. verdictTrial (inRow fixed (getD lows q noSets) high)) first len ⌝ }
 {
     let mut found = before;
     let mut q: u32 = 0;
@@ -155,7 +156,7 @@ fn best_in_row(
 // The best of the choices that `bits` two-candidate pins leave.
 pub fn best(l: Listing, fixed: Fixed, bits: u32) -> Found
     requires { ⌜ (fixed .«num_data» ≤ l .count) × (l .count ≤ 30) × GpiosIn (listOf l) × (bits ≤ 16) ⌝ }
-    ensures { λ r. ⌜ r ≡ best (λ c. trialOf (verdictOn (listOf l) fixed c)) (2 ^ bits) ⌝ }
+    ensures { λ r. ⌜ r ≡ best (λ c. verdictTrial (verdictOn (listOf l) fixed c)) (2 ^ bits) ⌝ }
 {
     let split = row_bits(bits);
     let lows = low_parts(l, fixed.num_data, split);

@@ -20,9 +20,9 @@ ghost use lib.ListN.{getD};
 ghost use Rattle.listing.specs.Choice.{GpiosIn};
 ghost use Rattle.listing.specs.Listing.{listOf};
 ghost use Rattle.cs_choices.specs.Sets.{verdictOn};
-ghost use Rattle.cs_choices.specs.Parts.{noSets, inRow};
+ghost use Rattle.cs_choices.specs.design.Parts.{noSets, inRow};
 ghost use Rattle.cs_choices.specs.Nothing.{interiorIn, nothingFits};
-ghost use Rattle.cs_choices.specs.Seen.{orSet, interiorSet, refusedSet, refusedIn, seenWith, seenOnward};
+ghost use Rattle.cs_choices.specs.design.Seen.{orSet, interiorSet, refusedSet, refusedIn, seenWith, seenOnward};
 
 // What the choices passed show: the ignored GPIOs of the first refused gap that has some, and the last refused set, 0 where
 // there is none. Numbers, since copying the answer's enums at each choice takes longer than judging it.

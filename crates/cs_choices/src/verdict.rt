@@ -8,7 +8,7 @@ use gpio::set::width;
 use gpio::window::Window;
 ghost use mathlib.Core.Path.{_≡_};
 ghost use Prim.Native.Nat.{_-_, _≤_};
-ghost use Rattle.cs_choices.specs.Verdict.{selectable, baseOf, inWindow, scoreOf, verdictOf};
+ghost use Rattle.cs_choices.specs.Verdict.{selectable, baseOf, inOneWindow, scoreOf, verdictOf};
 
 // What a choice fails on first, or that it fits.
 pub enum Verdict {
@@ -46,7 +46,7 @@ pub fn above(base: u8, x: u32) -> u32
 }
 
 fn in_window(all: u64) -> bool
-    ensures { λ r. ⌜ r ≡ inWindow all ⌝ }
+    ensures { λ r. ⌜ r ≡ inOneWindow all ⌝ }
 {
     let base = base(all);
     let span = above(base, end(all));

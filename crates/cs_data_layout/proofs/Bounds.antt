@@ -17,16 +17,16 @@ use Rattle.listing.specs.Listing.{twos}
 use Rattle.gpio.specs.Line.{lineGpioIn}
 use Rattle.addr_layout.specs.Layout.{allLines, layoutIn}
 use Rattle.addr_layout.specs.declared.layout.AddrLayout.{AddrLayout}
-use Rattle.cs_pins.specs.Pins.{numbered, inDomain}
+use Rattle.cs_pins.specs.Pins.{numbered, csSearchIn}
 use Rattle.cs_data_layout.specs.Choices.{excessGpio}
 
 module _ (d : Description) where
-  pub described : inDomain d ≡ true → descriptionIn d ≡ true
-  unfolding inDomain
+  pub described : csSearchIn d ≡ true → descriptionIn d ≡ true
+  unfolding csSearchIn
   described e = and-left (descriptionIn d) (leb (twos (numbered d)) 16) e
 
-  pub few-twos : inDomain d ≡ true → twos (numbered d) ≤ 16
-  unfolding inDomain
+  pub few-twos : csSearchIn d ≡ true → twos (numbered d) ≤ 16
+  unfolding csSearchIn
   few-twos e = leb-true (twos (numbered d)) 16 (and-right (descriptionIn d) (leb (twos (numbered d)) 16) e)
 
 -- the lines of a layout that is handed in

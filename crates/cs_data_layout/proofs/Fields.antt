@@ -24,16 +24,16 @@ use Rattle.domain.proofs.Bounds.{chip0-in, data-pins, commoned-lines}
 use Rattle.listing.specs.Choice.{CandidateOf, pinAt, gpioAt}
 use Rattle.listing.specs.declared.Listed.{Listed}
 use Rattle.listing.proofs.InDomain.{gpio-in}
-use Rattle.cs_pins.specs.Pins.{kindListed, multiCommoned, commonedListed, numbered, inDomain}
+use Rattle.cs_pins.specs.Pins.{kindListed, multiCommoned, commonedListed, numbered, csSearchIn}
 use Rattle.cs_pins.specs.Roles.{selectRoles}
 use Rattle.cs_pins.proofs.InDomain.{numbered-in}
 use Rattle.cs_pins.proofs.Counts.{few-roles, numbered-length, data-pin, select-pin, kind-on}
 use Rattle.cs_choices.specs.Sets.{dataSet}
-use Rattle.cs_choices.specs.Verdict.{baseOf, inWindow}
+use Rattle.cs_choices.specs.Verdict.{baseOf, inOneWindow}
 use Rattle.cs_data_layout.specs.Layout.{line, handed}
-use Rattle.cs_data_layout.specs.Choices.{numData, numCommoned, excessGpio, excessSet, qualifierSet, selectLine, commonedLine, layoutOf}
+use Rattle.cs_data_layout.specs.Choices.{numData, numCommoned, excessGpio, excessSet, qualifierSet, selectLine, commonedLine, csDataLayoutOf}
 use Rattle.cs_data_layout.specs.Search.{givenIn}
-use Rattle.cs_data_layout.specs.Law.{PastTests, selectsAt, allAt, dataGpio, selectGpio, commonedGpio, SoundLayout}
+use Rattle.cs_data_layout.specs.Law.{PastTests, selectSetAt, allAt, dataGpio, selectGpio, commonedGpio, SoundLayout}
 use Rattle.cs_data_layout.specs.declared.layout.GivenLayout.{GivenLayout}
 use Rattle.cs_data_layout.specs.declared.layout.SelectLine.{SelectLine}
 use Rattle.cs_data_layout.specs.declared.layout.CsDataLayout.{CsDataLayout}
@@ -46,7 +46,7 @@ base-over x true e = (inl refl, omega arith)
 base-over x false e = (inr refl, ltb-false x 16 e)
 
 -- a GPIO of a set that is in one window
-in-window : (all g : ℕ) → all < 2 ^ 64 → inWindow all ≡ true → held all g ≡ 1 → (baseOf all ≤ g) × (g < baseOf all + 32)
+in-window : (all g : ℕ) → all < 2 ^ 64 → inOneWindow all ≡ true → held all g ≡ 1 → (baseOf all ≤ g) × (g < baseOf all + 32)
 in-window all g l w h =
     let low = held-low all g h in
     let high = held-high all g l h in
@@ -79,13 +79,13 @@ module _ (d : Description) (a : GivenLayout) (past : PastTests d a) (c : ℕ) wh
   roles = length (selectRoles d)
 
   abbrev laid : CsDataLayout
-  laid = layoutOf d (handed a) (numbered d) c
+  laid = csDataLayoutOf d (handed a) (numbered d) c
 
   in-domain : descriptionIn d ≡ true
-  in-domain = described d (and-left (inDomain d) (givenIn d a) (past .domain))
+  in-domain = described d (and-left (csSearchIn d) (givenIn d a) (past .domain))
 
   given-in : givenIn d a ≡ true
-  given-in = and-right (inDomain d) (givenIn d a) (past .domain)
+  given-in = and-right (csSearchIn d) (givenIn d a) (past .domain)
 
   -- each GPIO is the RP2350's, so that the sets have 64 bits
   gpio-most : (k : ℕ) → gpio k ≤ 47
@@ -104,16 +104,16 @@ module _ (d : Description) (a : GivenLayout) (past : PastTests d a) (c : ℕ) wh
   data-held : (k : ℕ) → k < numData d → held (allAt d a c) (gpio k) ≡ 1
   data-held k l =
       let ds = dataSet pins (numData d) c in
-      held-left (bitOr ds (selectsAt d a c)) (qualifierSet d (handed a)) (gpio k) (held-left ds (selectsAt d a c) (gpio k) (set-held (numData d) gpio k l))
+      held-left (bitOr ds (selectSetAt d a c)) (qualifierSet d (handed a)) (gpio k) (held-left ds (selectSetAt d a c) (gpio k) (set-held (numData d) gpio k l))
 
   -- the select, excess and commoned GPIOs
   abbrev behind : ℕ
   behind = setOf (length pins - numData d) (λ k. gpio (numData d + k))
 
-  select-all : (g : ℕ) → held (selectsAt d a c) g ≡ 1 → held (allAt d a c) g ≡ 1
+  select-all : (g : ℕ) → held (selectSetAt d a c) g ≡ 1 → held (allAt d a c) g ≡ 1
   select-all g h =
       let ds = dataSet pins (numData d) c in
-      held-left (bitOr ds (selectsAt d a c)) (qualifierSet d (handed a)) g (held-right ds (selectsAt d a c) g h)
+      held-left (bitOr ds (selectSetAt d a c)) (qualifierSet d (handed a)) g (held-right ds (selectSetAt d a c) g h)
 
   pin-held : (k : ℕ) → k < length pins - numData d → held (allAt d a c) (gpio (numData d + k)) ≡ 1
   pin-held k l =
@@ -176,9 +176,9 @@ module _ (d : Description) (a : GivenLayout) (past : PastTests d a) (c : ℕ) wh
   data-base =
       let ds = dataSet pins (numData d) c in
       let base = base-over (lowest (allAt d a c)) (ltb (lowest (allAt d a c)) 16) refl .1 in
-      omega (arith, base, lowest-or (bitOr ds (selectsAt d a c)) (qualifierSet d (handed a)), lowest-or ds (selectsAt d a c))
+      omega (arith, base, lowest-or (bitOr ds (selectSetAt d a c)) (qualifierSet d (handed a)), lowest-or ds (selectSetAt d a c))
 
-  module _ (window : inWindow (allAt d a c) ≡ true) (no-gap : gapless (dataSet pins (numData d) c) ≡ true)
+  module _ (window : inOneWindow (allAt d a c) ≡ true) (no-gap : gapless (dataSet pins (numData d) c) ≡ true)
       (candidate : (k : ℕ) → k < length pins → CandidateOf (pinAt pins k) (gpio k)) where
     -- in Multi the first select GPIO is that of the select's pin
     select-first : isMulti (d .«set_type») ≡ true → CandidateOf (kindListed d (d .multi .select) .gpios) (selectGpio laid 0)

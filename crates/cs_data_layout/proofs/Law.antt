@@ -20,14 +20,14 @@ use Rattle.search.specs.declared.Found.the-variants.{Nothing, At}
 use Rattle.search.proofs.Law.{best-right}
 use Rattle.cs_pins.specs.Pins.{numbered}
 use Rattle.cs_choices.specs.Sets.{dataSet}
-use Rattle.cs_choices.specs.Verdict.{trialOf}
+use Rattle.cs_choices.specs.Verdict.{verdictTrial}
 use Rattle.cs_choices.specs.Nothing.{interior, lastRefused}
 use Rattle.cs_choices.specs.declared.verdict.Verdict.{Verdict}
 use Rattle.cs_choices.specs.declared.verdict.Verdict.the-variants.{DataGap, SelectGap, OutsideWindow, Fits}
-use Rattle.cs_data_layout.specs.Layout.{refusedFor, handed}
+use Rattle.cs_data_layout.specs.Layout.{csDataRefused, handed}
 use Rattle.cs_data_layout.specs.Choices.{numData, qualifierSet, ignoredSet}
-use Rattle.cs_data_layout.specs.Search.{csBest, orNoLayout, noneFits, answerOf, csDataAnswer}
-use Rattle.cs_data_layout.specs.Law.{PastTests, choices, verdictAt, LaidOutBest, NoneFits, selectsAt, preferenceAt, allAt, totalSpan, NoWorse, BestOrdered, seenIn, Sees, FirstSeen, LastRefused, NoneSeen, NoneRefused, WhyNone, eight, seven, nine}
+use Rattle.cs_data_layout.specs.Search.{csBest, orNoLayout, noneFits, csDataAnswerOf, csDataAnswer}
+use Rattle.cs_data_layout.specs.Law.{PastTests, choices, verdictAt, LaidOutBest, NoneFits, selectSetAt, preferenceAt, allAt, totalSpan, NoWorse, BestOrdered, seenIn, Sees, FirstSeen, LastRefused, NoneSeen, NoneRefused, WhyNone, eight, seven, nine}
 use Rattle.cs_data_layout.specs.declared.layout.GivenLayout.{GivenLayout}
 use Rattle.cs_data_layout.specs.declared.layout.CsDataOutcome.the-variants.{LaidOut, Refused}
 use Rattle.cs_data_layout.specs.declared.layout.CsDataAnswer.{CsDataAnswer}
@@ -35,10 +35,10 @@ use Rattle.cs_data_layout.proofs.Scores.{fits-only, width-most, score-o
 use Rattle.cs_data_layout.proofs.Why.{first-is, FirstIs, last-is, LastIs}
 
 -- a choice has a score exactly if it fits
-fits-scores : (v : Verdict) (t : ℕ) → v ≡ Fits t → trialOf v ≡ Score t
+fits-scores : (v : Verdict) (t : ℕ) → v ≡ Fits t → verdictTrial v ≡ Score t
 fits-scores v t e = rw e
 
-pub scores-fit : (v : Verdict) (t : ℕ) → trialOf v ≡ Score t → v ≡ Fits t
+pub scores-fit : (v : Verdict) (t : ℕ) → verdictTrial v ≡ Score t → v ≡ Fits t
 scores-fit DataGap t e = let z : _≡_ {A = ℕ} 0 1 = cc in absurd (omega arith)
 scores-fit (SelectGap s) t e = let z : _≡_ {A = ℕ} 0 1 = cc in absurd (omega arith)
 scores-fit OutsideWindow t e = let z : _≡_ {A = ℕ} 0 1 = cc in absurd (omega arith)
@@ -47,16 +47,16 @@ scores-fit (Fits s) t e = cc
 laid-not-refused : (r : Refusal) → LaidOut ≡ Refused r → ⊥
 laid-not-refused r e = let z : _≡_ {A = ℕ} 0 1 = cc in omega arith
 
-same-refusal : (r w : Refusal) → refusedFor r ≡ refusedFor w → r ≡ w
+same-refusal : (r w : Refusal) → csDataRefused r ≡ csDataRefused w → r ≡ w
 same-refusal r w e = let o : Refused r ≡ Refused w = ap (λ (x : CsDataAnswer). x .outcome) e in cc
 
 module _ (d : Description) (a : GivenLayout) where
   abbrev trials : ℕ → Trial
-  trials c = trialOf (verdictAt d a c)
+  trials c = verdictTrial (verdictAt d a c)
 
   -- the first of the two faults, else 9
   why-first : (f : FirstFault) → FirstIs (verdictAt d a) (ignoredSet d) (choices d) f → (g : FirstFault) → LastIs (verdictAt d a) (choices d) g
-      → (why : Refusal) × (orNoLayout (orElse f g) ≡ refusedFor why) × WhyNone d a why
+      → (why : Refusal) × (orNoLayout (orElse f g) ≡ csDataRefused why) × WhyNone d a why
   why-first (Of r) (c, s, l, e, some, before, q) g last = (
     r,
     refl,
@@ -71,7 +71,7 @@ module _ (d : Description) (a : GivenLayout) where
   why-first None none None last = (NoValidLayout, refl, nine last refl)
 
   -- what `noneFits` answers, and why
-  pub why-none : (why : Refusal) × (noneFits d (handed a) ≡ refusedFor why) × WhyNone d a why
+  pub why-none : (why : Refusal) × (noneFits d (handed a) ≡ csDataRefused why) × WhyNone d a why
   unfolding noneFits
   why-none =
       why-first (interior (ignoredSet d) (verdictAt d a) (choices d)) (first-is (verdictAt d a) (ignoredSet d) (choices d))
@@ -83,7 +83,7 @@ module _ (d : Description) (a : GivenLayout) where
 
   -- the score of a choice that fits
   scored : (c s : ℕ) → verdictAt d a c ≡ Fits s → s ≡ preferenceAt d a c * 1000 + totalSpan d a c
-  scored c s e = fits-only (isMulti (d .«set_type»)) (qualifierSet d (handed a)) (dataSet (numbered d) (numData d) c) (selectsAt d a c) s e .3
+  scored c s e = fits-only (isMulti (d .«set_type»)) (qualifierSet d (handed a)) (dataSet (numbered d) (numData d) c) (selectSetAt d a c) s e .3
 
   narrow : (c : ℕ) → totalSpan d a c < 1000
   narrow c = omega (arith, width-most (allAt d a c))
@@ -108,15 +108,15 @@ module _ (d : Description) (a : GivenLayout) where
       }
 
   module _ (past : PastTests d a) where
-    searched : csDataAnswer d a ≡ answerOf d (handed a) (csBest d (handed a))
+    searched : csDataAnswer d a ≡ csDataAnswerOf d (handed a) (csBest d (handed a))
     searched = rw (past .domain, past .no-fault)
 
     right : (f : Found) → best trials (choices d) ≡ f → Right trials (choices d) f
     right f e = rw e at (best-right trials (choices d))
 
-    answers : (f : Found) → best trials (choices d) ≡ f → csDataAnswer d a ≡ answerOf d (handed a) f
+    answers : (f : Found) → best trials (choices d) ≡ f → csDataAnswer d a ≡ csDataAnswerOf d (handed a) f
     unfolding csBest
-    answers f e = searched ∙ ap (answerOf d (handed a)) e
+    answers f e = searched ∙ ap (csDataAnswerOf d (handed a)) e
 
     laid : (c s : ℕ) → best trials (choices d) ≡ At c s → LaidOutBest d a c s
     laid c s e = record { answer = answers (At c s) e; best = right (At c s) e }
@@ -146,7 +146,7 @@ module _ (d : Description) (a : GivenLayout) where
         by (At c s) e = (c, s, laid c s e)
 
     -- and a refusal is given only where none fits, for 01's reason
-    pub refused-why : (r : Refusal) → csDataAnswer d a ≡ refusedFor r → NoneFits d a × WhyNone d a r
+    pub refused-why : (r : Refusal) → csDataAnswer d a ≡ csDataRefused r → NoneFits d a × WhyNone d a r
     refused-why r e = by (best trials (choices d)) refl
       where
         by : (f : Found) → best trials (choices d) ≡ f → NoneFits d a × WhyNone d a r
@@ -157,7 +157,7 @@ module _ (d : Description) (a : GivenLayout) where
         by (At c s) q = absurd (laid-not-refused r (ap (λ (x : CsDataAnswer). x .outcome) (sym (answers (At c s) q) ∙ e)))
 
     -- 8: the first choice that sees an ignored GPIO, and the lowest that it sees
-    pub eight-first : (g : ℕ) → csDataAnswer d a ≡ refusedFor (InteriorIgnoredLine g)
+    pub eight-first : (g : ℕ) → csDataAnswer d a ≡ csDataRefused (InteriorIgnoredLine g)
         → (c : ℕ) × (s : ℕ) × FirstSeen d a c s × (g ≡ lowest (seenIn d s))
     eight-first g e = by (refused-why (InteriorIgnoredLine g) e .1)
       where
@@ -167,7 +167,7 @@ module _ (d : Description) (a : GivenLayout) where
         by (nine n q) = let z : _≡_ {A = ℕ} 0 1 = cc in absurd (omega arith)
 
     -- 7: no choice sees one, and the last refused set
-    pub seven-last : (set : GpioSet) → csDataAnswer d a ≡ refusedFor (NonContiguousSelect set)
+    pub seven-last : (set : GpioSet) → csDataAnswer d a ≡ csDataRefused (NonContiguousSelect set)
         → NoneSeen d a × ((c : ℕ) × LastRefused d a c (set .bits))
     seven-last set e = by (refused-why (NonContiguousSelect set) e .1)
       where
@@ -177,7 +177,7 @@ module _ (d : Description) (a : GivenLayout) where
         by (nine n q) = let z : _≡_ {A = ℕ} 0 1 = cc in absurd (omega arith)
 
     -- 9: no choice's set is refused
-    pub nine-rest : csDataAnswer d a ≡ refusedFor NoValidLayout → NoneRefused d a
+    pub nine-rest : csDataAnswer d a ≡ csDataRefused NoValidLayout → NoneRefused d a
     nine-rest e = by (refused-why NoValidLayout e .1)
       where
         by : WhyNone d a NoValidLayout → NoneRefused d a
@@ -187,27 +187,27 @@ module _ (d : Description) (a : GivenLayout) where
 
     -- and the other way: where none fits, 8 if some choice sees an ignored GPIO, else 7 if some set is refused, else 9
     module _ (none : NoneFits d a) where
-      pub seen-eight : (j t : ℕ) → j < choices d → Sees d a j t → (g : ℕ) × (csDataAnswer d a ≡ refusedFor (InteriorIgnoredLine g))
+      pub seen-eight : (j t : ℕ) → j < choices d → Sees d a j t → (g : ℕ) × (csDataAnswer d a ≡ csDataRefused (InteriorIgnoredLine g))
       seen-eight j t l h = let (why, e, w) = why-none in by why (none-fits none ∙ e) w
         where
-          by : (why : Refusal) → csDataAnswer d a ≡ refusedFor why → WhyNone d a why → (g : ℕ) × (csDataAnswer d a ≡ refusedFor (InteriorIgnoredLine g))
+          by : (why : Refusal) → csDataAnswer d a ≡ csDataRefused why → WhyNone d a why → (g : ℕ) × (csDataAnswer d a ≡ csDataRefused (InteriorIgnoredLine g))
           by why e (eight c s f q) = (lowest (seenIn d s), rw q at e)
           by why e (seven c s n f q) = absurd (n j t l h)
           by why e (nine n q) = absurd (n j t l (h .refused))
 
       pub refused-seven : NoneSeen d a → (j t : ℕ) → j < choices d → verdictAt d a j ≡ SelectGap t
-          → (set : GpioSet) × (csDataAnswer d a ≡ refusedFor (NonContiguousSelect set))
+          → (set : GpioSet) × (csDataAnswer d a ≡ csDataRefused (NonContiguousSelect set))
       refused-seven unseen j t l h = let (why, e, w) = why-none in by why (none-fits none ∙ e) w
         where
-          by : (why : Refusal) → csDataAnswer d a ≡ refusedFor why → WhyNone d a why → (set : GpioSet) × (csDataAnswer d a ≡ refusedFor (NonContiguousSelect set))
+          by : (why : Refusal) → csDataAnswer d a ≡ csDataRefused why → WhyNone d a why → (set : GpioSet) × (csDataAnswer d a ≡ csDataRefused (NonContiguousSelect set))
           by why e (eight c s f q) = absurd (unseen c s (f .within) (f .sees))
           by why e (seven c s n f q) = (record { bits = s }, rw q at e)
           by why e (nine n q) = absurd (n j t l h)
 
-      pub rest-nine : NoneRefused d a → csDataAnswer d a ≡ refusedFor NoValidLayout
+      pub rest-nine : NoneRefused d a → csDataAnswer d a ≡ csDataRefused NoValidLayout
       rest-nine rest = let (why, e, w) = why-none in by why (none-fits none ∙ e) w
         where
-          by : (why : Refusal) → csDataAnswer d a ≡ refusedFor why → WhyNone d a why → csDataAnswer d a ≡ refusedFor NoValidLayout
+          by : (why : Refusal) → csDataAnswer d a ≡ csDataRefused why → WhyNone d a why → csDataAnswer d a ≡ csDataRefused NoValidLayout
           by why e (eight c s f q) = absurd (rest c s (f .within) (f .sees .refused))
           by why e (seven c s n f q) = absurd (rest c s (f .within) (f .refused))
           by why e (nine n q) = rw q at e

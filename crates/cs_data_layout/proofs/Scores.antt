@@ -6,7 +6,7 @@ use Prim.Native.Nat.{ℕ, _+_, _*_, _≤_, _<_}
 use native.Mathlib.Nat.{eq-or-lt-of-le}
 use native.Mathlib.Omega.{arith}
 use Rattle.gpio.specs.Set.{width, gapless}
-use Rattle.cs_choices.specs.Verdict.{selectable, allOf, inWindow, scoreOf, verdictOf}
+use Rattle.cs_choices.specs.Verdict.{selectable, allOf, inOneWindow, scoreOf, verdictOf}
 use Rattle.cs_choices.specs.declared.verdict.Verdict.the-variants.{DataGap, SelectGap, OutsideWindow, Fits}
 
 -- a choice that fits is past each test, and has its score
@@ -18,12 +18,12 @@ judged true false z s t u e = let z : _≡_ {A = ℕ} 0 1 = cc in absurd (omega 
 judged false y z s t u e = let z : _≡_ {A = ℕ} 0 1 = cc in absurd (omega arith)
 
 pub fits-only : (multi : Bool) (qualifiers dataGpios selectGpios score : ℕ) → verdictOf multi qualifiers dataGpios selectGpios ≡ Fits score
-    → (gapless dataGpios ≡ true) × (selectable multi selectGpios ≡ true) × (inWindow (allOf dataGpios selectGpios qualifiers) ≡ true)
+    → (gapless dataGpios ≡ true) × (selectable multi selectGpios ≡ true) × (inOneWindow (allOf dataGpios selectGpios qualifiers) ≡ true)
     × (score ≡ scoreOf selectGpios qualifiers (allOf dataGpios selectGpios qualifiers))
 unfolding verdictOf
 fits-only multi qualifiers dataGpios selectGpios score e =
     let all = allOf dataGpios selectGpios qualifiers in
-    judged (gapless dataGpios) (selectable multi selectGpios) (inWindow all) (scoreOf selectGpios qualifiers all) score selectGpios e
+    judged (gapless dataGpios) (selectable multi selectGpios) (inOneWindow all) (scoreOf selectGpios qualifiers all) score selectGpios e
 
 -- no set of GPIOs is wider than 64
 pub width-most : (s : ℕ) → width s ≤ 64

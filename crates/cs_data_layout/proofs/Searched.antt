@@ -26,7 +26,7 @@ use Rattle.addr_layout.specs.Layout.{noLayout, layoutIn}
 use Rattle.addr_layout.specs.declared.layout.AddrLayout.{AddrLayout}
 use Rattle.cs_pins.specs.Pins.{dataListed, numbered}
 use Rattle.cs_choices.specs.Sets.{verdictOn}
-use Rattle.cs_choices.specs.Verdict.{trialOf}
+use Rattle.cs_choices.specs.Verdict.{verdictTrial}
 use Rattle.cs_choices.specs.Nothing.{nothingFits}
 use Rattle.cs_choices.specs.declared.choices.Fixed.{Fixed}
 use Rattle.cs_data_layout.specs.Layout.{handed}
@@ -41,7 +41,7 @@ unfolding numbered dataListed
 data-numbered d = simp (length-append, tab-length) (omega arith)
 
 module _ (d : Description) (h : AddrLayout) (ls : List Listed) (f : Fixed) (bits : ℕ) (el : ls ≡ numbered d) (ef : f ≡ fixedOf d h) (eb : bits ≡ twos ls) where
-  pub best-is : (r : Found) → r ≡ best (λ c. trialOf (verdictOn ls f c)) (2 ^ bits) → r ≡ csBest d h
+  pub best-is : (r : Found) → r ≡ best (λ c. verdictTrial (verdictOn ls f c)) (2 ^ bits) → r ≡ csBest d h
   unfolding csBest
   best-is r e = rw (e, eb, el, ef)
 

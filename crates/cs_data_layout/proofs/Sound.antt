@@ -20,8 +20,8 @@ use Rattle.cs_choices.specs.Sets.{dataSet}
 use Rattle.cs_choices.specs.declared.verdict.Verdict.the-variants.{Fits}
 use Rattle.cs_data_layout.specs.Layout.{handed}
 use Rattle.cs_data_layout.specs.Choices.{numData, qualifierSet}
-use Rattle.cs_data_layout.specs.Search.{missingLayout, tooLarge, earlier}
-use Rattle.cs_data_layout.specs.Law.{PastTests, verdictAt, selectsAt, Sound}
+use Rattle.cs_data_layout.specs.Search.{missingLayout, romTooLarge, earlier}
+use Rattle.cs_data_layout.specs.Law.{PastTests, verdictAt, selectSetAt, Sound}
 use Rattle.cs_data_layout.specs.declared.layout.GivenLayout.{GivenLayout}
 use Rattle.cs_data_layout.proofs.Scores.{fits-only}
 use Rattle.cs_data_layout.proofs.Fields.{sound-layout}
@@ -55,7 +55,7 @@ module _ (d : Description) where
   numbered-none : (a : GivenLayout) → earlier d a ≡ None → firstFault (numbered d) ≡ None
   unfolding earlier numbered
   numbered-none a e =
-      let (ds, cs) = or-none (firstFault (dataListed d)) _ (or-none (tooLarge d (handed a)) _ (or-none (missingLayout d a) _ e .1) .1) in
+      let (ds, cs) = or-none (firstFault (dataListed d)) _ (or-none (romTooLarge d (handed a)) _ (or-none (missingLayout d a) _ e .1) .1) in
       let (s, c) = select-none (isMulti (d .«set_type»)) refl cs in
       none-append (dataListed d ++ selectListed d) (commonedListed d) (none-append (dataListed d) (selectListed d) ds s) c
 
@@ -63,7 +63,7 @@ module _ (d : Description) where
 pub sound : (d : Description) (a : GivenLayout) → PastTests d a → (c s : ℕ) → verdictAt d a c ≡ Fits s → Sound d a c
 sound d a past c s e =
     let ls = numbered d in
-    let (gapless, gap, window, score) = fits-only (isMulti (d .«set_type»)) (qualifierSet d (handed a)) (dataSet ls (numData d) c) (selectsAt d a c) s e in
+    let (gapless, gap, window, score) = fits-only (isMulti (d .«set_type»)) (qualifierSet d (handed a)) (dataSet ls (numData d) c) (selectSetAt d a c) s e in
     let candidate : (k : ℕ) → k < length ls → CandidateOf (pinAt ls k) (gpioAt ls c k) = λ k l. candidate-at ls c k (no-fault-at ls (numbered-none d a (past .no-fault)) k l) in
     record {
       data-gapless = gapless;

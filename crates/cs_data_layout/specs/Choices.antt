@@ -87,8 +87,8 @@ commonedLine d gpio k = cond (ltb k (numCommoned d)) (line (getD (d .multi .comm
 -- the layout of numbered pins resolved to GPIOs
 -- 01 cs_data_layout 6: the base pins of data and select are their lowest GPIOs counted from the base, the select count is the span
 -- of the select GPIOs, and there are as many data lines as the chip has data pins
-abbrev pub layoutFrom : Description → AddrLayout → (ℕ → ℕ) → ℕ → ℕ → ℕ → CsDataLayout
-layoutFrom d h gpio dataGpios selectGpios base = record {
+abbrev pub csDataLayoutFrom : Description → AddrLayout → (ℕ → ℕ) → ℕ → ℕ → ℕ → CsDataLayout
+csDataLayoutFrom d h gpio dataGpios selectGpios base = record {
   «gpio_base» = base;
   «base_data_pin» = lowest dataGpios - base;
   «num_data_pins» = numData d;
@@ -104,10 +104,10 @@ layoutFrom d h gpio dataGpios selectGpios base = record {
 }
 
 -- 01 cs_data_layout 3: the layout that choice c makes has the base of the window that holds all its GPIOs
-abbrev pub layoutOf : Description → AddrLayout → List Listed → ℕ → CsDataLayout
+abbrev pub csDataLayoutOf : Description → AddrLayout → List Listed → ℕ → CsDataLayout
 -- 01 cs_data_layout 3: the layout that choice c makes has the base of the window that holds all its GPIOs
-layoutOf d h ls c =
-    layoutFrom d h (λ k. gpioAt ls c k) (dataSet ls (numData d) c) (selectSet ls (numData d) (excessSet h) c)
+csDataLayoutOf d h ls c =
+    csDataLayoutFrom d h (λ k. gpioAt ls c k) (dataSet ls (numData d) c) (selectSet ls (numData d) (excessSet h) c)
     (baseOf (allOf (dataSet ls (numData d) c) (selectSet ls (numData d) (excessSet h) c) (qualifierSet d h)))
 
 -- 01 cs_data_layout 8: of an ignored line both candidates count, where it has two

@@ -15,13 +15,13 @@ use Rattle.listing.specs.Lines.{kindPin, pinCandidates}
 use Rattle.listing.specs.Choice.{CandidateOf, pinAt, gpioAt}
 use Rattle.refusal.specs.declared.first.FirstFault.the-variants.{None}
 use Rattle.search.specs.Law.{Best}
-use Rattle.cs_pins.specs.Pins.{numbered, inDomain}
+use Rattle.cs_pins.specs.Pins.{numbered, csSearchIn}
 use Rattle.cs_choices.specs.Sets.{dataSet, selectSet}
-use Rattle.cs_choices.specs.Verdict.{selectable, allOf, inWindow, preferenceBy, trialOf}
+use Rattle.cs_choices.specs.Verdict.{selectable, allOf, inOneWindow, preferenceBy, verdictTrial}
 use Rattle.cs_choices.specs.declared.verdict.Verdict.{Verdict}
 use Rattle.cs_choices.specs.declared.verdict.Verdict.the-variants.{SelectGap, Fits}
 use Rattle.cs_data_layout.specs.Layout.{line, handed}
-use Rattle.cs_data_layout.specs.Choices.{numData, excessSet, qualifierSet, csVerdict, layoutOf, ignoredSet}
+use Rattle.cs_data_layout.specs.Choices.{numData, excessSet, qualifierSet, csVerdict, csDataLayoutOf, ignoredSet}
 use Rattle.cs_data_layout.specs.Search.{givenIn, earlier, csDataAnswer}
 use Rattle.cs_data_layout.specs.declared.layout.GivenLayout.{GivenLayout}
 use Rattle.cs_data_layout.specs.declared.layout.CsDataLayout.{CsDataLayout}
@@ -29,7 +29,7 @@ use Rattle.cs_data_layout.specs.declared.layout.CsDataOutcome.the-varian
 
 -- 00 Demand 2: the tests before the search are past: what is handed in is in the domain, and none of the other tests refuses it
 pub record PastTests (d : Description) (a : GivenLayout) : Type 0 where
-  pub domain : inDomain d && givenIn d a ≡ true
+  pub domain : csSearchIn d && givenIn d a ≡ true
   pub no-fault : earlier d a ≡ None
 
 -- how many choices there are, and what choice c comes to
@@ -42,23 +42,23 @@ verdictAt d a c = csVerdict d (handed a) c
 -- 00 Demand 2: the layout found is that of choice c, which fits with score s; no fitting choice scores lower, every earlier one
 -- higher
 pub record LaidOutBest (d : Description) (a : GivenLayout) (c s : ℕ) : Type 0 where
-  pub answer : csDataAnswer d a ≡ record { outcome = LaidOut; layout = layoutOf d (handed a) (numbered d) c }
-  pub best : Best (λ j. trialOf (verdictAt d a j)) (choices d) c s
+  pub answer : csDataAnswer d a ≡ record { outcome = LaidOut; layout = csDataLayoutOf d (handed a) (numbered d) c }
+  pub best : Best (λ j. verdictTrial (verdictAt d a j)) (choices d) c s
 
 -- no choice fits
 abbrev pub NoneFits : Description → GivenLayout → Type 0
 NoneFits d a = (j t : ℕ) → j < choices d → verdictAt d a j ≡ Fits t → ⊥
 
 -- the select, excess and commoned GPIOs of choice c, and all its GPIOs
-abbrev pub selectsAt : Description → GivenLayout → ℕ → ℕ
-selectsAt d a c = selectSet (numbered d) (numData d) (excessSet (handed a)) c
+abbrev pub selectSetAt : Description → GivenLayout → ℕ → ℕ
+selectSetAt d a c = selectSet (numbered d) (numData d) (excessSet (handed a)) c
 
 abbrev pub allAt : Description → GivenLayout → ℕ → ℕ
-allAt d a c = allOf (dataSet (numbered d) (numData d) c) (selectsAt d a c) (qualifierSet d (handed a))
+allAt d a c = allOf (dataSet (numbered d) (numData d) c) (selectSetAt d a c) (qualifierSet d (handed a))
 
 -- 01 cs_data_layout 4: choices are compared by their preference first
 abbrev pub preferenceAt : Description → GivenLayout → ℕ → ℕ
-preferenceAt d a c = preferenceBy (selectsAt d a c) (qualifierSet d (handed a))
+preferenceAt d a c = preferenceBy (selectSetAt d a c) (qualifierSet d (handed a))
 
 -- 01 cs_data_layout 4: choices that are preferred alike are compared by the span of all their GPIOs
 abbrev pub totalSpan : Description → GivenLayout → ℕ → ℕ
@@ -159,10 +159,10 @@ pub record Sound (d : Description) (a : GivenLayout) (c : ℕ) : Type 0 where
   -- 01 cs_data_layout 3: the data GPIOs have no gap
   pub data-gapless : gapless (dataSet (numbered d) (numData d) c) ≡ true
   -- 01 cs_data_layout 3: the select GPIOs have no gap, or the one that is allowed
-  pub select-gap : selectable (isMulti (d .«set_type»)) (selectsAt d a c) ≡ true
+  pub select-gap : selectable (isMulti (d .«set_type»)) (selectSetAt d a c) ≡ true
   -- 01 cs_data_layout 3: one window holds all GPIOs
-  pub window : inWindow (allAt d a c) ≡ true
+  pub window : inOneWindow (allAt d a c) ≡ true
   -- each numbered pin's GPIO is a candidate of its pin
   pub candidate : (k : ℕ) → k < length (numbered d) → CandidateOf (pinAt (numbered d) k) (gpioAt (numbered d) c k)
   -- and the fields of the layout say so
-  pub layout : SoundLayout d c (layoutOf d (handed a) (numbered d) c)
+  pub layout : SoundLayout d c (csDataLayoutOf d (handed a) (numbered d) c)

@@ -37,8 +37,8 @@ noCsDataLayout = record {
   qualifiers = noQualifiers;
 }
 
-abbrev pub refusedFor : Refusal → CsDataAnswer
-refusedFor why = record { outcome = Refused why; layout = noCsDataLayout }
+abbrev pub csDataRefused : Refusal → CsDataAnswer
+csDataRefused why = record { outcome = Refused why; layout = noCsDataLayout }
 
 -- the layout that is handed in; one that is not given has no line
 abbrev pub handed : GivenLayout → AddrLayout

@@ -15,12 +15,12 @@ use Rattle.search.specs.declared.Found.{Found}
 use Rattle.search.specs.declared.Found.the-variants.{Nothing, At}
 use Rattle.addr_layout.specs.Layout.{layoutIn}
 use Rattle.addr_layout.specs.declared.layout.AddrLayout.{AddrLayout}
-use Rattle.cs_pins.specs.Pins.{dataListed, numbered, inDomain}
+use Rattle.cs_pins.specs.Pins.{dataListed, numbered, csSearchIn}
 use Rattle.cs_pins.specs.Checked.{checked}
-use Rattle.cs_data_layout.specs.Layout.{refusedFor, handed}
-use Rattle.cs_choices.specs.Verdict.{trialOf}
+use Rattle.cs_data_layout.specs.Layout.{csDataRefused, handed}
+use Rattle.cs_choices.specs.Verdict.{verdictTrial}
 use Rattle.cs_choices.specs.Nothing.{nothingFits}
-use Rattle.cs_data_layout.specs.Choices.{csVerdict, layoutOf, ignoredSet}
+use Rattle.cs_data_layout.specs.Choices.{csVerdict, csDataLayoutOf, ignoredSet}
 use Rattle.cs_data_layout.specs.declared.layout.GivenLayout.{GivenLayout}
 use Rattle.cs_data_layout.specs.declared.layout.CsDataOutcome.the-variants.{LaidOut}
 use Rattle.cs_data_layout.specs.declared.layout.CsDataAnswer.{CsDataAnswer}
@@ -37,38 +37,38 @@ abbrev pub missingLayout : Description → GivenLayout → FirstFault
 missingLayout d a = cond (not (a .given) && ltb 0 (d .«num_qualifiers»)) (Of MissingAddrPinGpios) None
 
 -- 01 Number 6: the address layout has excess lines, and the setting that is read for cs1 is to ignore it
-abbrev pub tooLarge : Description → AddrLayout → FirstFault
-tooLarge d h = cond (ltb 0 (h .«num_excess») && ignores (d .«cs_config») 2) (Of RomTooLargeNoCsConfig) None
+abbrev pub romTooLarge : Description → AddrLayout → FirstFault
+romTooLarge d h = cond (ltb 0 (h .«num_excess») && ignores (d .«cs_config») 2) (Of RomTooLargeNoCsConfig) None
 
 -- 01 cs_data_layout 1: 5 is tested first, then 6, then the data pins, then the select pins
 unfoldable pub earlier : Description → GivenLayout → FirstFault
 earlier d a =
     orElse (missingLayout d a)
-    (orElse (tooLarge d (handed a)) (orElse (firstFault (dataListed d)) (firstFault (checked d))))
+    (orElse (romTooLarge d (handed a)) (orElse (firstFault (dataListed d)) (firstFault (checked d))))
 
 -- 00 Demand 2: what is found is the best of all choices
 unfoldable pub csBest : Description → AddrLayout → Found
 -- 00 Demand 2: what is found is the best of all choices
-csBest d h = best (λ c. trialOf (csVerdict d h c)) (2 ^ twos (numbered d))
+csBest d h = best (λ c. verdictTrial (csVerdict d h c)) (2 ^ twos (numbered d))
 
 -- 01 Number 9: no choice fits, and neither 8 nor 7 says why
 -- 01 cs_data_layout 9: 9 is what is left after 8 and 7
 abbrev pub orNoLayout : FirstFault → CsDataAnswer
-orNoLayout (Of r) = refusedFor r
-orNoLayout None = refusedFor NoValidLayout
+orNoLayout (Of r) = csDataRefused r
+orNoLayout None = csDataRefused NoValidLayout
 
 -- 01 cs_data_layout 9: the verdicts on all choices decide between 8, 7 and 9
 unfoldable pub noneFits : Description → AddrLayout → CsDataAnswer
 -- 01 cs_data_layout 9: the verdicts on all choices decide between 8, 7 and 9
 noneFits d h = orNoLayout (nothingFits (ignoredSet d) (csVerdict d h) (2 ^ twos (numbered d)))
 
-abbrev pub answerOf : Description → AddrLayout → Found → CsDataAnswer
-answerOf d h Nothing = noneFits d h
-answerOf d h (At c s) = record { outcome = LaidOut; layout = layoutOf d h (numbered d) c }
+abbrev pub csDataAnswerOf : Description → AddrLayout → Found → CsDataAnswer
+csDataAnswerOf d h Nothing = noneFits d h
+csDataAnswerOf d h (At c s) = record { outcome = LaidOut; layout = csDataLayoutOf d h (numbered d) c }
 
 abbrev pub afterEarlier : Description → AddrLayout → FirstFault → CsDataAnswer
-afterEarlier d h (Of r) = refusedFor r
-afterEarlier d h None = answerOf d h (csBest d h)
+afterEarlier d h (Of r) = csDataRefused r
+afterEarlier d h None = csDataAnswerOf d h (csBest d h)
 
 -- 01 Number 1: the description, the address layout or the qualifiers are outside the domain
 -- 01 Numbers 2: the domain is tested before anything else
@@ -76,4 +76,4 @@ abbrev pub csDataAnswer : Description → GivenLayout → CsDataAnswer
 -- 01 Number 1: the description, the address layout or the qualifiers are outside the domain
 -- 01 Numbers 2: the domain is tested before anything else
 csDataAnswer d a =
-    cond (inDomain d && givenIn d a) (afterEarlier d (handed a) (earlier d a)) (refusedFor OutOfDomain)
+    cond (csSearchIn d && givenIn d a) (afterEarlier d (handed a) (earlier d a)) (csDataRefused OutOfDomain)

@@ -14,8 +14,8 @@ use refusal::first::or_else;
 use slot::description::Description;
 ghost use mathlib.Core.Path.{_≡_};
 ghost use mathlib.Core.Bool.{true};
-ghost use Rattle.cs_pins.specs.Pins.{inDomain};
-ghost use Rattle.cs_data_layout.specs.Search.{givenIn, missingLayout, tooLarge, earlier};
+ghost use Rattle.cs_pins.specs.Pins.{csSearchIn};
+ghost use Rattle.cs_data_layout.specs.Search.{givenIn, missingLayout, romTooLarge, earlier};
 
 // Whether the layout that is handed in keeps to the domain, and the qualifiers beside it.
 pub fn given_in(d: Description, a: GivenLayout) -> bool
@@ -39,7 +39,7 @@ fn missing_layout(d: Description, a: GivenLayout) -> FirstFault
 
 // Excess lines select by cs1's setting.
 fn too_large(d: Description, h: AddrLayout) -> FirstFault
-    ensures { λ r. ⌜ r ≡ tooLarge d h ⌝ }
+    ensures { λ r. ⌜ r ≡ romTooLarge d h ⌝ }
 {
     let config = d.cs_config;
     if (0 < h.num_excess) & line_ignored(2, config) {
@@ -50,7 +50,7 @@ fn too_large(d: Description, h: AddrLayout) -> FirstFault
 
 // The first refusal of all.
 pub fn earlier(d: Description, a: GivenLayout) -> FirstFault
-    requires { ⌜ inDomain d ≡ true ⌝ }
+    requires { ⌜ csSearchIn d ≡ true ⌝ }
     ensures { λ r. ⌜ r ≡ earlier d a ⌝ }
 {
     let pins_fault = or_else(first_fault(list_data(d)), first_fault(checked(d)));

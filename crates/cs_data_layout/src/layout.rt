@@ -3,7 +3,7 @@
 use addr_layout::layout::AddrLayout;
 use refusal::Refusal;
 ghost use mathlib.Core.Path.{_≡_};
-ghost use Rattle.cs_data_layout.specs.Layout.{refusedFor, handed};
+ghost use Rattle.cs_data_layout.specs.Layout.{csDataRefused, handed};
 
 // The original's `Option<&AddrLayout>`: a layout that is not given counts for nothing.
 pub struct GivenLayout {
@@ -64,7 +64,7 @@ pub struct CsDataAnswer {
 
 // A refused call: nothing is laid out.
 pub fn refused(why: Refusal) -> CsDataAnswer
-    ensures { λ r. ⌜ r ≡ refusedFor why ⌝ }
+    ensures { λ r. ⌜ r ≡ csDataRefused why ⌝ }
 {
     let no_line = SelectLine { role: 0, gpio: 0 };
     CsDataAnswer {

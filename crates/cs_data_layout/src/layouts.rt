@@ -34,7 +34,7 @@ ghost use Rattle.slot.specs.Description.{chip0};
 ghost use Rattle.listing.specs.Listing.{listOf};
 ghost use Rattle.listing.specs.Choice.{GpiosIn};
 ghost use Rattle.cs_choices.specs.Verdict.{allOf, baseOf};
-ghost use Rattle.cs_data_layout.specs.Choices.{numData, excessSet, qualifierSet, ignoreIndex, qualifiersFrom, selectLine, numCommoned, commonedLine, layoutFrom, layoutOf};
+ghost use Rattle.cs_data_layout.specs.Choices.{numData, excessSet, qualifierSet, ignoreIndex, qualifiersFrom, selectLine, numCommoned, commonedLine, csDataLayoutFrom, csDataLayoutOf};
 
 // The place of the one GPIO that is missing.
 fn ignore_index(select_gpios: u64) -> IgnoreIndex
@@ -158,7 +158,7 @@ fn data_lines(gpios: [u8; 30], count: usize) -> [u8; 16]
 // The layout of resolved pins.
 fn layout(d: Description, h: AddrLayout, gpios: [u8; 30], s: Sets, q: u64) -> CsDataLayout
     requires { ⌜ (numData d ≤ 16) × (chip0 d .control .count ≤ 8) × (q ≡ qualifierSet d h) × (h .«num_excess» ≤ 24) ⌝ }
-    ensures { λ r. ⌜ r ≡ layoutFrom d h (λ k. getD gpios k 0) (s .«data_gpios») (s .«select_gpios») (baseOf (allOf (s .«data_gpios») (s .«select_gpios») q)) ⌝ }
+    ensures { λ r. ⌜ r ≡ csDataLayoutFrom d h (λ k. getD gpios k 0) (s .«data_gpios») (s .«select_gpios») (baseOf (allOf (s .«data_gpios») (s .«select_gpios») q)) ⌝ }
 {
     let chip = d.chip0();
     let data = chip.num_data_pins as usize;
@@ -189,7 +189,7 @@ pub fn laid_out(
     choice: u32,
 ) -> CsDataAnswer
     requires { ⌜ (fixed .«num_data» ≡ numData d) × (numData d ≤ 16) × (chip0 d .control .count ≤ 8) × (numData d ≤ l .count) × (l .count ≤ 30) × GpiosIn (listOf l) × (fixed .excess ≡ excessSet h) × (fixed .qualifiers ≡ qualifierSet d h) × (h .«num_excess» ≤ 24) ⌝ }
-    ensures { λ r. ⌜ r ≡ record { outcome = CsDataOutcome.LaidOut; layout = layoutOf d h (listOf l) choice } ⌝ }
+    ensures { λ r. ⌜ r ≡ record { outcome = CsDataOutcome.LaidOut; layout = csDataLayoutOf d h (listOf l) choice } ⌝ }
 {
     CsDataAnswer {
         outcome: CsDataOutcome::LaidOut,

@@ -22,8 +22,8 @@ ghost use mathlib.Core.Path.{_≡_};
 ghost use mathlib.Core.Bool.{true};
 ghost use Rattle.domain.specs.Domain.{qualifiersIn};
 ghost use Rattle.addr_layout.specs.Layout.{layoutIn};
-ghost use Rattle.cs_pins.specs.Pins.{inDomain};
-ghost use Rattle.cs_data_layout.specs.Search.{orNoLayout, csBest, answerOf, csDataAnswer};
+ghost use Rattle.cs_pins.specs.Pins.{csSearchIn};
+ghost use Rattle.cs_data_layout.specs.Search.{orNoLayout, csBest, csDataAnswerOf, csDataAnswer};
 
 fn none_fits(why: FirstFault) -> CsDataAnswer
     ensures { λ r. ⌜ r ≡ orNoLayout why ⌝ }
@@ -36,8 +36,8 @@ fn none_fits(why: FirstFault) -> CsDataAnswer
 
 // The search over all choices.
 fn search(d: Description, h: AddrLayout) -> CsDataAnswer
-    requires { ⌜ (inDomain d ≡ true) × (layoutIn h ≡ true) × (qualifiersIn (d .qualifiers) (d .«num_qualifiers») (h .gpios) (h .«num_lines») ≡ true) ⌝ }
-    ensures { λ r. ⌜ r ≡ answerOf d h (csBest d h) ⌝ }
+    requires { ⌜ (csSearchIn d ≡ true) × (layoutIn h ≡ true) × (qualifiersIn (d .qualifiers) (d .«num_qualifiers») (h .gpios) (h .«num_lines») ≡ true) ⌝ }
+    ensures { λ r. ⌜ r ≡ csDataAnswerOf d h (csBest d h) ⌝ }
 {
     let chip = d.chip0();
     let set_type = d.set_type;

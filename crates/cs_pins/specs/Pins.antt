@@ -65,5 +65,5 @@ unfoldable pub numbered : Description → List Listed
 numbered d = (dataListed d ++ selectListed d) ++ commonedListed d
 
 -- 01 Domain 8: of the pins that this search numbers, no more than 16 have two candidates
-unfoldable pub inDomain : Description → Bool
-inDomain d = descriptionIn d && leb (twos (numbered d)) 16
+unfoldable pub csSearchIn : Description → Bool
+csSearchIn d = descriptionIn d && leb (twos (numbered d)) 16

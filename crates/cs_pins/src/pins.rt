@@ -20,7 +20,7 @@ ghost use lib.ListN.{getD};
 ghost use mathlib.Core.Bool.{true};
 ghost use Rattle.slot.specs.Description.{isMulti, chip0};
 ghost use Rattle.listing.specs.Listing.{listOf};
-ghost use Rattle.cs_pins.specs.Pins.{pinListed, dataListed, active, ifActive, activeListed, kindListed, selectListed, multiCommoned, numbered, inDomain};
+ghost use Rattle.cs_pins.specs.Pins.{pinListed, dataListed, active, ifActive, activeListed, kindListed, selectListed, multiCommoned, numbered, csSearchIn};
 
 // A chip pin; one without GPIO or off the socket is a fault.
 fn pin_listed(d: Description, pin: u8) -> Listed
@@ -158,7 +158,7 @@ pub fn list(d: Description) -> Listing
 
 // Whether the select search takes the description, the layout handed in aside.
 pub fn in_domain(d: Description) -> bool
-    ensures { λ r. ⌜ r ≡ inDomain d ⌝ }
+    ensures { λ r. ⌜ r ≡ csSearchIn d ⌝ }
 {
     if description_in(d) {
         return listing::choice_bits(list(d)) <= 16;

@@ -30,11 +30,11 @@ use Rattle.slot.specs.declared.description.MultiCsConfig.{MultiCsConfig}
 use Rattle.slot.specs.declared.description.Description.{Description}
 use Rattle.domain.specs.Domain.{descriptionIn}
 use Rattle.description_record.specs.declared.Answer.the-variants.{Described}
-use Rattle.description_record.specs.Record.{recordSize, setTypeOf, offsetOf, offsetIn, logicOf, logicIn, settingOf, settingIn, csConfigAt, csConfigIn, multiAt, boardAt, chipAt, described, headIn, pairsIn, wellFormed, decodedOf}
+use Rattle.description_record.specs.Record.{recordSize, setTypeOf, offsetOf, offsetIn, logicFrom, logicIn, settingOf, settingIn, csConfigAt, csConfigIn, multiAt, boardAt, chipAt, described, headIn, pairsIn, wellFormed, decodedOf}
 use Rattle.fields.specs.Candidates.{pairAt, pairIn, pairBytes, pairField}
 use Rattle.fields.specs.Fields.{byteAt, fourAt, field, fourBytes}
 use Rattle.slot.specs.Description.{noPin, noLine, noChip}
-use Rattle.description_record.specs.Encoded.{setTypeByte, offsetByte, logicByte, settingByte, csConfigBytes, multiBytes, pinOf, lineOf, chipOf, boardBytes, lineBytes, chipBytes, headBytes, encoded, Bytes, ValuedBoard, ValuedChip, ValuedMulti, Valued}
+use Rattle.description_record.specs.Encoded.{setTypeByte, offsetByte, logicByte, settingByte, csConfigBytes, multiBytes, socketPinOf, controlLineOf, chipOf, boardBytes, lineBytes, chipRecord, descriptionHead, encoded, Bytes, ValuedBoard, ValuedChip, ValuedMulti, Valued}
 use Rattle.description_record.proofs.InDomain.{GpiosIn, OffsetIn, EncodableBoard, Encodable, in-domain}
 
 -- lists of bytes
@@ -106,7 +106,7 @@ set-type Single = record { back = refl; named = refl; below = lit< tt }
 set-type Banked = record { back = refl; named = refl; below = lit< tt }
 set-type Multi = record { back = refl; named = refl; below = lit< tt }
 
-logic : (l : CsLogic) → Coded logicOf logicIn logicByte l
+logic : (l : CsLogic) → Coded logicFrom logicIn logicByte l
 logic ActiveLow = record { back = refl; named = refl; below = lit< tt }
 logic ActiveHigh = record { back = refl; named = refl; below = lit< tt }
 logic Ignore = record { back = refl; named = refl; below = lit< tt }
@@ -182,7 +182,7 @@ cs-config-below (CeOeExplicit ce oe) = one (lit< tt) (one (logic ce .below) (one
 
 -- the description reads back
 
-chip-back : (c : Chip) → ValuedChip c → chipAt (chipBytes c) 0 ≡ c
+chip-back : (c : Chip) → ValuedChip c → chipAt (chipRecord c) 0 ≡ c
 unfolding chipAt joined tab
 chip-back c v = λ i. record {
   «address_pins» = field-back (c .«address_pins») (v .«address_pins») i;
@@ -190,7 +190,7 @@ chip-back c v = λ i. record {
   «data_pins» = field-back (c .«data_pins») (v .«data_pins») i;
   «num_data_pins» = c .«num_data_pins»;
   control = record {
-    lines = tab-is (lineOf c) (c .control .lines) noLine 8 (v .lines) (λ j h. refl) i;
+    lines = tab-is (controlLineOf c) (c .control .lines) noLine 8 (v .lines) (λ j h. refl) i;
     count = c .control .count;
   };
   size = four-back (c .size) (v .size) i;
@@ -207,9 +207,9 @@ multi-back d v = λ i. record {
 }
 
 socket-back : (b : Board) → ValuedBoard b → EncodableBoard b
-    → tab 40 (λ k. record { gpios = pairAt (pairBytes (pinOf b k .gpios)) 0 }) ≡ b .socket
+    → tab 40 (λ k. record { gpios = pairAt (pairBytes (socketPinOf b k .gpios)) 0 }) ≡ b .socket
 socket-back b v e =
-    tab-is _ (b .socket) noPin 40 (v .socket) (λ k h i. record { gpios = pair-back (pinOf b k .gpios) (e .socket k h) i })
+    tab-is _ (b .socket) noPin 40 (v .socket) (λ k h i. record { gpios = pair-back (socketPinOf b k .gpios) (e .socket k h) i })
 
 board-back : (d : Description) → ValuedBoard (d .board) → EncodableBoard (d .board) → boardAt (encoded d) ≡ d .board
 unfolding boardAt encoded joined tab
@@ -220,7 +220,7 @@ board-back d v e = λ i. record {
   x2 = pair-back (d .board .x2) (e .x2) i;
 }
 
-chips-back : (d : Description) → Valued d → tab 4 (λ k. chipAt (chipBytes (chipOf d k)) 0) ≡ d .chips
+chips-back : (d : Description) → Valued d → tab 4 (λ k. chipAt (chipRecord (chipOf d k)) 0) ≡ d .chips
 chips-back d v = tab-is _ (d .chips) noChip 4 (v .chips) (λ k h. chip-back (chipOf d k) (v .chip k h))
 
 described-back : (d : Description) → Valued d → Encodable d → described (encoded d) ≡ d
@@ -246,8 +246,8 @@ head-formed : (d : Description) → Encodable d → headIn (encoded d) ≡ true
 unfolding headIn encoded joined tab
 head-formed d e = rw (set-type (d .«set_type») .named, offset (d .«pin_offset») (e .«pin_offset») .named, flag (d .«has_multi») .named)
 
-socket-formed : (b : Board) → EncodableBoard b → each 40 (λ k. pairIn (pairBytes (pinOf b k .gpios)) 0) ≡ true
-socket-formed b e = each-all _ 40 (λ k h. pair-in (pinOf b k .gpios) (e .socket k h))
+socket-formed : (b : Board) → EncodableBoard b → each 40 (λ k. pairIn (pairBytes (socketPinOf b k .gpios)) 0) ≡ true
+socket-formed b e = each-all _ 40 (λ k h. pair-in (socketPinOf b k .gpios) (e .socket k h))
 
 pairs-formed : (d : Description) → EncodableBoard (d .board) → pairsIn (encoded d) ≡ true
 unfolding encoded joined tab each
@@ -262,7 +262,7 @@ decodes d v e = rw (formed d e, described-back d v e)
 
 -- the record is 424 bytes
 
-head-below : (d : Description) → Valued d → OffsetIn (d .«pin_offset») → Below (headBytes d)
+head-below : (d : Description) → Valued d → OffsetIn (d .«pin_offset») → Below (descriptionHead d)
 head-below d v o =
     let numbers = both (four-below (d .«max_image_size»)) (four-below 0) in
     let counts = one (v .«num_chips») (one (v .«num_qualifiers») (one (flag (d .«has_multi») .below) numbers)) in
@@ -276,13 +276,13 @@ multi-below m v =
 
 board-below : (b : Board) → EncodableBoard b → Below (boardBytes b)
 board-below b e =
-    let pins = all 40 (λ k. pairField (pinOf b k .gpios)) (λ k h. pair-field-below (pinOf b k .gpios) (e .socket k h)) in
+    let pins = all 40 (λ k. pairField (socketPinOf b k .gpios)) (λ k h. pair-field-below (socketPinOf b k .gpios) (e .socket k h)) in
     both (both pins (pair-field-below (b .x1) (e .x1))) (pair-field-below (b .x2) (e .x2))
 
-chip-below : (c : Chip) → ValuedChip c → Below (chipBytes c)
+chip-below : (c : Chip) → ValuedChip c → Below (chipRecord c)
 chip-below c v =
     let counts = one (v .«num_address_pins») (one (v .«num_data_pins») (one (v .count) (same 0 1 (lit< tt)))) in
-    let lines = all 8 (λ k. lineBytes (lineOf c k)) (λ k h. one (v .kinds k) (one (v .pins k) (same 0 1 (lit< tt)))) in
+    let lines = all 8 (λ k. lineBytes (controlLineOf c k)) (λ k h. one (v .kinds k) (one (v .pins k) (same 0 1 (lit< tt)))) in
     both (both (both (both (four-below (c .size)) counts) (field-below (v .«address_pins»))) (field-below (v .«data_pins»))) lines
 
 encoded-below : (d : Description) → Valued d → Encodable d → Below (encoded d)
@@ -291,7 +291,7 @@ encoded-below d v e =
     let settings = every 7 (λ k. getD (csConfigBytes (d .«cs_config»)) k 0) (below-at (cs-config-below (d .«cs_config»))) in
     let multi = both (both (head-below d v (e .«pin_offset»)) settings) (multi-below (d .multi) (v .multi)) in
     let board = both (both multi (field-below (v .qualifiers))) (board-below (d .board) (e .board)) in
-    both board (all 4 (λ k. chipBytes (chipOf d k)) (λ k h. chip-below (chipOf d k) (v .chip k h)))
+    both board (all 4 (λ k. chipRecord (chipOf d k)) (λ k h. chip-below (chipOf d k) (v .chip k h)))
 
 encoded-bytes : (d : Description) → Valued d → Encodable d → Bytes recordSize (encoded d)
 unfolding encoded joined tab

@@ -15,7 +15,7 @@ use Rattle.slot.specs.SlotContext.{boardPinsIn, raisedOf}
 use Rattle.slot.specs.declared.description.Board.{Board}
 use Rattle.slot.specs.declared.description.Description.{Description}
 use Rattle.domain.specs.Domain.{socketIn, boardIn, wordBytesIn, maxImageSizeIn, descriptionIn}
-use Rattle.description_record.specs.Encoded.{pinOf}
+use Rattle.description_record.specs.Encoded.{socketPinOf}
 
 -- "GPIO 0 to 47."
 abbrev pub GpiosIn : Candidates → Type 0
@@ -29,7 +29,7 @@ OffsetIn (pos n) = n ≤ 4
 OffsetIn (negsuc n) = n ≤ 3
 
 pub record EncodableBoard (b : Board) : Type 0 where
-  pub socket : (k : ℕ) → k < 40 → GpiosIn (pinOf b k .gpios)
+  pub socket : (k : ℕ) → k < 40 → GpiosIn (socketPinOf b k .gpios)
   pub x1 : GpiosIn (b .x1)
   pub x2 : GpiosIn (b .x2)
 
@@ -57,7 +57,7 @@ board-in b h =
     let pins = boardPinsIn (b .pins) in
     let places : socketIn b ≡ true = and-right pins _ (and-left _ _ (and-left _ _ h)) in
     record {
-      socket = λ k q. gpios-in (pinOf b k .gpios) (each-at _ 40 places k q);
+      socket = λ k q. gpios-in (socketPinOf b k .gpios) (each-at _ 40 places k q);
       x1 = gpios-in (b .x1) (and-right (pins && socketIn b) _ (and-left _ _ h));
       x2 = gpios-in (b .x2) (and-right (pins && socketIn b && candidatesIn (b .x1)) _ h);
     }

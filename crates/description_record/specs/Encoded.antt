@@ -61,31 +61,31 @@ multiBytes m =
     (m .select ∷ m .«num_commoned» ∷ m .«num_ignored» ∷ 0 ∷ 0 ∷ []) ++ field 8 (m .commoned) ++ field 8 (m .ignored)
 
 -- the entries of the arrays
-abbrev pub pinOf : Board → ℕ → Pin
-pinOf b k = getD (b .socket) k noPin
+abbrev pub socketPinOf : Board → ℕ → Pin
+socketPinOf b k = getD (b .socket) k noPin
 
-abbrev pub lineOf : Chip → ℕ → ControlLine
-lineOf c k = getD (c .control .lines) k noLine
+abbrev pub controlLineOf : Chip → ℕ → ControlLine
+controlLineOf c k = getD (c .control .lines) k noLine
 
 abbrev pub chipOf : Description → ℕ → Chip
 chipOf d k = getD (d .chips) k noChip
 
 abbrev pub boardBytes : Board → List ℕ
 boardBytes b =
-    joined 40 (λ k. pairField (pinOf b k .gpios)) ++ pairField (b .x1) ++ pairField (b .x2)
+    joined 40 (λ k. pairField (socketPinOf b k .gpios)) ++ pairField (b .x1) ++ pairField (b .x2)
 
 -- "three bytes a line: kind, pin, fixed level"
 abbrev pub lineBytes : ControlLine → List ℕ
 lineBytes l = l .kind ∷ l .pin ∷ 0 ∷ []
 
 -- "A chip's 72 bytes"
-abbrev pub chipBytes : Chip → List ℕ
-chipBytes c =
+abbrev pub chipRecord : Chip → List ℕ
+chipRecord c =
     fourBytes (c .size) ++ (c .«num_address_pins» ∷ c .«num_data_pins» ∷ c .control .count ∷ 0 ∷ [])
-    ++ field 24 (c .«address_pins») ++ field 16 (c .«data_pins») ++ joined 8 (λ k. lineBytes (lineOf c k))
+    ++ field 24 (c .«address_pins») ++ field 16 (c .«data_pins») ++ joined 8 (λ k. lineBytes (controlLineOf c k))
 
-abbrev pub headBytes : Description → List ℕ
-headBytes d =
+abbrev pub descriptionHead : Description → List ℕ
+descriptionHead d =
     (d .board .pins ∷ 0 ∷ setTypeByte (d .«set_type») ∷ d .«word_bytes» ∷ offsetByte (d .«pin_offset») ∷ d .«num_chips»
     ∷ d .«num_qualifiers» ∷ cond (d .«has_multi») 1 0 ∷ [])
     ++ fourBytes (d .«max_image_size») ++ fourBytes 0
@@ -94,8 +94,8 @@ headBytes d =
 unfoldable pub encoded : Description → List ℕ
 -- 01 Shape 7: a description is handed over as these bytes
 encoded d =
-    headBytes d ++ field 7 (csConfigBytes (d .«cs_config»)) ++ multiBytes (d .multi) ++ field 8 (d .qualifiers)
-    ++ boardBytes (d .board) ++ joined 4 (λ k. chipBytes (chipOf d k))
+    descriptionHead d ++ field 7 (csConfigBytes (d .«cs_config»)) ++ multiBytes (d .multi) ++ field 8 (d .qualifiers)
+    ++ boardBytes (d .board) ++ joined 4 (λ k. chipRecord (chipOf d k))
 
 -- [u8; n]
 pub record Bytes (n : ℕ) (l : List ℕ) : Type 0 where
@@ -113,8 +113,8 @@ pub record ValuedChip (c : Chip) : Type 0 where
   pub «num_data_pins» : c .«num_data_pins» < 2 ^ 8
   -- 01 addr_layout 1: where w is 2 there is one line fewer than address pins
   pub lines : length (c .control .lines) ≡ 8
-  pub kinds : (k : ℕ) → lineOf c k .kind < 2 ^ 8
-  pub pins : (k : ℕ) → lineOf c k .pin < 2 ^ 8
+  pub kinds : (k : ℕ) → controlLineOf c k .kind < 2 ^ 8
+  pub pins : (k : ℕ) → controlLineOf c k .pin < 2 ^ 8
   pub count : c .control .count < 2 ^ 8
   pub size : c .size < 2 ^ 32
 

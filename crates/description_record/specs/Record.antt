@@ -48,12 +48,12 @@ abbrev pub offsetOf : ℕ → ℤ
 offsetOf x = cond (leb x 4) (pos x) (cond (leb 252 x && leb x 255) (negsuc (255 - x)) (pos 0))
 
 -- "0 active low, 1 active high, 2 ignored"
-abbrev pub logicOf : ℕ → CsLogic
-logicOf x = cond (eqb x 0) ActiveLow (cond (eqb x 1) ActiveHigh Ignore)
+abbrev pub logicFrom : ℕ → CsLogic
+logicFrom x = cond (eqb x 0) ActiveLow (cond (eqb x 1) ActiveHigh Ignore)
 
 -- "or 255 for not given"
 abbrev pub settingOf : ℕ → Setting
-settingOf x = cond (eqb x 255) NotGiven (Given (logicOf x))
+settingOf x = cond (eqb x 255) NotGiven (Given (logicFrom x))
 
 abbrev pub logicIn : ℕ → Bool
 logicIn x = leb x 2
@@ -65,8 +65,8 @@ settingIn x = leb x 2 || eqb x 255
 unfoldable pub csConfigAt : List ℕ → CsConfig
 csConfigAt b =
     cond (eqb (byteAt b 16) 0)
-    (ChipSelect (logicOf (byteAt b 19)) (settingOf (byteAt b 20)) (settingOf (byteAt b 21)) (settingOf (byteAt b 22)))
-    (cond (eqb (byteAt b 16) 1) CeOe (CeOeExplicit (logicOf (byteAt b 17)) (logicOf (byteAt b 18))))
+    (ChipSelect (logicFrom (byteAt b 19)) (settingOf (byteAt b 20)) (settingOf (byteAt b 21)) (settingOf (byteAt b 22)))
+    (cond (eqb (byteAt b 16) 1) CeOe (CeOeExplicit (logicFrom (byteAt b 17)) (logicFrom (byteAt b 18))))
 
 -- the form is one of the three; a setting that it uses is one of its values, and one that it does not use is 255
 unfoldable pub csConfigIn : List ℕ → Bool
@@ -103,14 +103,14 @@ boardAt b = record {
 }
 
 -- "three bytes a line: kind, pin, fixed level"
-abbrev pub lineAt : List ℕ → ℕ → ControlLine
-lineAt b p = record { kind = byteAt b p; pin = byteAt b (p + 1) }
+abbrev pub controlLineAt : List ℕ → ℕ → ControlLine
+controlLineAt b p = record { kind = byteAt b p; pin = byteAt b (p + 1) }
 
-abbrev pub linesAt : List ℕ → ℕ → List ControlLine
-linesAt b p = tab 8 (λ k. lineAt b (p + 48 + 3 * k))
+abbrev pub controlLinesAt : List ℕ → ℕ → List ControlLine
+controlLinesAt b p = tab 8 (λ k. controlLineAt b (p + 48 + 3 * k))
 
 abbrev pub controlAt : List ℕ → ℕ → ControlLines
-controlAt b p = record { lines = linesAt b p; count = byteAt b (p + 6) }
+controlAt b p = record { lines = controlLinesAt b p; count = byteAt b (p + 6) }
 
 unfoldable pub chipAt : List ℕ → ℕ → Chip
 chipAt b p = record {
@@ -164,12 +164,12 @@ abbrev pub chipZeros : List ℕ → ℕ → Bool
 chipZeros b p = eqb (byteAt b (p + 7)) 0 && levelsIn b p
 
 -- 01 Domain 3: what holds of a chip is tested of the first n, of 4 at most
-abbrev pub chipsIn : List ℕ → Bool
+abbrev pub chipPlacesIn : List ℕ → Bool
 -- 01 Domain 3: what holds of a chip is tested of the first n, of 4 at most
-chipsIn b = each 4 (λ k. chipZeros b (136 + 72 * k))
+chipPlacesIn b = each 4 (λ k. chipZeros b (136 + 72 * k))
 
 unfoldable pub wellFormed : List ℕ → Bool
-wellFormed b = eqb (length b) recordSize && headIn b && csConfigIn b && pairsIn b && chipsIn b
+wellFormed b = eqb (length b) recordSize && headIn b && csConfigIn b && pairsIn b && chipPlacesIn b
 
 -- the description, or refusal 1
 -- 01 Number 1: bytes that are not well formed are refused

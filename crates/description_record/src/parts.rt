@@ -16,7 +16,7 @@ use slot::description::MultiCsConfig;
 use slot::description::Setting;
 ghost use mathlib.Core.Path.{_≡_};
 ghost use Prim.Native.Nat.{_+_, _≤_};
-ghost use Rattle.description_record.specs.Record.{recordSize, setTypeOf, offsetOf, logicOf, settingOf, csConfigAt, multiAt, socketAt, boardAt, lineAt, linesAt, controlAt, chipAt, chipsAt, described};
+ghost use Rattle.description_record.specs.Record.{recordSize, setTypeOf, offsetOf, logicFrom, settingOf, csConfigAt, multiAt, socketAt, boardAt, controlLineAt, controlLinesAt, controlAt, chipAt, chipsAt, described};
 
 fn set_type(x: u8) -> ChipSetType
     ensures { λ r. ⌜ r ≡ setTypeOf x ⌝ }
@@ -43,7 +43,7 @@ fn pin_offset(x: u8) -> i8
 }
 
 fn logic(x: u8) -> CsLogic
-    ensures { λ r. ⌜ r ≡ logicOf x ⌝ }
+    ensures { λ r. ⌜ r ≡ logicFrom x ⌝ }
 {
     if x == 0 {
         return CsLogic::ActiveLow;
@@ -125,7 +125,7 @@ fn board(b: &[u8]) -> Board
 
 fn line(b: &[u8], p: usize) -> ControlLine
     requires { ⌜ p + 3 ≤ recordSize ⌝ }
-    ensures { λ r. ⌜ r ≡ lineAt (now (b .entry)) p ⌝ }
+    ensures { λ r. ⌜ r ≡ controlLineAt (now (b .entry)) p ⌝ }
 {
     ControlLine {
         kind: entry(b, p),
@@ -135,7 +135,7 @@ fn line(b: &[u8], p: usize) -> ControlLine
 
 fn lines(b: &[u8], p: usize) -> [ControlLine; 8]
     requires { ⌜ p + 72 ≤ recordSize ⌝ }
-    ensures { λ r. ⌜ r ≡ linesAt (now (b .entry)) p ⌝ }
+    ensures { λ r. ⌜ r ≡ controlLinesAt (now (b .entry)) p ⌝ }
 {
     let mut out = [ControlLine { kind: 0, pin: 0 }; 8];
     let mut k: usize = 0;

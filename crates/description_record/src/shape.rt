@@ -3,7 +3,7 @@ use fields::candidates::pair_in;
 use lists::array::entry;
 ghost use mathlib.Core.Path.{_≡_};
 ghost use Prim.Native.Nat.{_+_, _≤_};
-ghost use Rattle.description_record.specs.Record.{recordSize, offsetIn, logicIn, settingIn, headIn, csConfigIn, pairsIn, levelsIn, chipZeros, chipsIn, wellFormed};
+ghost use Rattle.description_record.specs.Record.{recordSize, offsetIn, logicIn, settingIn, headIn, csConfigIn, pairsIn, levelsIn, chipZeros, chipPlacesIn, wellFormed};
 
 fn offset_in(x: u8) -> bool
     ensures { λ r. ⌜ r ≡ offsetIn x ⌝ }
@@ -97,7 +97,7 @@ fn chip_zeros(b: &[u8], p: usize) -> bool
 }
 
 fn chips_in(b: &[u8]) -> bool
-    ensures { λ r. ⌜ r ≡ chipsIn (now (b .entry)) ⌝ }
+    ensures { λ r. ⌜ r ≡ chipPlacesIn (now (b .entry)) ⌝ }
 {
     let mut ok = true;
     let mut k: usize = 0;

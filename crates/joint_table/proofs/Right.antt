@@ -13,9 +13,9 @@ use Rattle.listing.specs.Choice.{restAt, gpioAt}
 use Rattle.listing.specs.Lines.{pinCandidates}
 use Rattle.addr_layout.specs.Lines.{lineSocket, lineListed, addrListed}
 use Rattle.addr_layout.specs.Layout.{layoutIn}
-use Rattle.addr_layout.specs.Choices.{reach, fixedSpan, spanAt, trialOf}
+use Rattle.addr_layout.specs.Choices.{reach, fixedSpan, spanUpTo, spanTrial}
 use Rattle.addr_layout.specs.Search.{addrBest}
-use Rattle.cs_pins.specs.Pins.{pinListed, dataListed, activeListed, selectListed, commonedListed, numbered, inDomain}
+use Rattle.cs_pins.specs.Pins.{pinListed, dataListed, activeListed, selectListed, commonedListed, numbered, csSearchIn}
 use Rattle.cs_pins.specs.Checked.{orNoActive, checked}
 use Rattle.cs_choices.specs.Verdict.{verdictOf}
 use Rattle.cs_choices.specs.Nothing.{interior, lastRefused}
@@ -26,7 +26,7 @@ use Rattle.build_args.specs.Images.{chipBytes}
 use Rattle.build_args.specs.Domain as SlotDomain
 use Rattle.refusal.specs.First.{firstOf}
 use Rattle.build_args.specs.Faults as Faults
-use Rattle.rom_image.specs.Entry.{chipAddress, pickedAt, scrambled, entryAt, tableOf}
+use Rattle.rom_image.specs.Entry.{chipAddress, chipPicked, scrambled, entryAt, tableOf}
 use Rattle.rom_image.specs.Build.{buildOf}
 use Rattle.joint_table.specs.Cases.{cases}
 use Rattle.joint_table.proofs.Count.{counted}
@@ -37,11 +37,11 @@ unfolding cases
     knownPairs offsetFrom
     socketIn lineIn linesIn chipsIn descriptionIn
     best twos faultFrom restAt gpioAt pinCandidates
-    lineSocket lineListed addrListed layoutIn reach fixedSpan spanAt trialOf addrBest
-    pinListed dataListed activeListed selectListed commonedListed numbered inDomain orNoActive checked
+    lineSocket lineListed addrListed layoutIn reach fixedSpan spanUpTo spanTrial addrBest
+    pinListed dataListed activeListed selectListed commonedListed numbered csSearchIn orNoActive checked
     verdictOf interior lastRefused earlier csBest noneFits
     gather scatter wordFrom bytesOf padWord chipBytes
-    SlotDomain.selectLinesIn SlotDomain.csDataIn SlotDomain.inDomain
-    firstOf Faults.addressIn Faults.picksIn Faults.linesIn Faults.buildFault
-    chipAddress pickedAt scrambled entryAt tableOf buildOf
+    SlotDomain.selectLinesIn SlotDomain.csDataIn SlotDomain.buildIn
+    firstOf Faults.addressIn Faults.picksIn Faults.dataPositionsIn Faults.buildFault
+    chipAddress chipPicked scrambled entryAt tableOf buildOf
 right = simp counted

@@ -35,8 +35,8 @@ pub data Answer : Type 0 where
   IgnoreNone : Answer
   Entry : ℕ → Answer
 
-abbrev pub refused : Refusal → Answer
-refused why = Number (numberOf why) (placeOf why)
+abbrev pub toldRefused : Refusal → Answer
+toldRefused why = Number (numberOf why) (placeOf why)
 
 -- 01 Bench 1: whether a span from a base fits
 abbrev pub window : ℕ → ℕ → Answer
@@ -46,26 +46,26 @@ window base span = cond (fits base span) Fits DoesNotFit
 -- the socket offset
 abbrev pub offsetTold : OffsetAnswer → Answer
 offsetTold (OffsetAnswer.Offset by) = Offset by
-offsetTold (OffsetAnswer.Refused why) = refused why
+offsetTold (OffsetAnswer.Refused why) = toldRefused why
 
 -- 01 Bench 2: the offset of a chip of so many pins in a board of so many, or a refusal
-abbrev pub pinsIn : ℕ → ℕ → Answer
+abbrev pub offsetFor : ℕ → ℕ → Answer
 -- 01 Bench 2: the offset of a chip of so many pins in a board of so many, or a refusal
-pinsIn chip board = offsetTold (offsetAnswer chip board)
+offsetFor chip board = offsetTold (offsetAnswer chip board)
 
 -- the address search
-abbrev pub scoreOf : Found → ℕ
-scoreOf Found.Nothing = 0
-scoreOf (Found.At choice score) = score
+abbrev pub foundScore : Found → ℕ
+foundScore Found.Nothing = 0
+foundScore (Found.At choice score) = score
 
 abbrev pub addressTold : AddrOutcome → AddrLayout → ℕ → Answer
 addressTold AddrOutcome.LaidOut layout score = Taken (getD (layout .gpios) 2 0) score
-addressTold (AddrOutcome.Refused why) layout score = refused why
+addressTold (AddrOutcome.Refused why) layout score = toldRefused why
 
 -- 01 Bench 3: where the third line went and the score, or a refusal
 abbrev pub addressSearch : Description → Answer
 -- 01 Bench 3: where the third line went and the score, or a refusal
-addressSearch d = addressTold (addrAnswer d .outcome) (addrAnswer d .layout) (scoreOf (addrBest d))
+addressSearch d = addressTold (addrAnswer d .outcome) (addrAnswer d .layout) (foundScore (addrBest d))
 
 -- the select search
 abbrev pub ignoreTold : IgnoreIndex → Answer
@@ -74,7 +74,7 @@ ignoreTold (IgnoreIndex.At k) = IgnoreAt k
 
 abbrev pub selectTold : CsDataOutcome → CsDataLayout → Answer
 selectTold CsDataOutcome.LaidOut layout = ignoreTold (layout .«cs_ignore_index»)
-selectTold (CsDataOutcome.Refused why) layout = refused why
+selectTold (CsDataOutcome.Refused why) layout = toldRefused why
 
 -- 01 Bench 4: the ignore index, if there is one, or a refusal
 abbrev pub selectSearch : Description → Answer
@@ -84,7 +84,7 @@ selectSearch d = selectTold (csDataAnswer d notGiven .outcome) (csDataAnswer d n
 -- the build
 abbrev pub builtTold : BuildAnswer → List ℕ → ℕ → Answer
 builtTold BuildAnswer.Built table i = Entry (getD table i 0)
-builtTold (BuildAnswer.Refused why) table i = refused why
+builtTold (BuildAnswer.Refused why) table i = toldRefused why
 
 -- the entry at an index, of one byte
 -- 01 Bench 5: the entry of a table that is built by data lines c

@@ -5,7 +5,7 @@ use mathlib.Core.List.{List, [], _∷_}
 use lib.IntN.{pos, negsuc}
 use Rattle.gpio.specs.declared.candidates.Candidates.the-variants.{One, Two}
 use Rattle.joint_table.specs.Slots.{linesAt, selectsAt, sized, inOrder, reversed}
-use Rattle.joint_table.specs.Answers.{Answer, Fits, DoesNotFit, Offset, Number, Taken, IgnoreAt, Entry, window, pinsIn, addressSearch, selectSearch, entryOf}
+use Rattle.joint_table.specs.Answers.{Answer, Fits, DoesNotFit, Offset, Number, Taken, IgnoreAt, Entry, window, offsetFor, addressSearch, selectSearch, entryOf}
 
 pub record Case : Type 0 where
   pub answered : Answer
@@ -27,8 +27,8 @@ cases =
     ∷ case (window 1 32) DoesNotFit
     ∷ case (window 16 32) Fits
     ∷ case (window 41 8) DoesNotFit
-    ∷ case (pinsIn 24 32) (Offset (pos 4))
-    ∷ case (pinsIn 32 24) (Offset (negsuc 3))
+    ∷ case (offsetFor 24 32) (Offset (pos 4))
+    ∷ case (offsetFor 32 24) (Offset (negsuc 3))
     ∷ case (addressSearch (linesAt (One 45) (One 46) (One 47))) (Number 9 0)
     ∷ case (addressSearch (linesAt (One 8) (One 15) (Two 9 10))) (Taken 9 8008)
     ∷ case (selectSearch (selectsAt 18 20)) (IgnoreAt 1)

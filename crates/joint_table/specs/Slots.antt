@@ -88,9 +88,9 @@ addressLines = record {
 }
 
 -- data lines on these GPIOs, and the data base at 0
-abbrev pub dataLines : List ℕ → CsDataLayout
+abbrev pub dataLinesAt : List ℕ → CsDataLayout
 -- 01 Well wired 4: the chip has 8w data lines
-dataLines gpios = record {
+dataLinesAt gpios = record {
   «gpio_base» = 0;
   «base_data_pin» = 0;
   «num_data_pins» = length gpios;
@@ -106,12 +106,12 @@ dataLines gpios = record {
 }
 
 abbrev pub inOrder : CsDataLayout
-inOrder = dataLines (0 ∷ 1 ∷ 2 ∷ 3 ∷ 4 ∷ 5 ∷ 6 ∷ 7 ∷ [])
+inOrder = dataLinesAt (0 ∷ 1 ∷ 2 ∷ 3 ∷ 4 ∷ 5 ∷ 6 ∷ 7 ∷ [])
 
 -- 01 Bench 5: data line n is at position 7 - n
 abbrev pub reversed : CsDataLayout
 -- 01 Bench 5: data line n is at position 7 - n
-reversed = dataLines (7 ∷ 6 ∷ 5 ∷ 4 ∷ 3 ∷ 2 ∷ 1 ∷ 0 ∷ [])
+reversed = dataLinesAt (7 ∷ 6 ∷ 5 ∷ 4 ∷ 3 ∷ 2 ∷ 1 ∷ 0 ∷ [])
 
 -- all bytes that are lent are the chip's
 abbrev pub spans : List ℕ → List ImageSpan

@@ -26,8 +26,8 @@ abbrev pub xOf : ℕ → LineGpio
 xOf x = cond (eqb x 255) Unused (At x)
 
 -- places 0 to 7
-abbrev pub headBytes : AddrLayout → List ℕ
-headBytes l =
+abbrev pub addrHead : AddrLayout → List ℕ
+addrHead l =
     l .«gpio_base» ∷ l .«num_addr_pins» ∷ xByte (l .«x1_gpio») ∷ xByte (l .«x2_gpio») ∷ l .«num_lines» ∷ l .«num_excess»
     ∷ 0 ∷ 0 ∷ []
 
@@ -36,7 +36,7 @@ abbrev pub invertedBytes : List ℕ
 invertedBytes = 0 ∷ 0 ∷ 0 ∷ 0 ∷ []
 
 unfoldable pub layoutBytes : AddrLayout → List ℕ
-layoutBytes l = headBytes l ++ field 24 (l .gpios) ++ invertedBytes
+layoutBytes l = addrHead l ++ field 24 (l .gpios) ++ invertedBytes
 
 -- what the record lays out
 unfoldable pub layoutAt : List ℕ → AddrLayout

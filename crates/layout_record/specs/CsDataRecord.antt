@@ -36,15 +36,15 @@ csDataHead l =
     ∷ l .qualifiers .«qualifier_inactive_pattern» ∷ []
 
 -- "30 select lines, then 6 commoned lines"
-abbrev pub lineAt : CsDataLayout → ℕ → SelectLine
-lineAt l k = cond (ltb k 30) (getD (l .«select_lines») k (line 0 0)) (getD (l .«commoned_lines») (k - 30) (line 0 0))
+abbrev pub selectLineAt : CsDataLayout → ℕ → SelectLine
+selectLineAt l k = cond (ltb k 30) (getD (l .«select_lines») k (line 0 0)) (getD (l .«commoned_lines») (k - 30) (line 0 0))
 
 -- "two bytes a line: role, GPIO"
 abbrev pub lineByte : SelectLine → ℕ → ℕ
 lineByte x j = cond (eqb j 0) (x .role) (x .gpio)
 
 unfoldable pub linesBytes : CsDataLayout → List ℕ
-linesBytes l = tab 72 (λ j. lineByte (lineAt l (j / 2)) (j % 2))
+linesBytes l = tab 72 (λ j. lineByte (selectLineAt l (j / 2)) (j % 2))
 
 unfoldable pub csDataBytes : CsDataLayout → List ℕ
 csDataBytes l = csDataHead l ++ field 16 (l .«data_pin_gpios») ++ linesBytes l

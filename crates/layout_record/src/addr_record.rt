@@ -10,7 +10,7 @@ ghost use mathlib.Core.Path.{_≡_};
 ghost use mathlib.Core.List.{_++_};
 ghost use Prim.Native.Nat.{_≤_};
 ghost use lib.ListN.{length, drop};
-ghost use Rattle.layout_record.specs.AddrRecord.{addrSize, xByte, xOf, headBytes, layoutBytes, layoutAt, layoutFormed, givenAt, givenFormed};
+ghost use Rattle.layout_record.specs.AddrRecord.{addrSize, xByte, xOf, addrHead, layoutBytes, layoutAt, layoutFormed, givenAt, givenFormed};
 
 fn x_byte(x: LineGpio) -> u8
     ensures { λ r. ⌜ r ≡ xByte x ⌝ }
@@ -22,7 +22,7 @@ fn x_byte(x: LineGpio) -> u8
 }
 
 fn head(l: AddrLayout) -> [u8; 8]
-    ensures { λ r. ⌜ r ≡ headBytes l ⌝ }
+    ensures { λ r. ⌜ r ≡ addrHead l ⌝ }
 {
     let x1 = l.x1_gpio;
     let x2 = l.x2_gpio;

@@ -11,7 +11,7 @@ ghost use mathlib.Core.Path.{_≡_};
 ghost use mathlib.Core.List.{_++_};
 ghost use Prim.Native.Nat.{_+_, _<_, _/_, _%_, _≤_};
 ghost use lib.ListN.{length, drop};
-ghost use Rattle.layout_record.specs.CsDataRecord.{csDataSize, ignoreByte, csDataHead, lineAt, lineByte, linesBytes, csDataBytes, ignoreOf, lineFrom, linesFrom, qualifiersAt, csDataAt, csDataFormed};
+ghost use Rattle.layout_record.specs.CsDataRecord.{csDataSize, ignoreByte, csDataHead, selectLineAt, lineByte, linesBytes, csDataBytes, ignoreOf, lineFrom, linesFrom, qualifiersAt, csDataAt, csDataFormed};
 
 fn ignore_byte(index: IgnoreIndex) -> u8
     ensures { λ r. ⌜ r ≡ ignoreByte index ⌝ }
@@ -46,7 +46,7 @@ fn head(l: CsDataLayout) -> [u8; 12]
 // Select lines, then commoned lines.
 fn line_at(l: CsDataLayout, k: usize) -> SelectLine
     requires { ⌜ k < 36 ⌝ }
-    ensures { λ r. ⌜ r ≡ lineAt l k ⌝ }
+    ensures { λ r. ⌜ r ≡ selectLineAt l k ⌝ }
 {
     if k < 30 {
         let lines = l.select_lines;
@@ -58,7 +58,7 @@ fn line_at(l: CsDataLayout, k: usize) -> SelectLine
 
 fn line_byte(l: CsDataLayout, j: usize) -> u8
     requires { ⌜ j < 72 ⌝ }
-    ensures { λ r. ⌜ r ≡ lineByte (lineAt l (j / 2)) (j % 2) ⌝ }
+    ensures { λ r. ⌜ r ≡ lineByte (selectLineAt l (j / 2)) (j % 2) ⌝ }
 {
     let line = line_at(l, j / 2);
     if j % 2 == 0 {

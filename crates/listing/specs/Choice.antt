@@ -1,10 +1,10 @@
 -- What a choice number makes of a list of pins. Assumes nothing.
 use Prim.Native.Nat.{ℕ, zero, suc, _/_, _%_}
 use mathlib.Core.Path.{_≡_}
-use mathlib.Core.Bool.{Bool, true, cond, not}
+use mathlib.Core.Bool.{Bool, true, cond}
 use mathlib.Core.List.{List}
 use mathlib.Core.Logic.{_⊎_}
-use lib.Dec.{ltb, eqb}
+use lib.Dec.{eqb}
 use lib.ListN.{getD}
 use Rattle.lists.specs.Each.{tally}
 use Rattle.gpio.specs.Candidates.{two, candidatesIn}
@@ -56,7 +56,3 @@ gpioAt ls c k = chosen (pinAt ls k) (restAt ls c k)
 -- 01 addr_layout 7: the bit that serves the k-th pin has as many bits below it as there are two-candidate pins before the pin
 abbrev pub bitOf : List Listed → ℕ → ℕ
 bitOf ls k = tally k (λ i. two (pinAt ls i))
-
--- the bits of a number in two parts: those below a split, and those from it on
-abbrev pub inPart : Bool → ℕ → ℕ → Bool
-inPart low split bit = cond low (ltb bit split) (not (ltb bit split))

@@ -1,3 +1,4 @@
 pub mod Listing
 pub mod Choice
 pub mod Lines
+pub mod design

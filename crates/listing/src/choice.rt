@@ -6,7 +6,8 @@ ghost use mathlib.Core.Path.{_≡_};
 ghost use mathlib.Core.Bool.{cond};
 ghost use Rattle.lists.specs.Tab.{tab};
 ghost use Rattle.listing.specs.Listing.{listOf};
-ghost use Rattle.listing.specs.Choice.{chosen, leftBy, pinAt, gpioAt, inPart};
+ghost use Rattle.listing.specs.Choice.{chosen, leftBy, pinAt, gpioAt};
+ghost use Rattle.listing.specs.design.Parts.{inPart};
 
 // A pin's GPIO under a choice, and what is left of the choice for the pins after it.
 pub struct Picked {

@@ -9,16 +9,16 @@ use Rattle.description_record.specs.Record.{decodedOf}
 use Rattle.description_record.specs.declared.Answer.{Answer}
 use Rattle.description_record.specs.declared.Answer.the-variants.{Described, Refused}
 use Rattle.description_record.specs.declared.Decoded.{Decoded}
-use Rattle.onerom.specs.Calls.{ifDescribed, described}
+use Rattle.onerom.specs.Calls.{ifDescribed, ifRecord}
 
 module _ {A : Type 0} (f : Description → A) (refuse : Refusal → A) (b : List ℕ) (dec : Decoded) (e : dec ≡ decodedOf b) where
-  told : (a : Answer) → dec .answer ≡ a → ifDescribed f refuse a (dec .description) ≡ described f refuse (decodedOf b)
-  told a t = ap (λ (x : Answer). ifDescribed f refuse x (dec .description)) (sym t) ∙ ap (described f refuse) e
+  told : (a : Answer) → dec .answer ≡ a → ifDescribed f refuse a (dec .description) ≡ ifRecord f refuse (decodedOf b)
+  told a t = ap (λ (x : Answer). ifDescribed f refuse x (dec .description)) (sym t) ∙ ap (ifRecord f refuse) e
 
-  pub taken : dec .answer ≡ Described → f (dec .description) ≡ described f refuse (decodedOf b)
+  pub taken : dec .answer ≡ Described → f (dec .description) ≡ ifRecord f refuse (decodedOf b)
   taken t = told Described t
 
-  pub no-record : (why : Refusal) → dec .answer ≡ Refused why → refuse why ≡ described f refuse (decodedOf b)
+  pub no-record : (why : Refusal) → dec .answer ≡ Refused why → refuse why ≡ ifRecord f refuse (decodedOf b)
   no-record why t = told (Refused why) t
 
 -- the other records: whether they are formed is tested first

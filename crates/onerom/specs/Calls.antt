@@ -36,39 +36,39 @@ pub record Answered : Type 0 where
 abbrev pub answer : ℕ → List ℕ → Answered
 answer r b = record { result = r; buffer = b }
 
--- 01 Numbers 5: a refused call leaves its buffer as it was lent
-abbrev pub refused : Refusal → List ℕ → Answered
-refused why buffer = answer (packed why) buffer
+-- 01 Numbers 5: a callRefused call leaves its buffer as it was lent
+abbrev pub callRefused : Refusal → List ℕ → Answered
+callRefused why buffer = answer (packed why) buffer
 
 -- 01 Number 16: the buffer has fewer bytes than the record
 -- 01 Numbers 7: the buffer's bytes behind the record stay
 abbrev pub written : ℕ → List ℕ → List ℕ → Answered
-written size bytes buffer = cond (ltb (length buffer) size) (refused ShortBuffer buffer) (answer 0 (bytes ++ drop size buffer))
+written size bytes buffer = cond (ltb (length buffer) size) (callRefused ShortBuffer buffer) (answer 0 (bytes ++ drop size buffer))
 
 -- 01 Number 1: the bytes are no description record
--- 01 Numbers 2: such bytes are refused before anything is done with a description
+-- 01 Numbers 2: such bytes are callRefused before anything is done with a description
 abbrev pub ifDescribed : {A : Type 0} → (Description → A) → (Refusal → A) → Answer → Description → A
 ifDescribed f refuse Answer.Described d = f d
 ifDescribed f refuse (Answer.Refused why) d = refuse why
 
-abbrev pub described : {A : Type 0} → (Description → A) → (Refusal → A) → Decoded → A
-described f refuse x = ifDescribed f refuse (x .answer) (x .description)
+abbrev pub ifRecord : {A : Type 0} → (Description → A) → (Refusal → A) → Decoded → A
+ifRecord f refuse x = ifDescribed f refuse (x .answer) (x .description)
 
 -- the search's own refusals come before the buffer's
 abbrev pub addrOutcome : AddrOutcome → AddrLayout → List ℕ → Answered
 addrOutcome AddrOutcome.LaidOut l buffer = written addrSize (layoutBytes l) buffer
-addrOutcome (AddrOutcome.Refused why) l buffer = refused why buffer
+addrOutcome (AddrOutcome.Refused why) l buffer = callRefused why buffer
 
 abbrev pub addrFound : AddrAnswer → List ℕ → Answered
 addrFound a buffer = addrOutcome (a .outcome) (a .layout) buffer
 
 -- `onerom_derive_addr_layout` of a record's bytes and a lent buffer
 unfoldable pub addrCall : List ℕ → List ℕ → Answered
-addrCall description buffer = described (λ d. addrFound (addrAnswer d) buffer) (λ why. refused why buffer) (decodedOf description)
+addrCall description buffer = ifRecord (λ d. addrFound (addrAnswer d) buffer) (λ why. callRefused why buffer) (decodedOf description)
 
 abbrev pub csDataOutcome : CsDataOutcome → CsDataLayout → List ℕ → Answered
 csDataOutcome CsDataOutcome.LaidOut l buffer = written csDataSize (csDataBytes l) buffer
-csDataOutcome (CsDataOutcome.Refused why) l buffer = refused why buffer
+csDataOutcome (CsDataOutcome.Refused why) l buffer = callRefused why buffer
 
 abbrev pub csDataFound : CsDataAnswer → List ℕ → Answered
 csDataFound a buffer = csDataOutcome (a .outcome) (a .layout) buffer
@@ -77,8 +77,8 @@ csDataFound a buffer = csDataOutcome (a .outcome) (a .layout) buffer
 unfoldable pub csDataCall : List ℕ → List ℕ → List ℕ → Answered
 csDataCall description layout buffer =
     cond (givenFormed layout)
-    (described (λ d. csDataFound (csDataAnswer d (givenAt layout)) buffer) (λ why. refused why buffer) (decodedOf description))
-    (refused OutOfDomain buffer)
+    (ifRecord (λ d. csDataFound (csDataAnswer d (givenAt layout)) buffer) (λ why. callRefused why buffer) (decodedOf description))
+    (callRefused OutOfDomain buffer)
 
 -- a build says itself what its table holds
 abbrev pub buildResult : BuildAnswer → ℕ
@@ -99,8 +99,8 @@ buildFrom d addr csData spans images table = buildFound (buildOf d (layoutAt add
 unfoldable pub buildCall : List ℕ → List ℕ → List ℕ → List ℕ → List ℕ → List ℕ → Answered
 buildCall description addr csData spans images table =
     cond (buildFormed addr csData spans)
-    (described (λ d. buildFrom d addr csData spans images table) (λ why. refused why table) (decodedOf description))
-    (refused OutOfDomain table)
+    (ifRecord (λ d. buildFrom d addr csData spans images table) (λ why. callRefused why table) (decodedOf description))
+    (callRefused OutOfDomain table)
 
 -- 01 Shape 2: read-back is lent two buffers, an output for all chips and the marks of their words
 pub record ReadAnswered : Type 0 where
@@ -124,7 +124,7 @@ readFrom slot stored output marks = readFound (unscrambled (storedAt slot) store
 
 -- `onerom_unscramble_slot` of a stored slot's bytes, of its table, and of two lent buffers
 -- 01 Number 1: the bytes are no stored slot record
--- 01 Numbers 2: such bytes are refused before anything is done with a slot
+-- 01 Numbers 2: such bytes are callRefused before anything is done with a slot
 unfoldable pub readBackCall : List ℕ → List ℕ → List ℕ → List ℕ → ReadAnswered
 readBackCall slot stored output marks =
     cond (storedFormed slot)
@@ -154,5 +154,5 @@ tripFrom d spans images table output marks = tripFound (roundTripOf d images (sp
 unfoldable pub tripCall : List ℕ → List ℕ → List ℕ → List ℕ → List ℕ → List ℕ → TripAnswered
 tripCall description spans images table output marks =
     cond (spansFormed spans)
-    (described (λ d. tripFrom d spans images table output marks) (λ why. tripRefused why table output marks) (decodedOf description))
+    (ifRecord (λ d. tripFrom d spans images table output marks) (λ why. tripRefused why table output marks) (decodedOf description))
     (tripRefused OutOfDomain table output marks)

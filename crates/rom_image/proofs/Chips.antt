@@ -11,15 +11,15 @@ use lib.ListN.{length, getD, length-take, length-drop}
 use borrow.Author.Tests.{ltb-true, le-ltb}
 use Rattle.words.specs.Words.{wordFrom, word}
 use Rattle.words.proofs.Words.{word-part, words-room}
-use Rattle.table_fill.specs.Entries.{SourceIn, rawFrom}
+use Rattle.table_fill.specs.design.Entries.{SourceIn, rawFrom}
 use Rattle.slot.specs.Description.{noChip}
 use Rattle.slot.specs.declared.description.Description.{Description}
-use Rattle.build_args.specs.Images.{spanAt, chipBytes}
+use Rattle.build_args.specs.Images.{chipSpan, chipBytes}
 use Rattle.build_args.specs.declared.images.ImageSpan.{ImageSpan}
 use Rattle.picks.specs.declared.Picked.{Picked}
 use Rattle.picks.specs.declared.Picked.the-variants.{NoChip, Chip}
 use Rattle.rom_image.specs.Entry.{wordCount, powerOfTwo, padOf, wordOf}
-use Rattle.rom_image.specs.Wiring.{sourceOf}
+use Rattle.rom_image.specs.design.Wiring.{sourceOf}
 
 pub power-some : (n : ℕ) → powerOfTwo n ≡ true → 0 < n
 unfolding ones onesIn
@@ -51,17 +51,17 @@ module _ (images : List ℕ) (span : ImageSpan) (w size : ℕ) (fits : size ≤ 
 module _ (d : Description) (images : List ℕ) (spans : List ImageSpan) where
   -- the chip that is picked has its bytes
   abbrev pub Lent : Picked → Type 0
-  Lent p = (k : ℕ) → p ≡ Chip k → getD (d .chips) k noChip .size ≤ length (chipBytes images (spanAt spans k))
+  Lent p = (k : ℕ) → p ≡ Chip k → getD (d .chips) k noChip .size ≤ length (chipBytes images (chipSpan spans k))
 
   pub raw-word : (p : Picked) (n : ℕ) → Lent p → rawFrom images (d .«word_bytes») (sourceOf d spans p) (padOf d) n ≡ wordOf d images spans p n
   raw-word NoChip n h = rw (le-ltb n 0 (omega arith))
   raw-word (Chip k) n h =
-      chip-raw images (spanAt spans k) (d .«word_bytes») (getD (d .chips) k noChip .size) (h k refl) (padOf d) n
+      chip-raw images (chipSpan spans k) (d .«word_bytes») (getD (d .chips) k noChip .size) (h k refl) (padOf d) n
       (ltb n (wordCount d k)) (powerOfTwo (wordCount d k)) refl refl
 
   pub source-in : (p : Picked) → 1 ≤ d .«word_bytes» → Lent p → SourceIn images (d .«word_bytes») (sourceOf d spans p)
   source-in NoChip b h = record { within = λ n l. absurd (omega arith); some = λ e. let z : _≡_ {A = ℕ} 0 1 = cc in omega arith }
   source-in (Chip k) b h = record {
-    within = λ n l. chip-within images (spanAt spans k) (d .«word_bytes») (getD (d .chips) k noChip .size) (h k refl) n b l;
+    within = λ n l. chip-within images (chipSpan spans k) (d .«word_bytes») (getD (d .chips) k noChip .size) (h k refl) n b l;
     some = power-some (wordCount d k);
   }

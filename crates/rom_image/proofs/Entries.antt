@@ -11,7 +11,7 @@ use Rattle.bits.specs.Bits.{gather}
 use Rattle.bits.proofs.Gathered.{gather-lt, gather-cong}
 use Rattle.bits.proofs.Scattered.{scatter-cong}
 use Rattle.words.proofs.Words.{words-cong}
-use Rattle.table_fill.specs.Entries.{WiringIn, SourcesIn, partOf, scrambledBy, noSource, entryBy, tableBy}
+use Rattle.table_fill.specs.design.Entries.{WiringIn, SourcesIn, partOf, scrambledBy, noSource, entryBy, tableBy}
 use Rattle.slot.specs.declared.description.Description.{Description}
 use Rattle.addr_layout.specs.declared.layout.AddrLayout.{AddrLayout}
 use Rattle.cs_data_layout.specs.declared.layout.CsDataLayout.{CsDataLayout}
@@ -20,8 +20,8 @@ use Rattle.build_args.specs.Picks.{numPicks, pickPosition, picked}
 use Rattle.build_args.specs.Faults.{entriesOf, tableSize}
 use Rattle.build_args.specs.declared.images.ImageSpan.{ImageSpan}
 use Rattle.picks.proofs.Picking.{picks-three, picked-below}
-use Rattle.rom_image.specs.Entry.{chipAddress, pickedAt, padOf, scrambled, entryAt, tableOf}
-use Rattle.rom_image.specs.Wiring.{wiringOf, sourceOf, sourcesOf}
+use Rattle.rom_image.specs.Entry.{chipAddress, chipPicked, padOf, scrambled, entryAt, tableOf}
+use Rattle.rom_image.specs.design.Wiring.{wiringOf, sourceOf, sourcesOf}
 use Rattle.rom_image.proofs.Buildable.{Buildable}
 use Rattle.rom_image.proofs.Chips.{Lent, raw-word, source-in}
 
@@ -65,7 +65,7 @@ module _ (d : Description) (a : AddrLayout) (c : CsDataLayout) (images : List �
 
   -- the entry at an index, and the table
   pub entry-is : (i : ℕ) → entryBy (wiringOf d a c) (sourcesOf d spans) (padOf d) images i ≡ entryAt d a c images spans i
-  unfolding wiringOf entryBy entryAt pickedAt
+  unfolding wiringOf entryBy entryAt chipPicked
   entry-is i =
       let few = gather-lt (numPicks d) (pickPosition d a c) i in
       rw (picks-are i, address-is i, source-at _ few, raw-word d images spans _ (chipAddress a i) (picked-lent _ few)) (scrambled-is _)

@@ -17,9 +17,9 @@ use Rattle.refusal.specs.declared.Refusal.the-variants.{RomTableTooLarge, Inval
 use Rattle.refusal.specs.declared.first.FirstFault.the-variants.{None}
 use Rattle.addr_layout.specs.declared.layout.AddrLayout.{AddrLayout}
 use Rattle.cs_data_layout.specs.declared.layout.CsDataLayout.{CsDataLayout}
-use Rattle.build_args.specs.Images.{spanAt, chipBytes}
-use Rattle.build_args.specs.Domain.{inDomain}
-use Rattle.build_args.specs.Faults.{entriesOf, tableSize, tooLarge, tooShort, addressIn, picksIn, linesIn, missingAt, shortAt, linesFault, lentFault, buildFault}
+use Rattle.build_args.specs.Images.{chipSpan, chipBytes}
+use Rattle.build_args.specs.Domain.{buildIn}
+use Rattle.build_args.specs.Faults.{entriesOf, tableSize, tableTooLarge, tooShort, addressIn, picksIn, dataPositionsIn, missingAt, shortAt, linesFault, lentFault, buildFault}
 use Rattle.picks.specs.Picks.{chipsFit}
 use Rattle.refusal.specs.First.{faultIf, firstOf}
 use Rattle.build_args.specs.declared.images.ImageSpan.{ImageSpan}
@@ -46,22 +46,22 @@ pins-of p true e h = ltb-true p 32 e
 pins-of p false e h = let b = pow-mono {i = 32} {j = p} (ltb-false p 32 e) in absurd (omega arith)
 
 module _ (d : Description) (a : AddrLayout) (c : CsDataLayout) (images : List ℕ) (spans : List ImageSpan) (room : ℕ)
-    (e : inDomain d a c ≡ true) (f : buildFault d a c images spans room ≡ None) where
-  past-large : faultIf (tooLarge d a) RomTableTooLarge ≡ None
+    (e : buildIn d a c ≡ true) (f : buildFault d a c images spans room ≡ None) where
+  past-large : faultIf (tableTooLarge d a) RomTableTooLarge ≡ None
   unfolding buildFault
-  past-large = or-left (faultIf (tooLarge d a) RomTableTooLarge) _ f
+  past-large = or-left (faultIf (tableTooLarge d a) RomTableTooLarge) _ f
 
   past-lines : linesFault d a c ≡ None
   unfolding buildFault
-  past-lines = or-left (linesFault d a c) (lentFault d a images spans room) (or-right (faultIf (tooLarge d a) RomTableTooLarge) _ f)
+  past-lines = or-left (linesFault d a c) (lentFault d a images spans room) (or-right (faultIf (tableTooLarge d a) RomTableTooLarge) _ f)
 
   past-lent : lentFault d a images spans room ≡ None
   unfolding buildFault
-  past-lent = or-right (linesFault d a c) (lentFault d a images spans room) (or-right (faultIf (tooLarge d a) RomTableTooLarge) _ f)
+  past-lent = or-right (linesFault d a c) (lentFault d a images spans room) (or-right (faultIf (tableTooLarge d a) RomTableTooLarge) _ f)
 
   pub table-small : tableSize d a ≤ 2 ^ 20
   table-small =
-      omega (arith, ltb-false (d .«max_image_size») (tableSize d a) (none-bad (tooLarge d a) RomTableTooLarge past-large), image-size d (described d a c e) .1)
+      omega (arith, ltb-false (d .«max_image_size») (tableSize d a) (none-bad (tableTooLarge d a) RomTableTooLarge past-large), image-size d (described d a c e) .1)
 
   pub entries-few : entriesOf a ≤ 2 ^ 20
   entries-few = entries-of (entriesOf a) (d .«word_bytes») (2 ^ 20) (word-bytes d (described d a c e) .0) table-small
@@ -74,16 +74,16 @@ module _ (d : Description) (a : AddrLayout) (c : CsDataLayout) (images : List �
       ltb-false room (tableSize d a)
       (none-bad (tooShort d a room) ShortBuffer (or-right (firstOf (d .«num_chips») (shortAt d images spans)) _ (or-right (firstOf (d .«num_chips») (missingAt spans)) _ past-lent)))
 
-  bytes-lent : (k : ℕ) → k < d .«num_chips» → getD (d .chips) k noChip .size ≤ length (chipBytes images (spanAt spans k))
+  bytes-lent : (k : ℕ) → k < d .«num_chips» → getD (d .chips) k noChip .size ≤ length (chipBytes images (chipSpan spans k))
   bytes-lent k l =
-      ltb-false (length (chipBytes images (spanAt spans k))) (getD (d .chips) k noChip .size)
+      ltb-false (length (chipBytes images (chipSpan spans k))) (getD (d .chips) k noChip .size)
       (none-bad _ _ (first-all (shortAt d images spans) (d .«num_chips») (or-left (firstOf (d .«num_chips») (shortAt d images spans)) _ (or-right (firstOf (d .«num_chips») (missingAt spans)) _ past-lent)) k l))
 
   chips-right : chipsFit (d .«set_type») (d .«num_chips») ≡ true
   chips-right =
       not-false _
       (none-bad (not (chipsFit (d .«set_type») (d .«num_chips»))) InvalidConfig
-      (or-left (faultIf (not (chipsFit (d .«set_type») (d .«num_chips»))) InvalidConfig) (faultIf (not (picksIn d a c && linesIn c)) BadPosition)
+      (or-left (faultIf (not (chipsFit (d .«set_type») (d .«num_chips»))) InvalidConfig) (faultIf (not (picksIn d a c && dataPositionsIn c)) BadPosition)
       (or-right (faultIf (not (addressIn a)) BadPosition) _ past-lines)))
 
   pub buildable : Buildable d a c images spans

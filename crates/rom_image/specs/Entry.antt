@@ -11,7 +11,7 @@ use Rattle.slot.specs.Description.{noChip}
 use Rattle.slot.specs.declared.description.Description.{Description}
 use Rattle.addr_layout.specs.declared.layout.AddrLayout.{AddrLayout}
 use Rattle.cs_data_layout.specs.declared.layout.CsDataLayout.{CsDataLayout}
-use Rattle.build_args.specs.Images.{spanAt, chipBytes}
+use Rattle.build_args.specs.Images.{chipSpan, chipBytes}
 use Rattle.build_args.specs.Positions.{linePosition, dataPosition}
 use Rattle.build_args.specs.Picks.{numPicks, pickPosition, picked}
 use Rattle.build_args.specs.Faults.{entriesOf}
@@ -24,8 +24,8 @@ unfoldable pub chipAddress : AddrLayout → ℕ → ℕ
 chipAddress a i = gather (a .«num_lines») (linePosition a) i
 
 -- the chip that an index picks
-unfoldable pub pickedAt : Description → AddrLayout → CsDataLayout → ℕ → Picked
-pickedAt d a c i = picked d (gather (numPicks d) (pickPosition d a c) i)
+unfoldable pub chipPicked : Description → AddrLayout → CsDataLayout → ℕ → Picked
+chipPicked d a c i = picked d (gather (numPicks d) (pickPosition d a c) i)
 
 -- a chip's words: its size in bytes by the bytes of a word
 abbrev pub wordCount : Description → ℕ → ℕ
@@ -54,7 +54,7 @@ padOf d = padWord (d .«word_bytes») padByte
 abbrev pub wordOf : Description → List ℕ → List ImageSpan → Picked → ℕ → ℕ
 wordOf d images spans NoChip n = padOf d
 wordOf d images spans (Chip k) n =
-    wordOrPad (padOf d) (wordCount d k) (λ m. word (d .«word_bytes») (chipBytes images (spanAt spans k)) m) n
+    wordOrPad (padOf d) (wordCount d k) (λ m. word (d .«word_bytes») (chipBytes images (chipSpan spans k)) m) n
 
 -- 01 rom_image 8: each data line carries its bit of the word to its position; where several meet the bits are or-ed, and a bit for
 -- position 8w or above is dropped
@@ -64,7 +64,7 @@ scrambled d c v = scatter (c .«num_data_pins») (dataPosition c) (8 * d .«word
 -- the entry at an index
 -- 01 rom_image 6: a pad is scrambled as a word is
 unfoldable pub entryAt : Description → AddrLayout → CsDataLayout → List ℕ → List ImageSpan → ℕ → ℕ
-entryAt d a c images spans i = scrambled d c (wordOf d images spans (pickedAt d a c i) (chipAddress a i))
+entryAt d a c images spans i = scrambled d c (wordOf d images spans (chipPicked d a c i) (chipAddress a i))
 
 -- 01 rom_image 1: the table is its 2^pins entries in index order
 -- 01 rom_image 9: an entry's lowest byte is written first

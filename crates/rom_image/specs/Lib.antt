@@ -1,3 +1,3 @@
 pub mod Entry
 pub mod Build
-pub mod Wiring
+pub mod design

@@ -9,7 +9,7 @@ use table_fill::sources::Source;
 ghost use mathlib.Core.Path.{_≡_};
 ghost use Prim.Native.Nat.{_≤_};
 ghost use Rattle.rom_image.specs.Entry.{wordCount};
-ghost use Rattle.rom_image.specs.Wiring.{sourceOf, sourcesOf};
+ghost use Rattle.rom_image.specs.design.Wiring.{sourceOf, sourcesOf};
 
 fn word_count(d: Description, k: u8) -> u32
     requires { ⌜ 1 ≤ d .«word_bytes» ⌝ }

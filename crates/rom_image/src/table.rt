@@ -12,7 +12,7 @@ ghost use mathlib.Core.List.{_++_};
 ghost use mathlib.Core.Bool.{true};
 ghost use lib.ListN.{length, drop};
 ghost use Rattle.refusal.specs.declared.first.FirstFault.the-variants.{None};
-ghost use Rattle.build_args.specs.Domain.{inDomain};
+ghost use Rattle.build_args.specs.Domain.{buildIn};
 ghost use Rattle.build_args.specs.Faults.{tableSize, buildFault};
 ghost use Rattle.rom_image.specs.Entry.{tableOf};
 
@@ -25,7 +25,7 @@ pub fn fill(
     spans: [ImageSpan; 4],
     table: &mut [u8],
 )
-    requires { ⌜ (inDomain d a c ≡ true) × (buildFault d a c (now images) spans (length (now table)) ≡ None) ⌝ }
+    requires { ⌜ (buildIn d a c ≡ true) × (buildFault d a c (now images) spans (length (now table)) ≡ None) ⌝ }
     ensures { λ _. ⌜ now (table .exit) ≡ tableOf d a c (now (images .entry)) spans ++ drop (tableSize d a) (now (table .entry)) ⌝ }
 {
     let pad = pad_word(d.word_bytes as usize, 0xAA);

@@ -13,7 +13,7 @@ ghost use Prim.Native.Nat.{_≤_};
 ghost use Rattle.lists.specs.Tab.{tab};
 ghost use Rattle.build_args.specs.Positions.{dataBase, linePosition, dataPosition};
 ghost use Rattle.build_args.specs.Picks.{pickPosition};
-ghost use Rattle.rom_image.specs.Wiring.{wiringOf};
+ghost use Rattle.rom_image.specs.design.Wiring.{wiringOf};
 
 fn address_positions(a: AddrLayout) -> [u8; 24]
     ensures { λ r. ⌜ r ≡ tab 24 (linePosition a) ⌝ }

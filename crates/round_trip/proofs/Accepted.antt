@@ -57,16 +57,16 @@ module _ (d : Description) (a : AddrLayout) (c : CsDataLayout) (s : StoredSlot) 
   layout-none : (table : List ℕ) → length table ≡ tableSize d a → layoutFault s table ≡ None
   unfolding layoutFault
   layout-none table e =
-      let same : length table ≡ 2 ^ stored.pinsOf s * stored.wordBytes s = e ∙ sym (rw (g .pins, g .word-bytes)) in
+      let same : length table ≡ 2 ^ stored.storedPins s * stored.wordBytes s = e ∙ sym (rw (g .pins, g .word-bytes)) in
       rw (
         g .layout,
         eq-eqb (s .«alg_addr» .alg) 0 (g .alg-addr),
         le-ltb 255 (stored.addrBase s) (omega (arith, g .addr-base, small .base)),
         le-ltb 1 (s .«alg_data» .alg) (g .alg-data),
-        le-ltb 255 (stored.dataBase s) (omega (arith, g .data-base, small .data-base)),
+        le-ltb 255 (stored.storedDataBase s) (omega (arith, g .data-base, small .data-base)),
         eq-eqb (s .«alg_dma» .alg) 0 (g .alg-dma),
         le-ltb 1 (s .«alg_dma» .«bit_mode») (omega (arith, g .word-bytes, small .bytes)),
-        lt-leb 32 (stored.pinsOf s) (omega (arith, g .pins, small .pins)),
+        lt-leb 32 (stored.storedPins s) (omega (arith, g .pins, small .pins)),
         eq-eqb (length table) _ same,
       )
 
@@ -81,7 +81,7 @@ module _ (d : Description) (a : AddrLayout) (c : CsDataLayout) (s : StoredSlot) 
         let used : n < a .«num_lines» = omega (arith, rom .lines, m) in
         is-window d a c s g _ (subst (InWindow a) (sym (rom .line n used)) (sound .line-window n used)))
 
-    data-inside : each (stored.dataLines (stored.romAt s k)) (λ n. stored.within (stored.dataBase s) (8 * stored.wordBytes s) (getD (stored.romAt s k .«data_lines») n 0)) ≡ true
+    data-inside : each (stored.dataLines (stored.romAt s k)) (λ n. stored.within (stored.storedDataBase s) (8 * stored.wordBytes s) (getD (stored.romAt s k .«data_lines») n 0)) ≡ true
     data-inside = each-all _ _ (λ n m.
         let used : n < c .«num_data_pins» = omega (arith, rom .data-lines, m) in
         rw (rom .data-line n used, g .data-base, g .word-bytes, le-leb _ _ (above n used), lt-ltb _ _ (told .data-in n used)))
@@ -137,15 +137,15 @@ module _ (d : Description) (a : AddrLayout) (c : CsDataLayout) (s : StoredSlot) 
     xs-none m = both-none _ _ (x1-none m) (x2-none m (leb 3 (s .«num_roms»)) refl)
 
     -- in Multi the select is in the window
-    select-none : isMulti (d .«set_type») ≡ true → InWindow a (stored.selectGpio s) → selectFault s ≡ None
+    select-none : isMulti (d .«set_type») ≡ true → InWindow a (stored.storedSelect s) → selectFault s ≡ None
     select-none m w =
         rw (
           eq-eqb (s .«alg_cs» .alg) 0 (g .alg-cs m),
-          le-ltb 255 (stored.selectGpio s) (omega (arith, w .1, small .base, small .pins)),
-          is-window d a c s g (stored.selectGpio s) w,
+          le-ltb 255 (stored.storedSelect s) (omega (arith, w .1, small .base, small .pins)),
+          is-window d a c s g (stored.storedSelect s) w,
         )
 
-    pick-none : (t : ChipSetType) → d .«set_type» ≡ t → (isMulti (d .«set_type») ≡ true → InWindow a (stored.selectGpio s)) → pickFault s t ≡ None
+    pick-none : (t : ChipSetType) → d .«set_type» ≡ t → (isMulti (d .«set_type») ≡ true → InWindow a (stored.storedSelect s)) → pickFault s t ≡ None
     pick-none Single e w = refl
     pick-none Banked e w = xs-none (ap isSingle e)
     pick-none Multi e w = both-none _ _ (xs-none (ap isSingle e)) (select-none (ap isMulti e) (w (ap isMulti e)))
@@ -156,7 +156,7 @@ module _ (d : Description) (a : AddrLayout) (c : CsDataLayout) (s : StoredSlot) 
     -- no refusal before the entries
     pub none-refused : (table : List ℕ) (output marks : ℕ) → length table ≡ tableSize d a → ToldApart d a c
         → ((n : ℕ) → n < c .«num_data_pins» → dataBase c ≤ getD (c .«data_pin_gpios») n 0)
-        → chipsFit (d .«set_type») (d .«num_chips») ≡ true → (isMulti (d .«set_type») ≡ true → InWindow a (stored.selectGpio s))
+        → chipsFit (d .«set_type») (d .«num_chips») ≡ true → (isMulti (d .«set_type») ≡ true → InWindow a (stored.storedSelect s))
         → allWords s * stored.wordBytes s ≤ output → allWords s ≤ marks → romsFault s (d .«set_type») table output marks ≡ None
     unfolding romsFault
     none-refused table output marks e told above fit w o m =

@@ -20,12 +20,12 @@ use Rattle.stored_slot.specs.declared.stored.StoredSlot.{StoredSlot}
 pub record Fitted (d : Description) (a : AddrLayout) (c : CsDataLayout) (s : StoredSlot) : Type 0 where
   pub chips : s .«num_roms» ≡ d .«num_chips»
   pub bytes : stored.wordBytes s ≡ d .«word_bytes»
-  pub pins : stored.pinsOf s ≡ a .«num_addr_pins»
+  pub pins : stored.storedPins s ≡ a .«num_addr_pins»
   pub size : (k : ℕ) → k < d .«num_chips» → stored.romAt s k .«chip_size» ≡ getD (d .chips) k noChip .size
   pub lines : (k : ℕ) → k < d .«num_chips» → stored.addrLines (stored.romAt s k) ≡ a .«num_lines»
   pub line : (k n : ℕ) → k < d .«num_chips» → n < a .«num_lines» → stored.addrPosition s k n ≡ linePosition a n
-  pub data-line : (k n : ℕ) → k < d .«num_chips» → n < c .«num_data_pins» → stored.dataPosition s k n ≡ dataPosition c n
-  pub pick : (k : ℕ) → k < numPicks d → sizes.pickPosition s (d .«set_type») k ≡ pickPosition d a c k
+  pub data-line : (k n : ℕ) → k < d .«num_chips» → n < c .«num_data_pins» → stored.storedDataPosition s k n ≡ dataPosition c n
+  pub pick : (k : ℕ) → k < numPicks d → sizes.storedPickPosition s (d .«set_type») k ≡ pickPosition d a c k
   pub unforced : (i : ℕ) → stored.free s i ≡ true
 
 -- the index's lines: those in use, then those that pick

@@ -39,14 +39,14 @@ module _ (d : Description) (a : AddrLayout) (c : CsDataLayout) (s : StoredSlot) 
   -- the window as a test
   pub window-is : (h : ℕ) → stored.inWindow s h ≡ true → InWindow a h
   window-is h e =
-      let l = leb-true (stored.addrBase s) h (and-left (leb (stored.addrBase s) h) (ltb (h - stored.addrBase s) (stored.pinsOf s)) e) in
-      let m = ltb-true (h - stored.addrBase s) (stored.pinsOf s) (and-right (leb (stored.addrBase s) h) (ltb (h - stored.addrBase s) (stored.pinsOf s)) e) in
+      let l = leb-true (stored.addrBase s) h (and-left (leb (stored.addrBase s) h) (ltb (h - stored.addrBase s) (stored.storedPins s)) e) in
+      let m = ltb-true (h - stored.addrBase s) (stored.storedPins s) (and-right (leb (stored.addrBase s) h) (ltb (h - stored.addrBase s) (stored.storedPins s)) e) in
       (omega (arith, g .addr-base, l), omega (arith, g .addr-base, g .pins, l, m))
 
   pub is-window : (h : ℕ) → InWindow a h → stored.inWindow s h ≡ true
   is-window h w =
       let l : stored.addrBase s ≤ h = omega (arith, g .addr-base, w .0) in
-      let m : h - stored.addrBase s < stored.pinsOf s = omega (arith, g .addr-base, g .pins, w .0, w .1) in
+      let m : h - stored.addrBase s < stored.storedPins s = omega (arith, g .addr-base, g .pins, w .0, w .1) in
       rw (le-leb _ _ l, lt-ltb _ _ m)
 
   -- the X pin's GPIO that read-back takes is the layout's
@@ -86,13 +86,13 @@ module _ (d : Description) (a : AddrLayout) (c : CsDataLayout) (s : StoredSlot) 
     multi-position : isMulti (d .«set_type») ≡ true → isSingle (d .«set_type») ≡ false → (k : ℕ) → k < 1 + xLines (d .«num_chips»)
         → sizes.pickGpio s Multi k - stored.addrBase s ≡ xPosition (a .«gpio_base») (pickOf Multi a c k)
     multi-position m o zero l =
-        ap (λ (v : ℕ). stored.selectGpio s - v) (g .addr-base) ∙ ap (xPosition (a .«gpio_base»)) (sym (g .select m))
+        ap (λ (v : ℕ). stored.storedSelect s - v) (g .addr-base) ∙ ap (xPosition (a .«gpio_base»)) (sym (g .select m))
     multi-position m o (suc k) l =
         x-position o k (omega arith)
         ∙ ap (xPosition (a .«gpio_base»)) (sym (later-pick k))
 
     pick-position : (t : ChipSetType) → d .«set_type» ≡ t → (k : ℕ) → k < picksOf t (d .«num_chips»)
-        → sizes.pickPosition s t k ≡ xPosition (a .«gpio_base») (pickOf t a c k)
+        → sizes.storedPickPosition s t k ≡ xPosition (a .«gpio_base») (pickOf t a c k)
     pick-position Single e k l = absurd (omega arith)
     pick-position Banked e k l = x-position (ap isSingle e) k l
     pick-position Multi e k l = multi-position (ap isMulti e) (ap isSingle e) k l
@@ -105,7 +105,7 @@ module _ (d : Description) (a : AddrLayout) (c : CsDataLayout) (s : StoredSlot) 
 
     free-index : (i : ℕ) → stored.free s i ≡ true
     unfolding stored.free
-    free-index i = each-all _ (stored.pinsOf s) (λ p l.
+    free-index i = each-all _ (stored.storedPins s) (λ p l.
         let u = g .unforced (stored.addrBase s + p) (omega (arith, g .addr-base), omega (arith, g .addr-base, g .pins, l)) in
         free-bit p (bit i p) _ _ (u .1) (u .0))
 
@@ -117,7 +117,7 @@ module _ (d : Description) (a : AddrLayout) (c : CsDataLayout) (s : StoredSlot) 
       size = λ k l. g .rom k l .size;
       lines = λ k l. g .rom k l .lines;
       line = λ k n l m. ap (λ (v : ℕ). v - stored.addrBase s) (g .rom k l .line n m) ∙ ap (λ (v : ℕ). getD (a .gpios) n 0 - v) (g .addr-base);
-      data-line = λ k n l m. ap (λ (v : ℕ). v - stored.dataBase s) (g .rom k l .data-line n m) ∙ ap (λ (v : ℕ). getD (c .«data_pin_gpios») n 0 - v) (g .data-base);
+      data-line = λ k n l m. ap (λ (v : ℕ). v - stored.storedDataBase s) (g .rom k l .data-line n m) ∙ ap (λ (v : ℕ). getD (c .«data_pin_gpios») n 0 - v) (g .data-base);
       pick = λ k l. pick-position (d .«set_type») refl k l;
       unforced = free-index;
     }

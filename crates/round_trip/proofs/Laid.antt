@@ -21,7 +21,7 @@ use Rattle.addr_layout.proofs.Sound as addr-sound
 use Rattle.addr_layout.specs.declared.layout.AddrLayout.{AddrLayout}
 use Rattle.addr_layout.specs.declared.layout.AddrOutcome.{AddrOutcome}
 use Rattle.addr_layout.specs.declared.layout.AddrAnswer.{AddrAnswer}
-use Rattle.cs_pins.specs.Pins.{numbered, inDomain}
+use Rattle.cs_pins.specs.Pins.{numbered, csSearchIn}
 use Rattle.cs_data_layout.specs.Layout as cs-layout
 use Rattle.cs_data_layout.specs.Choices as cs-choices
 use Rattle.cs_data_layout.specs.Search as cs-search
@@ -41,7 +41,7 @@ laid : AddrOutcome → ℕ
 laid AddrOutcome.LaidOut = 1
 laid (AddrOutcome.Refused why) = 0
 
-refused-not-laid : (why : Refusal) (l : AddrLayout) → addr-layout.refusedFor why ≡ laidOut l → ⊥
+refused-not-laid : (why : Refusal) (l : AddrLayout) → addr-layout.addrRefused why ≡ laidOut l → ⊥
 unfolding laid
 refused-not-laid why l e = let z : _≡_ {A = ℕ} 0 1 = ap (λ (r : AddrAnswer). laid (r .outcome)) e in omega arith
 
@@ -49,10 +49,10 @@ refused-not-laid why l e = let z : _≡_ {A = ℕ} 0 1 = ap (λ (r : AddrAnswer)
 pub record Found-at (d : Description) (l : AddrLayout) : Type 0 where
   pub choice : ℕ
   pub sound : addr.Sound d choice
-  pub is : l ≡ addr-choices.layoutOf d (addrListed d) choice
+  pub is : l ≡ addr-choices.addrLayoutOf d (addrListed d) choice
 
 module _ (d : Description) (l : AddrLayout) where
-  by-found : addr.PastTests d → (f : Found) → addr-search.addrBest d ≡ f → addr-search.answerOf d f ≡ laidOut l → Found-at d l
+  by-found : addr.PastTests d → (f : Found) → addr-search.addrBest d ≡ f → addr-search.addrAnswerOf d f ≡ laidOut l → Found-at d l
   unfolding addr-search.addrBest
   by-found past Nothing q e = absurd (refused-not-laid NoValidLayout l e)
   by-found past (At c s) q e = record {
@@ -61,17 +61,17 @@ module _ (d : Description) (l : AddrLayout) where
     is = sym (ap (λ (r : AddrAnswer). r .layout) e);
   }
 
-  by-fault : addr-search.inDomain d ≡ true → (f : FirstFault) → firstFault (addrListed d) ≡ f → addr-search.afterFaults d f ≡ laidOut l → Found-at d l
+  by-fault : addr-search.addrSearchIn d ≡ true → (f : FirstFault) → firstFault (addrListed d) ≡ f → addr-search.afterFaults d f ≡ laidOut l → Found-at d l
   by-fault i (Of why) q e = absurd (refused-not-laid why l e)
   by-fault i None q e = by-found (record { domain = i; no-fault = q }) (addr-search.addrBest d) refl e
 
-  by-domain : (t : Bool) → addr-search.inDomain d ≡ t
-      → cond t (addr-search.afterFaults d (firstFault (addrListed d))) (addr-layout.refusedFor OutOfDomain) ≡ laidOut l → Found-at d l
+  by-domain : (t : Bool) → addr-search.addrSearchIn d ≡ t
+      → cond t (addr-search.afterFaults d (firstFault (addrListed d))) (addr-layout.addrRefused OutOfDomain) ≡ laidOut l → Found-at d l
   by-domain false q e = absurd (refused-not-laid OutOfDomain l e)
   by-domain true q e = by-fault q (firstFault (addrListed d)) refl e
 
   pub addr-found : addr-search.addrAnswer d ≡ laidOut l → Found-at d l
-  addr-found e = by-domain (addr-search.inDomain d) refl e
+  addr-found e = by-domain (addr-search.addrSearchIn d) refl e
 
 -- the select search
 abbrev pub csLaidOut : CsDataLayout → CsDataAnswer
@@ -81,7 +81,7 @@ cs-laid : CsDataOutcome → ℕ
 cs-laid CsDataOutcome.LaidOut = 1
 cs-laid (CsDataOutcome.Refused why) = 0
 
-cs-refused-not-laid : (why : Refusal) (l : CsDataLayout) → cs-layout.refusedFor why ≡ csLaidOut l → ⊥
+cs-refused-not-laid : (why : Refusal) (l : CsDataLayout) → cs-layout.csDataRefused why ≡ csLaidOut l → ⊥
 unfolding cs-laid
 cs-refused-not-laid why l e = let z : _≡_ {A = ℕ} 0 1 = ap (λ (r : CsDataAnswer). cs-laid (r .outcome)) e in omega arith
 
@@ -94,19 +94,19 @@ module _ (d : Description) (g : GivenLayout) (l : CsDataLayout) where
   cs-by-best past e =
       let f = cs-law.laid-fits d g past (ap (λ (r : CsDataAnswer). r .outcome) e) in
       let fits = cs-law.scores-fit (cs.verdictAt d g (f .0)) (f .1) (f .2 .best .fits) in
-      let same : cs-choices.layoutOf d (cs-layout.handed g) (numbered d) (f .0) ≡ l = ap (λ (r : CsDataAnswer). r .layout) (sym (f .2 .answer) ∙ e) in
+      let same : cs-choices.csDataLayoutOf d (cs-layout.handed g) (numbered d) (f .0) ≡ l = ap (λ (r : CsDataAnswer). r .layout) (sym (f .2 .answer) ∙ e) in
       record { choice = f .0; sound = subst (λ (x : CsDataLayout). cs.SoundLayout d (f .0) x) same (cs-sound.sound d g past (f .0) (f .1) fits .layout) }
 
-  cs-by-fault : (inDomain d && cs-search.givenIn d g) ≡ true → (f : FirstFault) → cs-search.earlier d g ≡ f
+  cs-by-fault : (csSearchIn d && cs-search.givenIn d g) ≡ true → (f : FirstFault) → cs-search.earlier d g ≡ f
       → cs-search.afterEarlier d (cs-layout.handed g) f ≡ csLaidOut l → cs-search.csDataAnswer d g ≡ csLaidOut l → Cs-found-at d l
   cs-by-fault i (Of why) q e a = absurd (cs-refused-not-laid why l e)
   cs-by-fault i None q e a = cs-by-best (record { domain = i; no-fault = q }) a
 
-  cs-by-domain : (t : Bool) → (inDomain d && cs-search.givenIn d g) ≡ t
-      → cond t (cs-search.afterEarlier d (cs-layout.handed g) (cs-search.earlier d g)) (cs-layout.refusedFor OutOfDomain) ≡ csLaidOut l
+  cs-by-domain : (t : Bool) → (csSearchIn d && cs-search.givenIn d g) ≡ t
+      → cond t (cs-search.afterEarlier d (cs-layout.handed g) (cs-search.earlier d g)) (cs-layout.csDataRefused OutOfDomain) ≡ csLaidOut l
       → cs-search.csDataAnswer d g ≡ csLaidOut l → Cs-found-at d l
   cs-by-domain false q e a = absurd (cs-refused-not-laid OutOfDomain l e)
   cs-by-domain true q e a = cs-by-fault q (cs-search.earlier d g) refl e a
 
   pub cs-found : cs-search.csDataAnswer d g ≡ csLaidOut l → Cs-found-at d l
-  cs-found e = cs-by-domain (inDomain d && cs-search.givenIn d g) refl e e
+  cs-found e = cs-by-domain (csSearchIn d && cs-search.givenIn d g) refl e e

@@ -14,7 +14,7 @@ use Rattle.refusal.specs.declared.Refusal.{Refusal}
 use Rattle.addr_layout.specs.declared.layout.AddrLayout.{AddrLayout}
 use Rattle.cs_data_layout.specs.declared.layout.CsDataLayout.{CsDataLayout}
 use Rattle.refusal.specs.declared.first.FirstFault.the-variants.{None}
-use Rattle.build_args.specs.Images.{spanAt, chipBytes}
+use Rattle.build_args.specs.Images.{chipSpan, chipBytes}
 use Rattle.build_args.specs.Faults.{entriesOf}
 use Rattle.picks.specs.Picks.{chipsFit}
 use Rattle.refusal.specs.First.{faultIf}
@@ -46,40 +46,40 @@ joined-cong (suc n) f g h = rw (joined-cong n f g (λ k l. h k (omega arith)), h
 
 module _ (d : Description) (a : AddrLayout) (c : CsDataLayout) (images : List ℕ) (spans : List ImageSpan) (s : StoredSlot)
     (f : Fitted d a c s) (t : ToldApart d a c) (fit : chipsFit (d .«set_type») (d .«num_chips») ≡ true)
-    (bytes : (rom k : ℕ) → getD (chipBytes images (spanAt spans rom)) k 0 < 256) where
+    (bytes : (rom k : ℕ) → getD (chipBytes images (chipSpan spans rom)) k 0 < 256) where
   abbrev table : List ℕ
   table = tableOf d a c images spans
 
   abbrev wordIn : ℕ → ℕ → ℕ
-  wordIn rom n = word (d .«word_bytes») (chipBytes images (spanAt spans rom)) n
+  wordIn rom n = word (d .«word_bytes») (chipBytes images (chipSpan spans rom)) n
 
-  entries-same : 2 ^ stored.pinsOf s ≡ entriesOf a
+  entries-same : 2 ^ stored.storedPins s ≡ entriesOf a
   entries-same = ap (λ (x : ℕ). 2 ^ x) (f .pins)
 
   -- a ROM that is picked is one of the slot's
-  picked-there : (rom i : ℕ) → read.pickedAt s (d .«set_type») i ≡ Chip rom → rom < d .«num_chips»
+  picked-there : (rom i : ℕ) → read.romPicked s (d .«set_type») i ≡ Chip rom → rom < d .«num_chips»
   picked-there rom i p = omega (arith, f .chips, serves.picked-there s (d .«set_type») (ap (chipsFit (d .«set_type»)) (f .chips) ∙ fit) rom i p)
 
   -- an entry for a word has that word
-  served-value : (rom n i : ℕ) → i < 2 ^ stored.pinsOf s → read.serves s (d .«set_type») rom n i ≡ true → read.valueAt s table rom i ≡ wordIn rom n
+  served-value : (rom n i : ℕ) → i < 2 ^ stored.storedPins s → read.serves s (d .«set_type») rom n i ≡ true → read.valueAt s table rom i ≡ wordIn rom n
   served-value rom n i l e =
       let p = serves-picks s (d .«set_type») rom n i e in
       value-is d a c images spans s f t fit bytes rom n i (picked-there rom i p) (rw (← entries-same) l) p (serves-address s (d .«set_type») rom n i e)
       (serves-counted s (d .«set_type») rom n i e)
 
-  kept-value : (rom n i : ℕ) → i < 2 ^ stored.pinsOf s → read.serves s (d .«set_type») rom n i ≡ true → keptValue s (d .«set_type») table rom n ≡ wordIn rom n
+  kept-value : (rom n i : ℕ) → i < 2 ^ stored.storedPins s → read.serves s (d .«set_type») rom n i ≡ true → keptValue s (d .«set_type») table rom n ≡ wordIn rom n
   kept-value rom n i l e =
-      let g = first-found (read.serves s (d .«set_type») rom n) (2 ^ stored.pinsOf s) i l e in
-      served-value rom n _ g (first-passes (read.serves s (d .«set_type») rom n) (2 ^ stored.pinsOf s) g)
+      let g = first-found (read.serves s (d .«set_type») rom n) (2 ^ stored.storedPins s) i l e in
+      served-value rom n _ g (first-passes (read.serves s (d .«set_type») rom n) (2 ^ stored.storedPins s) g)
 
-  agrees : (i : ℕ) → i < 2 ^ stored.pinsOf s → (p : Picked) → disagreesFor s (d .«set_type») table i p ≡ None
+  agrees : (i : ℕ) → i < 2 ^ stored.storedPins s → (p : Picked) → disagreesFor s (d .«set_type») table i p ≡ None
   agrees i l NoChip = refl
   agrees i l (Chip rom) =
       never (read.serves s (d .«set_type») rom (read.addressAt s rom i) i) _ _ (λ e.
       eq-eqb _ _ (served-value rom _ i l e ∙ sym (kept-value rom _ i l e)))
 
   pub consistent : inconsistent s (d .«set_type») table ≡ None
-  consistent = none-of (2 ^ stored.pinsOf s) _ (λ i l. agrees i l (read.pickedAt s (d .«set_type») i))
+  consistent = none-of (2 ^ stored.storedPins s) _ (λ i l. agrees i l (read.romPicked s (d .«set_type») i))
 
   -- a counted word has an entry
   module _ (rom n : ℕ) (l : rom < d .«num_chips») (q : n < sizes.romWords s rom) where
@@ -89,7 +89,7 @@ module _ (d : Description) (a : AddrLayout) (c : CsDataLayout) (images : List �
     abbrev at : ℕ
     at = index d a c images spans s f t fit bytes rom n l addressed
 
-    at-lt : at < 2 ^ stored.pinsOf s
+    at-lt : at < 2 ^ stored.storedPins s
     at-lt = rw entries-same (index-lt d a c images spans s f t fit bytes rom n l addressed)
 
     at-serves : read.serves s (d .«set_type») rom n at ≡ true
@@ -99,8 +99,8 @@ module _ (d : Description) (a : AddrLayout) (c : CsDataLayout) (images : List �
 
     served-one : unservedIn s (d .«set_type») rom n ≡ None
     served-one =
-        let g = first-found (read.serves s (d .«set_type») rom n) (2 ^ stored.pinsOf s) at at-lt at-serves in
-        rw (ne-eqb (firstFor s (d .«set_type») rom n (2 ^ stored.pinsOf s)) (2 ^ stored.pinsOf s) (λ e. omega arith))
+        let g = first-found (read.serves s (d .«set_type») rom n) (2 ^ stored.storedPins s) at at-lt at-serves in
+        rw (ne-eqb (firstFor s (d .«set_type») rom n (2 ^ stored.storedPins s)) (2 ^ stored.storedPins s) (λ e. omega arith))
 
     kept-one : keptValue s (d .«set_type») table rom n ≡ wordIn rom n
     kept-one = kept-value rom n at at-lt at-serves

@@ -31,12 +31,12 @@ use Rattle.refusal.specs.declared.first.FirstFault.the-variants.{None, Of}
 use Rattle.addr_layout.specs.Law as addr
 use Rattle.addr_layout.specs.declared.layout.AddrLayout.{AddrLayout}
 use Rattle.cs_data_layout.specs.declared.layout.CsDataLayout.{CsDataLayout}
-use Rattle.build_args.specs.Images.{spanAt, chipBytes}
-use Rattle.build_args.specs.Domain.{inDomain}
+use Rattle.build_args.specs.Images.{chipSpan, chipBytes}
+use Rattle.build_args.specs.Domain.{buildIn}
 use Rattle.build_args.specs.Faults.{entriesOf, tableSize, buildFault}
 use Rattle.build_args.specs.declared.images.ImageSpan.{ImageSpan}
 use Rattle.rom_image.specs.Entry.{entryAt, tableOf}
-use Rattle.rom_image.specs.Build.{Built, built, afterFault, buildOf}
+use Rattle.rom_image.specs.Build.{Built, built, buildAfter, buildOf}
 use Rattle.rom_image.specs.declared.BuildAnswer.{BuildAnswer}
 use Rattle.gpio.specs.declared.line.LineGpio.the-variants.{At}
 use Rattle.stored_slot.specs.Stored as stored
@@ -48,7 +48,7 @@ use Rattle.unscramble.specs.Recovered.{readBack, front, inconsistent, unserved,
 use Rattle.stored_slot.specs.declared.stored.StoredSlot.{StoredSlot}
 use Rattle.round_trip.specs.WellWired.{WellWired, StoredAs}
 use Rattle.round_trip.proofs.Fitted.{Fitted, ToldApart}
-use Rattle.round_trip.specs.RoundTrip.{Accepted, tableBuilt, chipWords, wordsTo, words, Room, firstBytes, asBefore, ReadsBack}
+use Rattle.round_trip.specs.RoundTrip.{Accepted, tableBuilt, chipWords, wordsTo, words, Room, firstBytes, returnedWhole, ReadsBack}
 use Rattle.build_args.proofs.Facts.{described, selected, data-base}
 use Rattle.rom_image.proofs.Buildable.{Buildable}
 use Rattle.rom_image.proofs.Past.{buildable, pins-few}
@@ -70,25 +70,25 @@ refused-not-built why e = let z : _≡_ {A = ℕ} 0 1 = ap done e in omega arith
 
 module _ (d : Description) (a : AddrLayout) (c : CsDataLayout) (images : List ℕ) (spans : List ImageSpan) (lent : List ℕ) where
   pub record Past : Type 0 where
-    pub domain : inDomain d a c ≡ true
+    pub domain : buildIn d a c ≡ true
     pub none : buildFault d a c images spans (length lent) ≡ None
     pub table : buildOf d a c images spans lent .table ≡ tableOf d a c images spans ++ drop (tableSize d a) lent
 
-  by-fault : (f : FirstFault) → buildFault d a c images spans (length lent) ≡ f → inDomain d a c ≡ true
-      → buildOf d a c images spans lent ≡ afterFault d a c images spans lent f → afterFault d a c images spans lent f .answer ≡ BuildAnswer.Built → Past
+  by-fault : (f : FirstFault) → buildFault d a c images spans (length lent) ≡ f → buildIn d a c ≡ true
+      → buildOf d a c images spans lent ≡ buildAfter d a c images spans lent f → buildAfter d a c images spans lent f .answer ≡ BuildAnswer.Built → Past
   by-fault (Of why) q i w e = absurd (refused-not-built why e)
   by-fault None q i w e = record { domain = i; none = q; table = ap (λ (b : Built). b .table) w }
 
-  by-domain : (t : Bool) → inDomain d a c ≡ t
+  by-domain : (t : Bool) → buildIn d a c ≡ t
       → buildOf d a c images spans lent
-      ≡ cond t (afterFault d a c images spans lent (buildFault d a c images spans (length lent))) (built (BuildAnswer.Refused OutOfDomain) lent)
+      ≡ cond t (buildAfter d a c images spans lent (buildFault d a c images spans (length lent))) (built (BuildAnswer.Refused OutOfDomain) lent)
       → buildOf d a c images spans lent .answer ≡ BuildAnswer.Built → Past
   by-domain false q w e = absurd (refused-not-built _ (sym (ap (λ (b : Built). b .answer) w) ∙ e))
   by-domain true q w e = by-fault (buildFault d a c images spans (length lent)) refl q w (sym (ap (λ (b : Built). b .answer) w) ∙ e)
 
   pub build-past : buildOf d a c images spans lent .answer ≡ BuildAnswer.Built → Past
   unfolding buildOf
-  build-past e = by-domain (inDomain d a c) refl refl e
+  build-past e = by-domain (buildIn d a c) refl refl e
 
 -- bytes of a part are bytes
 part-byte : (l : List ℕ) (start size k : ℕ) (t : Bool) → ltb k size ≡ t → ((j : ℕ) → getD l j 0 < 256) → getD (take size (drop start l)) k 0 < 256
@@ -191,9 +191,9 @@ module _ (d : Description) (a : AddrLayout) (c : CsDataLayout) (images : List �
   same-lines : Fitted d a c s
   same-lines = fitted d a c s given (laid .choice) sound wired
 
-  chip-byte : (rom k : ℕ) → getD (chipBytes images (spanAt spans rom)) k 0 < 256
+  chip-byte : (rom k : ℕ) → getD (chipBytes images (chipSpan spans rom)) k 0 < 256
   unfolding chipBytes
-  chip-byte rom k = part-byte images (spanAt spans rom .start) (spanAt spans rom .length) k (ltb k (spanAt spans rom .length)) refl bytes
+  chip-byte rom k = part-byte images (chipSpan spans rom .start) (chipSpan spans rom .length) k (ltb k (chipSpan spans rom .length)) refl bytes
 
   -- the table that is read
   table-long : length (tableOf d a c images spans) ≡ tableSize d a
@@ -205,10 +205,10 @@ module _ (d : Description) (a : AddrLayout) (c : CsDataLayout) (images : List �
 
   -- what comes back of a chip
   chip-back : (k : ℕ) → k < d .«num_chips»
-      → wordsBytes (d .«word_bytes») (λ n. word (d .«word_bytes») (chipBytes images (spanAt spans k)) n) (sizes.romWords s k) ≡ firstBytes d a images spans k
+      → wordsBytes (d .«word_bytes») (λ n. word (d .«word_bytes») (chipBytes images (chipSpan spans k)) n) (sizes.romWords s k) ≡ firstBytes d a images spans k
   chip-back k l =
-      ap (λ (n : ℕ). wordsBytes (d .«word_bytes») (word (d .«word_bytes») (chipBytes images (spanAt spans k))) n) (words-same d a c s same-lines k l)
-      ∙ words-take (d .«word_bytes») (chipBytes images (spanAt spans k)) (chipWords d a k) (chip-byte k)
+      ap (λ (n : ℕ). wordsBytes (d .«word_bytes») (word (d .«word_bytes») (chipBytes images (chipSpan spans k))) n) (words-same d a c s same-lines k l)
+      ∙ words-take (d .«word_bytes») (chipBytes images (chipSpan spans k)) (chipWords d a k) (chip-byte k)
       (words-within (chipWords d a k) 0 (d .«word_bytes») (getD (d .chips) k noChip .size) _ (omega arith) (can .lent k l))
 
   all-back : recovered s (d .«set_type») (tableOf d a c images spans) ≡ joined (d .«num_chips») (firstBytes d a images spans)
@@ -230,11 +230,11 @@ module _ (d : Description) (a : AddrLayout) (c : CsDataLayout) (images : List �
     pins = pins-few d a c images spans (length lent) (past .domain) (past .none);
   }
 
-  select-window : isMulti (d .«set_type») ≡ true → addr.InWindow a (stored.selectGpio s)
+  select-window : isMulti (d .«set_type») ≡ true → addr.InWindow a (stored.storedSelect s)
   select-window m =
       let at = select-at d (laid .choice) (selected-at .choice) (laid .sound) c (selected-at .sound) (subst (WellWired d) (laid .is) wired) m in
-      let one : At (at .gpio) ≡ At (stored.selectGpio s) = sym (at .first) ∙ given .select m in
-      let same : at .gpio ≡ stored.selectGpio s = cc in
+      let one : At (at .gpio) ≡ At (stored.storedSelect s) = sym (at .first) ∙ given .select m in
+      let same : at .gpio ≡ stored.storedSelect s = cc in
       subst (addr.InWindow a) same (subst (λ (x : AddrLayout). addr.InWindow x (at .gpio)) (sym (laid .is)) (at .inside))
 
   none-before : romsFault s (d .«set_type») (tableOf d a c images spans) (length output) (length marks) ≡ None
@@ -259,11 +259,11 @@ module _ (d : Description) (a : AddrLayout) (c : CsDataLayout) (images : List �
   entries-none =
       both-none _ _ (consistent d a c images spans s same-lines told (can .chips) chip-byte) (all-served d a c images spans s same-lines told (can .chips) chip-byte)
 
-  reads : unscrambled s table output marks ≡ asBefore d a images spans output marks
+  reads : unscrambled s table output marks ≡ returnedWhole d a images spans output marks
   reads =
       tested
       ∙ ap (recover.ofType s table output marks) (given .set-type)
-      ∙ ap (recover.afterFault s (d .«set_type») table output marks) none-before
+      ∙ ap (recover.readAfter s (d .«set_type») table output marks) none-before
       ∙ ap (recover.afterEntries s (d .«set_type») table output marks) entries-none
       ∙ ap (λ (r : List ℕ). readBack None (front r output) (front (replicate (sizes.allWords s) 1) marks)) all-back
       ∙ ap (λ (n : ℕ). readBack None (front (joined (d .«num_chips») (firstBytes d a images spans)) output) (front (replicate n 1) marks)) (all-same d a c s same-lines)

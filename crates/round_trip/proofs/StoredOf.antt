@@ -28,14 +28,14 @@ use Rattle.stored_slot.specs.declared.stored.Rom.{Rom}
 use Rattle.stored_slot.specs.declared.stored.StoredSlot.{StoredSlot}
 use Rattle.round_trip.specs.WellWired.{Mapped, StoredAs}
 use Rattle.round_trip.specs.RoundTrip.{Accepted}
-use Rattle.round_trip.specs.Stored.{mapOf, romOf, gpioOr0, storedOf}
+use Rattle.round_trip.specs.Stored.{mapList, storedRom, gpioOr0, storedOf}
 use Rattle.round_trip.proofs.Laid.{Cs-found-at, cs-found}
 use Rattle.round_trip.proofs.RoundTrip.{Past, build-past}
 
 -- a list that ends at n has n entries
 module _ (l : List ℕ) (n : ℕ) (before : (k : ℕ) → k < n → getD l k 255 ≡ 255 → ⊥) (end : getD l n 255 ≡ 255) where
-  not-ended : (m : ℕ) → m ≤ n → stored.listed m l ≡ m
-  unfolding stored.listed
+  not-ended : (m : ℕ) → m ≤ n → stored.mapLines m l ≡ m
+  unfolding stored.mapLines
   not-ended zero h = refl
   not-ended (suc m) h = rw (not-ended m (omega arith), eq-eqb m m refl, ne-eqb (getD l m 255) 255 (before m (omega arith)))
 
@@ -45,28 +45,28 @@ module _ (l : List ℕ) (n : ℕ) (before : (k : ℕ) → k < n → getD l k 255
       let same : getD l m 255 ≡ 255 = ap (λ (k : ℕ). getD l k 255) (sym (eqb-true n m e)) ∙ end in
       rw (eq-eqb (getD l m 255) 255 same)
 
-  one-more : (m : ℕ) → (n ≤ m → stored.listed m l ≡ n) → (t : Bool) → ltb n (suc m) ≡ t → n ≤ suc m → stored.listed (suc m) l ≡ n
-  unfolding stored.listed
+  one-more : (m : ℕ) → (n ≤ m → stored.mapLines m l ≡ n) → (t : Bool) → ltb n (suc m) ≡ t → n ≤ suc m → stored.mapLines (suc m) l ≡ n
+  unfolding stored.mapLines
   one-more m before-it false e h =
       let same : suc m ≡ n = omega (arith, ltb-false n (suc m) e, h) in
       not-ended (suc m) (omega arith) ∙ same
   one-more m before-it true e h = rw (before-it (omega (arith, ltb-true n (suc m) e))) (at-end m (eqb n m) refl)
 
-  ended : (m : ℕ) → n ≤ m → stored.listed m l ≡ n
+  ended : (m : ℕ) → n ≤ m → stored.mapLines m l ≡ n
   ended zero h = not-ended zero (omega arith) ∙ omega arith
   ended (suc m) h = one-more m (ended m) (ltb n (suc m)) refl h
 
 -- a map lists its GPIOs and no more
 module _ (gpios : List ℕ) (n : ℕ) (few : n < 32) where
-  map-at : (k z : ℕ) → k < n → getD (mapOf gpios n) k z ≡ getD gpios k 0
+  map-at : (k z : ℕ) → k < n → getD (mapList gpios n) k z ≡ getD gpios k 0
   map-at k z l = getD-tab (λ j. cond (ltb j n) (getD gpios j 0) 255) 32 k z (omega arith) ∙ rw (lt-ltb k n l)
 
-  map-end : getD (mapOf gpios n) n 255 ≡ 255
+  map-end : getD (mapList gpios n) n 255 ≡ 255
   map-end = getD-tab (λ j. cond (ltb j n) (getD gpios j 0) 255) 32 n 255 few ∙ rw (le-ltb n n (omega arith))
 
-  map-listed : ((k : ℕ) → k < n → getD gpios k 0 ≤ 47) → stored.listed 32 (mapOf gpios n) ≡ n
+  map-listed : ((k : ℕ) → k < n → getD gpios k 0 ≤ 47) → stored.mapLines 32 (mapList gpios n) ≡ n
   map-listed inside =
-      ended (mapOf gpios n) n (λ k l e. omega (arith, inside k l, sym (map-at k 255 l) ∙ e)) map-end 32 (omega arith)
+      ended (mapList gpios n) n (λ k l e. omega (arith, inside k l, sym (map-at k 255 l) ∙ e)) map-end 32 (omega arith)
 
 -- what `storedOf` needs of the description and the layouts
 pub record Storable (d : Description) (a : AddrLayout) (c : CsDataLayout) : Type 0 where
@@ -83,9 +83,9 @@ module _ (d : Description) (a : AddrLayout) (c : CsDataLayout) (can : Storable d
   s = storedOf d a c
 
   module _ (k : ℕ) (l : k < d .«num_chips») where
-    rom-is : stored.romAt s k ≡ romOf d a c k
+    rom-is : stored.romAt s k ≡ storedRom d a c k
     unfolding storedOf
-    rom-is = getD-tab (romOf d a c) 4 k stored.noRom (omega (arith, can .chips, l))
+    rom-is = getD-tab (storedRom d a c) 4 k stored.noRom (omega (arith, can .chips, l))
 
     mapped : Mapped d a c s k
     mapped = record {
@@ -102,10 +102,10 @@ module _ (d : Description) (a : AddrLayout) (c : CsDataLayout) (can : Storable d
   first-at : isMulti (d .«set_type») ≡ true → firstSelect c ≡ At (cs.selectGpio c 0)
   first-at m = rw (ne-eqb (c .«num_select_lines») 0 (λ e. omega (arith, can .select m, e)))
 
-  select-is : isMulti (d .«set_type») ≡ true → firstSelect c ≡ At (stored.selectGpio s)
+  select-is : isMulti (d .«set_type») ≡ true → firstSelect c ≡ At (stored.storedSelect s)
   unfolding storedOf
   select-is m =
-      let same : stored.selectGpio s ≡ cs.selectGpio c 0 = omega (arith, ap gpioOr0 (first-at m)) in
+      let same : stored.storedSelect s ≡ cs.selectGpio c 0 = omega (arith, ap gpioOr0 (first-at m)) in
       first-at m ∙ ap At (sym same)
 
   word-bytes-is : stored.wordBytes s ≡ d .«word_bytes»

@@ -16,7 +16,7 @@ use Rattle.slot.specs.declared.slot_context.Socket.the-variants.{On, Off}
 use Rattle.listing.specs.Choice.{CandidateOf}
 use Rattle.listing.specs.Lines.{kindPin, pinSocket, socketCandidates, pinCandidates}
 use Rattle.addr_layout.specs.Lines.{addrListed}
-use Rattle.addr_layout.specs.Choices.{kindCandidates, layoutOf}
+use Rattle.addr_layout.specs.Choices.{kindCandidates, addrLayoutOf}
 use Rattle.addr_layout.specs.Law as addr
 use Rattle.addr_layout.specs.Law.Spanned.{of-select}
 use Rattle.gpio.specs.declared.line.LineGpio.the-variants.{At}
@@ -66,9 +66,9 @@ first-one (One a) g e c = c
 first-one (Two a b) g e c = cc
 
 module _ (d : Description) (ca cc' : ℕ) (sound : addr.Sound d ca) (c : CsDataLayout) (laid : cs.SoundLayout d cc' c)
-    (wired : WellWired d (layoutOf d (addrListed d) ca)) where
+    (wired : WellWired d (addrLayoutOf d (addrListed d) ca)) where
   abbrev a : AddrLayout
-  a = layoutOf d (addrListed d) ca
+  a = addrLayoutOf d (addrListed d) ca
 
   data-distinct : Distinct (c .«num_data_pins») (cs.dataGpio c)
   data-distinct j k l m e =

@@ -17,14 +17,14 @@ use Rattle.words.proofs.Back.{word-of-words}
 use Rattle.slot.specs.declared.description.Description.{Description}
 use Rattle.addr_layout.specs.declared.layout.AddrLayout.{AddrLayout}
 use Rattle.cs_data_layout.specs.declared.layout.CsDataLayout.{CsDataLayout}
-use Rattle.build_args.specs.Images.{spanAt, chipBytes}
+use Rattle.build_args.specs.Images.{chipSpan, chipBytes}
 use Rattle.build_args.specs.Positions.{linePosition, dataPosition}
 use Rattle.build_args.specs.Picks.{numPicks, pickPosition}
 use Rattle.picks.specs.Picks.{picksOf, pickedBy, chipsFit}
 use Rattle.build_args.specs.Faults.{entriesOf}
 use Rattle.build_args.specs.declared.images.ImageSpan.{ImageSpan}
 use Rattle.picks.specs.declared.Picked.the-variants.{Chip}
-use Rattle.rom_image.specs.Entry.{chipAddress, pickedAt, wordCount, scrambled, entryAt, tableOf}
+use Rattle.rom_image.specs.Entry.{chipAddress, chipPicked, wordCount, scrambled, entryAt, tableOf}
 use Rattle.stored_slot.specs.Stored as stored
 use Rattle.stored_slot.specs.Words as sizes
 use Rattle.unscramble.specs.Words as read
@@ -41,12 +41,12 @@ back n m p v e i o h =
 
 module _ (d : Description) (a : AddrLayout) (c : CsDataLayout) (images : List ℕ) (spans : List ImageSpan) (s : StoredSlot)
     (f : Fitted d a c s) (t : ToldApart d a c) (fit : chipsFit (d .«set_type») (d .«num_chips») ≡ true)
-    (bytes : (rom k : ℕ) → getD (chipBytes images (spanAt spans rom)) k 0 < 256) where
+    (bytes : (rom k : ℕ) → getD (chipBytes images (chipSpan spans rom)) k 0 < 256) where
   -- read-back picks and addresses as the build does
-  picked-same : (i : ℕ) → read.pickedAt s (d .«set_type») i ≡ pickedAt d a c i
-  unfolding read.pickedAt pickedAt
+  picked-same : (i : ℕ) → read.romPicked s (d .«set_type») i ≡ chipPicked d a c i
+  unfolding read.romPicked chipPicked
   picked-same i =
-      ap (λ (n : ℕ). pickedBy (d .«set_type») n (gather (picksOf (d .«set_type») n) (sizes.pickPosition s (d .«set_type»)) i)) (f .chips)
+      ap (λ (n : ℕ). pickedBy (d .«set_type») n (gather (picksOf (d .«set_type») n) (sizes.storedPickPosition s (d .«set_type»)) i)) (f .chips)
       ∙ ap (pickedBy (d .«set_type») (d .«num_chips»)) (gather-cong (numPicks d) _ _ i (f .pick))
 
   address-same : (rom i : ℕ) → rom < d .«num_chips» → read.addressAt s rom i ≡ chipAddress a i
@@ -61,10 +61,10 @@ module _ (d : Description) (a : AddrLayout) (c : CsDataLayout) (images : List �
       omega (arith, e, q)
 
   abbrev wordIn : ℕ → ℕ → ℕ
-  wordIn rom n = word (d .«word_bytes») (chipBytes images (spanAt spans rom)) n
+  wordIn rom n = word (d .«word_bytes») (chipBytes images (chipSpan spans rom)) n
 
   -- the entry that picks a chip at an address that is counted holds that word, scrambled
-  entry-holds : (rom n i : ℕ) → rom < d .«num_chips» → pickedAt d a c i ≡ Chip rom → chipAddress a i ≡ n → n < wordCount d rom
+  entry-holds : (rom n i : ℕ) → rom < d .«num_chips» → chipPicked d a c i ≡ Chip rom → chipAddress a i ≡ n → n < wordCount d rom
       → entryAt d a c images spans i ≡ scrambled d c (wordIn rom n)
   unfolding entryAt
   entry-holds rom n i l p q r = rw (p, q, lt-ltb n (wordCount d rom) r)
@@ -84,15 +84,15 @@ module _ (d : Description) (a : AddrLayout) (c : CsDataLayout) (images : List �
       ap (λ (b : List ℕ). word (d .«word_bytes») b i) (sym (append-nil _))
       ∙ word-of-words (d .«word_bytes») (entryAt d a c images spans) (entriesOf a) [] i h (entry-lt i)
 
-  pub value-is : (rom n i : ℕ) → rom < d .«num_chips» → i < entriesOf a → read.pickedAt s (d .«set_type») i ≡ Chip rom
+  pub value-is : (rom n i : ℕ) → rom < d .«num_chips» → i < entriesOf a → read.romPicked s (d .«set_type») i ≡ Chip rom
       → read.addressAt s rom i ≡ n → n < sizes.romWords s rom → read.valueAt s (tableOf d a c images spans) rom i ≡ wordIn rom n
   unfolding read.valueAt
   value-is rom n i l h p q r =
       let held = entry-holds rom n i l (sym (picked-same i) ∙ p) (sym (address-same rom i l) ∙ q) (counted rom n l r) in
-      ap (λ (w : ℕ). gather (8 * w) (stored.dataPosition s rom) (word w (tableOf d a c images spans) i)) (f .bytes)
+      ap (λ (w : ℕ). gather (8 * w) (stored.storedDataPosition s rom) (word w (tableOf d a c images spans) i)) (f .bytes)
       ∙ gather-cong (8 * d .«word_bytes») _ _ _ (λ k m. f .data-line rom k l (rw (t .data-lines) m))
       ∙ ap (gather (8 * d .«word_bytes») (dataPosition c)) (stored-word i h ∙ held)
-      ∙ unscrambled-word (wordIn rom n) (word-lt (d .«word_bytes») (chipBytes images (spanAt spans rom)) (n * d .«word_bytes») (bytes rom))
+      ∙ unscrambled-word (wordIn rom n) (word-lt (d .«word_bytes») (chipBytes images (chipSpan spans rom)) (n * d .«word_bytes») (bytes rom))
 
   -- every word has an entry
   module _ (rom n : ℕ) (l : rom < d .«num_chips») (q : n < 2 ^ a .«num_lines») where
@@ -109,8 +109,8 @@ module _ (d : Description) (a : AddrLayout) (c : CsDataLayout) (images : List �
     unfolding index
     index-lt = served.at-lt (a .«num_lines») (numPicks d) (a .«num_addr_pins») (linePosition a) (pickPosition d a c) (t .index-in) (t .index-own) n code q code-small
 
-    pub index-picks : read.pickedAt s (d .«set_type») index ≡ Chip rom
-    unfolding pickedAt index
+    pub index-picks : read.romPicked s (d .«set_type») index ≡ Chip rom
+    unfolding chipPicked index
     index-picks =
         picked-same index
         ∙ ap (pickedBy (d .«set_type») (d .«num_chips»)) (served.high-at (a .«num_lines») (numPicks d) (a .«num_addr_pins») (linePosition a) (pickPosition d a c) (t .index-in) (t .index-own) n code q code-small)

@@ -22,7 +22,7 @@ use Rattle.rom_image.specs.Build.{Built, buildOf}
 use Rattle.rom_image.specs.declared.BuildAnswer.{BuildAnswer}
 use Rattle.unscramble.specs.Recovered.{ReadBack, unscrambled}
 use Rattle.round_trip.specs.WellWired.{WellWired}
-use Rattle.round_trip.specs.RoundTrip.{Accepted, Room, asBefore}
+use Rattle.round_trip.specs.RoundTrip.{Accepted, Room, returnedWhole}
 use Rattle.round_trip.specs.Stored.{storedOf}
 
 -- the answer, and the three lent buffers
@@ -78,7 +78,7 @@ unfoldable pub roundTripOf : Description → List ℕ → List ImageSpan → Lis
 roundTripOf d images spans table output marks = addressTrip d images spans table output marks (addrAnswer d)
 
 -- of an answer and of what output and marks hold then
--- 00 Demand 3: if searches and build refuse nothing, the slot is well wired and the buffers have room, it is what asBefore says
+-- 00 Demand 3: if searches and build refuse nothing, the slot is well wired and the buffers have room, it is what returnedWhole says
 abbrev pub AsDemanded : Description → List ℕ → List ImageSpan → List ℕ → List ℕ → List ℕ → ReadBack → Type 0
 AsDemanded d images spans table output marks r =
-    (a : AddrLayout) (c : CsDataLayout) → Accepted d a c images spans table → WellWired d a → Room d a output marks → r ≡ asBefore d a images spans output marks
+    (a : AddrLayout) (c : CsDataLayout) → Accepted d a c images spans table → WellWired d a → Room d a output marks → r ≡ returnedWhole d a images spans output marks

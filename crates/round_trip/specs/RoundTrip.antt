@@ -15,7 +15,7 @@ use Rattle.cs_data_layout.specs.Search.{csDataAnswer}
 use Rattle.cs_data_layout.specs.declared.layout.CsDataLayout.{CsDataLayout}
 use Rattle.cs_data_layout.specs.declared.layout.CsDataOutcome.{CsDataOutcome}
 use Rattle.cs_data_layout.specs.declared.layout.CsDataAnswer.{CsDataAnswer}
-use Rattle.build_args.specs.Images.{spanAt, chipBytes}
+use Rattle.build_args.specs.Images.{chipSpan, chipBytes}
 use Rattle.build_args.specs.Faults.{tableSize}
 use Rattle.build_args.specs.declared.images.ImageSpan.{ImageSpan}
 use Rattle.rom_image.specs.Entry.{wordCount}
@@ -55,19 +55,19 @@ pub record Room (d : Description) (a : AddrLayout) (output marks : List ℕ) : T
 
 -- 00 Demand 3: of the bytes that the build had for chip k, those of its words
 abbrev pub firstBytes : Description → AddrLayout → List ℕ → List ImageSpan → ℕ → List ℕ
-firstBytes d a images spans k = take (chipWords d a k * d .«word_bytes») (chipBytes images (spanAt spans k))
+firstBytes d a images spans k = take (chipWords d a k * d .«word_bytes») (chipBytes images (chipSpan spans k))
 
 -- 00 Demand 3: no refusal; in the output the words of the chips, one chip behind the other; in the marks a 1 for each of these
 -- words; all that stands behind them is unchanged
-abbrev pub asBefore : Description → AddrLayout → List ℕ → List ImageSpan → List ℕ → List ℕ → ReadBack
-asBefore d a images spans output marks =
+abbrev pub returnedWhole : Description → AddrLayout → List ℕ → List ImageSpan → List ℕ → List ℕ → ReadBack
+returnedWhole d a images spans output marks =
     readBack None (front (joined (d .«num_chips») (firstBytes d a images spans)) output) (front (replicate (words d a) 1) marks)
 
--- 00 Demand 3: read-back of the table built comes to what asBefore says
+-- 00 Demand 3: read-back of the table built comes to what returnedWhole says
 abbrev pub ReadsBack : Description → AddrLayout → CsDataLayout → List ℕ → List ImageSpan → List ℕ → StoredSlot → List ℕ → List ℕ → Type 0
--- 00 Demand 3: read-back of the table built comes to what asBefore says
+-- 00 Demand 3: read-back of the table built comes to what returnedWhole says
 ReadsBack d a c images spans lent s output marks =
     -- 01 Number 1: the slot is outside of the domain
     -- 01 Numbers 2: the domain is tested before all else
     -- 01 Numbers 4: the length (17) is tested next, before the kind is looked at, so that a plugin's 16 comes after it
-    unscrambled s (tableBuilt d a c images spans lent) output marks ≡ asBefore d a images spans output marks
+    unscrambled s (tableBuilt d a c images spans lent) output marks ≡ returnedWhole d a images spans output marks

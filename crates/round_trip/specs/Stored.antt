@@ -22,17 +22,17 @@ use Rattle.stored_slot.specs.declared.stored.StoredSlot.{StoredSlot}
 
 -- a map's list of the first n GPIOs
 -- 01 unscramble 3: a list of fewer than 32 goes on with 255
-abbrev pub mapOf : List ℕ → ℕ → List ℕ
-mapOf gpios n = tab 32 (λ k. cond (ltb k n) (getD gpios k 0) 255)
+abbrev pub mapList : List ℕ → ℕ → List ℕ
+mapList gpios n = tab 32 (λ k. cond (ltb k n) (getD gpios k 0) 255)
 
 -- 01 Well wired 11: a ROM has its chip's size
 -- 01 Well wired 12: a ROM's map lists the GPIOs of the address lines in use, and those of the data lines
-abbrev pub romOf : Description → AddrLayout → CsDataLayout → ℕ → Rom
-romOf d a c k = record {
+abbrev pub storedRom : Description → AddrLayout → CsDataLayout → ℕ → Rom
+storedRom d a c k = record {
   «has_map» = true;
   «chip_size» = getD (d .chips) k noChip .size;
-  addr = mapOf (a .gpios) (a .«num_lines»);
-  «data_lines» = mapOf (c .«data_pin_gpios») (c .«num_data_pins»);
+  addr = mapList (a .gpios) (a .«num_lines»);
+  «data_lines» = mapList (c .«data_pin_gpios») (c .«num_data_pins»);
 }
 
 -- a line's GPIO; 0 where there is none
@@ -71,6 +71,6 @@ storedOf d a c = record {
   x1 = d .board .x1;
   -- 01 addr_layout 5: in such a set of at least 3 chips it has X2, likewise
   x2 = d .board .x2;
-  roms = tab 4 (romOf d a c);
+  roms = tab 4 (storedRom d a c);
   «num_roms» = d .«num_chips»;
 }

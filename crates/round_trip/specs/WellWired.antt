@@ -105,14 +105,14 @@ pub record StoredAs (d : Description) (a : AddrLayout) (c : CsDataLayout) (s : S
   -- 01 addr_layout 5: in such a set of at least 3 chips it has X2, likewise
   pub x2 : s .x2 ≡ d .board .x2
   pub addr-base : stored.addrBase s ≡ a .«gpio_base»
-  pub pins : stored.pinsOf s ≡ a .«num_addr_pins»
-  pub data-base : stored.dataBase s ≡ build.dataBase c
+  pub pins : stored.storedPins s ≡ a .«num_addr_pins»
+  pub data-base : stored.storedDataBase s ≡ build.dataBase c
   pub roms : s .«num_roms» ≡ d .«num_chips»
   pub rom : (k : ℕ) → k < d .«num_chips» → Mapped d a c s k
   -- 01 Well wired 12: in Multi the select algorithm is AlgCs0
   pub alg-cs : isMulti (d .«set_type») ≡ true → _≡_ {A = ℕ} (s .«alg_cs» .alg) 0
   -- 01 Well wired 12: in Multi the select is at the GPIO of the first select line
-  pub select : isMulti (d .«set_type») ≡ true → firstSelect c ≡ At (stored.selectGpio s)
+  pub select : isMulti (d .«set_type») ≡ true → firstSelect c ≡ At (stored.storedSelect s)
   -- no more overrides than there is room for
   pub overrides : s .«num_overrides» ≤ 64
   -- 01 Well wired 10: of the GPIOs in the address window none is forced low (kind 2) or high (kind 3)

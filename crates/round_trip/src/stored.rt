@@ -21,7 +21,7 @@ ghost use lib.Dec.{ltb};
 ghost use lib.ListN.{getD};
 ghost use Rattle.lists.specs.Tab.{tab};
 ghost use Rattle.build_args.specs.Faults.{tableSize};
-ghost use Rattle.round_trip.specs.Stored.{mapOf, romOf, gpioOr0, algAddrOf, algDataOf, algCsOf, storedOf};
+ghost use Rattle.round_trip.specs.Stored.{mapList, storedRom, gpioOr0, algAddrOf, algDataOf, algCsOf, storedOf};
 
 // Entry k of a map of the first n GPIOs: 255 past them.
 fn map_entry(gpios: &[u8], n: u8, k: usize) -> u8
@@ -35,7 +35,7 @@ fn map_entry(gpios: &[u8], n: u8, k: usize) -> u8
 
 // A map's list of the first n GPIOs.
 fn map_of(gpios: &[u8], n: u8) -> [u8; 32]
-    ensures { λ r. ⌜ r ≡ mapOf (now (gpios .entry)) n ⌝ }
+    ensures { λ r. ⌜ r ≡ mapList (now (gpios .entry)) n ⌝ }
 {
     let mut out = [0u8; 32];
     let mut k: usize = 0;
@@ -48,7 +48,7 @@ fn map_of(gpios: &[u8], n: u8) -> [u8; 32]
 
 // The map of the address lines in use.
 fn addr_map(a: AddrLayout) -> [u8; 32]
-    ensures { λ r. ⌜ r ≡ mapOf (a .gpios) (a .«num_lines») ⌝ }
+    ensures { λ r. ⌜ r ≡ mapList (a .gpios) (a .«num_lines») ⌝ }
 {
     let gpios = a.gpios;
     map_of(&gpios, a.num_lines)
@@ -56,7 +56,7 @@ fn addr_map(a: AddrLayout) -> [u8; 32]
 
 // The map of the data lines.
 fn data_map(c: CsDataLayout) -> [u8; 32]
-    ensures { λ r. ⌜ r ≡ mapOf (c .«data_pin_gpios») (c .«num_data_pins») ⌝ }
+    ensures { λ r. ⌜ r ≡ mapList (c .«data_pin_gpios») (c .«num_data_pins») ⌝ }
 {
     let gpios = c.data_pin_gpios;
     map_of(&gpios, c.num_data_pins)
@@ -64,7 +64,7 @@ fn data_map(c: CsDataLayout) -> [u8; 32]
 
 // Chip k as a ROM that is stored.
 fn rom(d: Description, a: AddrLayout, c: CsDataLayout, k: u8) -> Rom
-    ensures { λ r. ⌜ r ≡ romOf d a c k ⌝ }
+    ensures { λ r. ⌜ r ≡ storedRom d a c k ⌝ }
 {
     Rom {
         has_map: true,
@@ -76,7 +76,7 @@ fn rom(d: Description, a: AddrLayout, c: CsDataLayout, k: u8) -> Rom
 
 // All four ROMs; those past the number of chips count for nothing.
 fn roms(d: Description, a: AddrLayout, c: CsDataLayout) -> [Rom; 4]
-    ensures { λ r. ⌜ r ≡ tab 4 (romOf d a c) ⌝ }
+    ensures { λ r. ⌜ r ≡ tab 4 (storedRom d a c) ⌝ }
 {
     let none = Rom {
         has_map: false,

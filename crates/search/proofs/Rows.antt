@@ -7,7 +7,8 @@ use native.Mathlib.Omega.{arith}
 use lib.Pow.{shl-exact, pow-mono, pow-add}
 use Rattle.search.specs.declared.Trial.{Trial}
 use Rattle.search.specs.declared.Found.{Found}
-use Rattle.search.specs.Search.{betterOf, best, bestOnward}
+use Rattle.search.specs.Search.{betterOf, best}
+use Rattle.search.specs.design.Rows.{bestOnward}
 
 -- one turn of a loop over a row, and its end
 pub onward-turn : (before : Found) (row : ℕ → Trial) (c k : ℕ) (found later : Found) (t : Trial) → found ≡ bestOnward before row c k → t ≡ row k → later ≡ betterOf found (c + k) t

@@ -1,5 +1,5 @@
 -- A search over choices by number. Assumes nothing.
-use Prim.Native.Nat.{ℕ, zero, suc, _+_}
+use Prim.Native.Nat.{ℕ, zero, suc}
 use mathlib.Core.Bool.{cond}
 use lib.Dec.{ltb}
 use Rattle.search.specs.declared.Trial.{Trial}
@@ -20,8 +20,3 @@ betterOf f c (Score s) = against f c s
 unfoldable pub best : (ℕ → Trial) → ℕ → Found
 best trial zero = Nothing
 best trial (suc k) = betterOf (best trial k) k (trial k)
-
--- the better of what was found and of k choices more, from c on, in a row
-unfoldable pub bestOnward : Found → (ℕ → Trial) → ℕ → ℕ → Found
-bestOnward found trial c zero = found
-bestOnward found trial c (suc k) = betterOf (bestOnward found trial c k) (c + k) (trial k)

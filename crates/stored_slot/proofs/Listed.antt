@@ -8,7 +8,7 @@ use native.Mathlib.Numerals.{add-one}
 use native.Mathlib.Omega.{arith}
 use lib.Dec.{eqb}
 use lib.ListN.{length, getD}
-use Rattle.stored_slot.specs.Stored.{listed}
+use Rattle.stored_slot.specs.Stored.{mapLines}
 
 -- below the length the default does not count
 pub getD-any : {A : Type 0} (l : List A) (k : ℕ) (a b : A) → k < length l → getD l k a ≡ getD l k b
@@ -16,16 +16,16 @@ getD-any [] k a b h = absurd (omega arith)
 getD-any (x ∷ l) zero a b h = refl
 getD-any (x ∷ l) (suc k) a b h = getD-any l k a b (le-of-suc-le-suc h)
 
-pub listed-none : (l : List ℕ) → 0 ≡ listed 0 l
-unfolding listed
+pub listed-none : (l : List ℕ) → 0 ≡ mapLines 0 l
+unfolding mapLines
 listed-none l = refl
 
-pub listed-turn : (l : List ℕ) (k n g m : ℕ) → n ≡ listed k l → g ≡ getD l k 255 → m ≡ cond (eqb n k && not (eqb g 255)) (k + 1) n
-    → m ≡ listed (k + 1) l
-unfolding listed
+pub listed-turn : (l : List ℕ) (k n g m : ℕ) → n ≡ mapLines k l → g ≡ getD l k 255 → m ≡ cond (eqb n k && not (eqb g 255)) (k + 1) n
+    → m ≡ mapLines (k + 1) l
+unfolding mapLines
 listed-turn l k n g m e h i = rw (i, h, e, add-one)
 
-pub listed-done : (l : List ℕ) (k m n : ℕ) → k ≡ m → n ≡ listed k l → n ≡ listed m l
+pub listed-done : (l : List ℕ) (k m n : ℕ) → k ≡ m → n ≡ mapLines k l → n ≡ mapLines m l
 listed-done l k m n e h = rw e at h
 
 one-more : (b : Bool) (n x : ℕ) → x ≤ n → cond b (suc n) x ≤ suc n
@@ -33,7 +33,7 @@ one-more true n x h = omega arith
 one-more false n x h = omega arith
 
 -- no more than there are
-pub listed-most : (n : ℕ) (l : List ℕ) → listed n l ≤ n
-unfolding listed
+pub listed-most : (n : ℕ) (l : List ℕ) → mapLines n l ≤ n
+unfolding mapLines
 listed-most zero l = omega arith
-listed-most (suc n) l = one-more (eqb (listed n l) n && not (eqb (getD l n 255) 255)) n (listed n l) (listed-most n l)
+listed-most (suc n) l = one-more (eqb (mapLines n l) n && not (eqb (getD l n 255) 255)) n (mapLines n l) (listed-most n l)

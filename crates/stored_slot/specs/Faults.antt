@@ -13,7 +13,7 @@ use Rattle.refusal.specs.First.{orElse, faultIf, firstOf}
 use Rattle.refusal.specs.declared.first.FirstFault.{FirstFault}
 use Rattle.refusal.specs.declared.first.FirstFault.the-variants.{None}
 use Rattle.picks.specs.Picks.{chipsFit}
-use Rattle.stored_slot.specs.Stored.{romAt, wordBytes, addrBase, dataBase, selectGpio, pinsOf, within, inWindow, addrLines, dataLines, oneInside}
+use Rattle.stored_slot.specs.Stored.{romAt, wordBytes, addrBase, storedDataBase, storedSelect, storedPins, within, inWindow, addrLines, dataLines, oneInside}
 use Rattle.stored_slot.specs.Words.{allWords}
 use Rattle.stored_slot.specs.declared.stored.StoredSlot.{StoredSlot}
 
@@ -32,10 +32,10 @@ layoutFault s stored =
     (orElse (faultIf (not (eqb (s .«alg_addr» .alg) 0)) UnknownAlgorithm)
     (orElse (faultIf (ltb 255 (addrBase s)) BadLayout)
     (orElse (faultIf (ltb 1 (s .«alg_data» .alg)) UnknownAlgorithm)
-    (orElse (faultIf (ltb 255 (dataBase s)) BadLayout)
+    (orElse (faultIf (ltb 255 (storedDataBase s)) BadLayout)
     (orElse (faultIf (not (eqb (s .«alg_dma» .alg) 0) || ltb 1 (s .«alg_dma» .«bit_mode»)) UnknownAlgorithm)
-    (orElse (faultIf (leb 32 (pinsOf s)) BadLayout)
-    (faultIf (not (eqb (length stored) (2 ^ pinsOf s * wordBytes s))) BadLayout)))))))
+    (orElse (faultIf (leb 32 (storedPins s)) BadLayout)
+    (faultIf (not (eqb (length stored) (2 ^ storedPins s * wordBytes s))) BadLayout)))))))
 
 -- ROM by ROM
 -- 01 Number 19: ROM k has no pin map
@@ -45,7 +45,7 @@ unfoldable pub romFault : StoredSlot → ℕ → FirstFault
 romFault s k =
     orElse (faultIf (not (romAt s k .«has_map»)) MissingLayout)
     (orElse (faultIf (not (each (addrLines (romAt s k)) (λ n. inWindow s (getD (romAt s k .addr) n 0)))) BadLayout)
-    (orElse (faultIf (not (each (dataLines (romAt s k)) (λ n. within (dataBase s) (8 * wordBytes s) (getD (romAt s k .«data_lines») n 0)))) BadLayout)
+    (orElse (faultIf (not (each (dataLines (romAt s k)) (λ n. within (storedDataBase s) (8 * wordBytes s) (getD (romAt s k .«data_lines») n 0)))) BadLayout)
     (faultIf (not (eqb (dataLines (romAt s k)) (8 * wordBytes s))) BadLayout)))
 
 -- 01 Number 22: none of the pin's candidates is in the window, or both are; the place is x
@@ -62,7 +62,7 @@ xFaults s = orElse (xFault s 1 (s .x1)) (cond (leb 3 (s .«num_roms»)) (xFault 
 abbrev pub selectFault : StoredSlot → FirstFault
 selectFault s =
     orElse (faultIf (not (eqb (s .«alg_cs» .alg) 0)) UnknownAlgorithm)
-    (faultIf (ltb 255 (selectGpio s) || not (inWindow s (selectGpio s))) BadLayout)
+    (faultIf (ltb 255 (storedSelect s) || not (inWindow s (storedSelect s))) BadLayout)
 
 -- the lines that pick: none in Single, the X pins in Banked, the X pins and then the select in Multi
 abbrev pub pickFault : StoredSlot → ChipSetType → FirstFault

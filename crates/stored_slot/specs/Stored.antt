@@ -35,45 +35,45 @@ wordBytes s = s .«alg_dma» .«bit_mode» + 1
 abbrev pub addrBase : StoredSlot → ℕ
 addrBase s = s .«alg_addr» .«gpio_base» + s .«alg_addr» .«base_addr_pin»
 
-abbrev pub dataBase : StoredSlot → ℕ
-dataBase s = s .«alg_data» .«gpio_base» + s .«alg_data» .«base_data_pin»
+abbrev pub storedDataBase : StoredSlot → ℕ
+storedDataBase s = s .«alg_data» .«gpio_base» + s .«alg_data» .«base_data_pin»
 
-abbrev pub selectGpio : StoredSlot → ℕ
-selectGpio s = s .«alg_cs» .«gpio_base» + s .«alg_cs» .«first_rom_cs_base»
+abbrev pub storedSelect : StoredSlot → ℕ
+storedSelect s = s .«alg_cs» .«gpio_base» + s .«alg_cs» .«first_rom_cs_base»
 
 -- 01 addr_layout 8: the pins are as many as the span, but never fewer than 8
-abbrev pub pinsOf : StoredSlot → ℕ
+abbrev pub storedPins : StoredSlot → ℕ
 -- 01 addr_layout 8: the pins are as many as the span, but never fewer than 8
-pinsOf s = s .«alg_addr» .«num_addr_pins»
+storedPins s = s .«alg_addr» .«num_addr_pins»
 
 -- a GPIO of n from a base
 abbrev pub within : ℕ → ℕ → ℕ → Bool
 within base n gpio = leb base gpio && ltb (gpio - base) n
 
 abbrev pub inWindow : StoredSlot → ℕ → Bool
-inWindow s gpio = within (addrBase s) (pinsOf s) gpio
+inWindow s gpio = within (addrBase s) (storedPins s) gpio
 
 -- 01 unscramble 3: of n entries, as many count as stand before the first 255
 -- 01 Shape 10: a 255 names no GPIO
-unfoldable pub listed : ℕ → List ℕ → ℕ
-listed zero l = 0
-listed (suc n) l = cond (eqb (listed n l) n && not (eqb (getD l n 255) 255)) (suc n) (listed n l)
+unfoldable pub mapLines : ℕ → List ℕ → ℕ
+mapLines zero l = 0
+mapLines (suc n) l = cond (eqb (mapLines n l) n && not (eqb (getD l n 255) 255)) (suc n) (mapLines n l)
 
 abbrev pub addrLines : Rom → ℕ
-addrLines r = listed 32 (r .addr)
+addrLines r = mapLines 32 (r .addr)
 
 -- 01 Well wired 4: the chip has 8w data lines
 abbrev pub dataLines : Rom → ℕ
 -- 01 Well wired 4: the chip has 8w data lines
-dataLines r = listed 32 (r .«data_lines»)
+dataLines r = mapLines 32 (r .«data_lines»)
 
 abbrev pub addrPosition : StoredSlot → ℕ → ℕ → ℕ
 addrPosition s rom k = getD (romAt s rom .addr) k 0 - addrBase s
 
 -- 01 rom_image 8: a data line's position is counted from the data base
-abbrev pub dataPosition : StoredSlot → ℕ → ℕ → ℕ
+abbrev pub storedDataPosition : StoredSlot → ℕ → ℕ → ℕ
 -- 01 rom_image 8: a data line's position is counted from the data base
-dataPosition s rom k = getD (romAt s rom .«data_lines») k 0 - dataBase s
+storedDataPosition s rom k = getD (romAt s rom .«data_lines») k 0 - storedDataBase s
 
 -- 01 Number 22: passed by a pin that has one candidate in the window, and no second one there
 abbrev pub oneInside : StoredSlot → Candidates → Bool
@@ -105,4 +105,4 @@ allowed s p b =
 
 -- 01 unscramble 7: an entry counts where no bit of its index is other than it is forced to be
 unfoldable pub free : StoredSlot → ℕ → Bool
-free s i = each (pinsOf s) (λ p. allowed s p (bit i p))
+free s i = each (storedPins s) (λ p. allowed s p (bit i p))

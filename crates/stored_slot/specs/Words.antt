@@ -4,7 +4,7 @@ use mathlib.Core.Bool.{cond}
 use lib.Dec.{eqb}
 use Rattle.slot.specs.declared.description.ChipSetType.{ChipSetType}
 use Rattle.slot.specs.declared.description.ChipSetType.the-variants.{Single, Banked, Multi}
-use Rattle.stored_slot.specs.Stored.{romAt, wordBytes, addrBase, selectGpio, addrLines, xInside}
+use Rattle.stored_slot.specs.Stored.{romAt, wordBytes, addrBase, storedSelect, addrLines, xInside}
 use Rattle.stored_slot.specs.declared.stored.StoredSlot.{StoredSlot}
 
 -- 01 unscramble 5: a ROM has as many words as fit whole into its size, but no more than its lines can address
@@ -26,10 +26,10 @@ xAt s k = cond (eqb k 0) (xInside s (s .x1)) (xInside s (s .x2))
 abbrev pub pickGpio : StoredSlot → ChipSetType → ℕ → ℕ
 pickGpio s Single k = 0
 pickGpio s Banked k = xAt s k
-pickGpio s Multi zero = selectGpio s
+pickGpio s Multi zero = storedSelect s
 pickGpio s Multi (suc k) = xAt s k
 
-abbrev pub pickPosition : StoredSlot → ChipSetType → ℕ → ℕ
-pickPosition s set k = pickGpio s set k - addrBase s
+abbrev pub storedPickPosition : StoredSlot → ChipSetType → ℕ → ℕ
+storedPickPosition s set k = pickGpio s set k - addrBase s
 
 -- the ROM that an index picks

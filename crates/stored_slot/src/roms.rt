@@ -16,7 +16,7 @@ ghost use lib.Dec.{eqb};
 ghost use lib.ListN.{getD};
 ghost use Rattle.lists.specs.Each.{each};
 ghost use Rattle.refusal.specs.First.{firstOf};
-ghost use Rattle.stored_slot.specs.Stored.{romAt, listed, within};
+ghost use Rattle.stored_slot.specs.Stored.{romAt, mapLines, within};
 ghost use Rattle.stored_slot.specs.Faults.{romFault};
 ghost use Rattle.stored_slot.specs.Words.{romWords, wordsBefore};
 
@@ -49,7 +49,7 @@ fn next(n: u8, k: u8, gpio: u8) -> u8
 
 // How many entries a map lists: it ends at 255, or with its last.
 pub fn listed(map: [u8; 32]) -> u8
-    ensures { λ r. ⌜ r ≡ listed 32 map ⌝ }
+    ensures { λ r. ⌜ r ≡ mapLines 32 map ⌝ }
     ensures { λ r. ⌜ r ≤ 32 ⌝ }
 {
     let mut n: u8 = 0;
@@ -63,7 +63,7 @@ pub fn listed(map: [u8; 32]) -> u8
 
 // Whether each GPIO of a map is one of n from a base.
 fn map_within(map: [u8; 32], base: u32, n: u32) -> bool
-    ensures { λ r. ⌜ r ≡ each (listed 32 map) (λ k. within base n (getD map k 0)) ⌝ }
+    ensures { λ r. ⌜ r ≡ each (mapLines 32 map) (λ k. within base n (getD map k 0)) ⌝ }
 {
     let count = listed(map) as usize;
     let mut ok = true;

@@ -9,7 +9,7 @@ ghost use mathlib.Core.Bool.{_&&_};
 ghost use Prim.Native.Nat.{_*_, _^_, _<_};
 ghost use lib.Dec.{ltb, eqb};
 ghost use lib.ListN.{length};
-ghost use Rattle.stored_slot.specs.Stored.{wordBytes, addrBase, dataBase, selectGpio, pinsOf, within, inWindow};
+ghost use Rattle.stored_slot.specs.Stored.{wordBytes, addrBase, storedDataBase, storedSelect, storedPins, within, inWindow};
 ghost use Rattle.stored_slot.specs.Faults.{layoutFault};
 
 // How many bytes a word has.
@@ -30,7 +30,7 @@ pub fn addr_base(s: StoredSlot) -> u32
 
 // The first GPIO of the data window.
 pub fn data_base(s: StoredSlot) -> u32
-    ensures { λ r. ⌜ r ≡ dataBase s ⌝ }
+    ensures { λ r. ⌜ r ≡ storedDataBase s ⌝ }
 {
     let lines = s.alg_data;
     lines.gpio_base as u32 + lines.base_data_pin as u32
@@ -38,7 +38,7 @@ pub fn data_base(s: StoredSlot) -> u32
 
 // The GPIO of the first ROM's select line.
 pub fn select_gpio(s: StoredSlot) -> u32
-    ensures { λ r. ⌜ r ≡ selectGpio s ⌝ }
+    ensures { λ r. ⌜ r ≡ storedSelect s ⌝ }
 {
     let cs = s.alg_cs;
     cs.gpio_base as u32 + cs.first_rom_cs_base as u32
@@ -64,8 +64,8 @@ pub fn in_window(s: StoredSlot, gpio: u32) -> bool
 
 // How many entries the table of so many pins has.
 pub fn entries(s: StoredSlot) -> u32
-    requires { ⌜ pinsOf s < 32 ⌝ }
-    ensures { λ r. ⌜ r ≡ 2 ^ pinsOf s ⌝ }
+    requires { ⌜ storedPins s < 32 ⌝ }
+    ensures { λ r. ⌜ r ≡ 2 ^ storedPins s ⌝ }
 {
     let addr = s.alg_addr;
     1u32 << addr.num_addr_pins
@@ -73,7 +73,7 @@ pub fn entries(s: StoredSlot) -> u32
 
 // Whether a table has an entry for each index of the pins. With 32 and more pins none has, and nothing is shifted.
 fn table_whole(s: StoredSlot, length: usize) -> bool
-    ensures { λ r. ⌜ r ≡ (ltb (pinsOf s) 32 && eqb length (2 ^ pinsOf s * wordBytes s)) ⌝ }
+    ensures { λ r. ⌜ r ≡ (ltb (storedPins s) 32 && eqb length (2 ^ storedPins s * wordBytes s)) ⌝ }
 {
     let addr = s.alg_addr;
     if 31 < addr.num_addr_pins {

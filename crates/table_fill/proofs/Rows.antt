@@ -13,7 +13,7 @@ use Rattle.lists.proofs.Tab.{getD-tab}
 use Rattle.bits.specs.Bits.{scatter}
 use Rattle.bits.proofs.Gathered.{gather-lt, row, gather-row}
 use Rattle.bits.proofs.Scattered.{scatter-split}
-use Rattle.table_fill.specs.Entries.{WiringIn, partOf, scrambledBy, noSource, rawFrom, entryBy}
+use Rattle.table_fill.specs.design.Entries.{WiringIn, partOf, scrambledBy, noSource, rawFrom, entryBy}
 use Rattle.table_fill.specs.declared.wiring.Wiring.{Wiring}
 use Rattle.table_fill.specs.declared.wiring.Part.{Part}
 use Rattle.table_fill.specs.declared.sources.Source.{Source}

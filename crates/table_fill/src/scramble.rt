@@ -4,7 +4,7 @@ use bits::scatter;
 ghost use mathlib.Core.Path.{_≡_};
 ghost use Prim.Native.Nat.{_*_, _≤_};
 ghost use Rattle.lists.specs.Tab.{tab};
-ghost use Rattle.table_fill.specs.Entries.{WiringIn, scrambledBy};
+ghost use Rattle.table_fill.specs.design.Entries.{WiringIn, scrambledBy};
 
 // What each value of a byte comes to that counts `unit` in the word.
 pub fn scrambles(w: Wiring, unit: u32) -> [u32; 256]

@@ -4,7 +4,7 @@ ghost use mathlib.Core.Path.{_≡_};
 ghost use Prim.Native.Nat.{_+_, _*_, _≤_, _<_, _^_};
 ghost use lib.ListN.{length};
 ghost use Rattle.words.specs.Words.{wordFrom};
-ghost use Rattle.table_fill.specs.Entries.{rawFrom, SourceIn};
+ghost use Rattle.table_fill.specs.design.Entries.{rawFrom, SourceIn};
 
 // A chip's words: where the first stands, how many there are, and what is read past them.
 pub struct Source {

@@ -10,7 +10,7 @@ use words::put_word;
 ghost use mathlib.Core.Path.{_≡_};
 ghost use Prim.Native.Nat.{_*_, _≤_, _<_, _^_};
 ghost use lib.ListN.{length};
-ghost use Rattle.table_fill.specs.Entries.{WiringIn, SourcesIn, tableBy};
+ghost use Rattle.table_fill.specs.design.Entries.{WiringIn, SourcesIn, tableBy};
 
 // Writes the first entries to the front of a buffer.
 pub fn fill_by(

@@ -3,7 +3,7 @@ use bits::gather;
 ghost use mathlib.Core.Path.{_≡_};
 ghost use Prim.Native.Nat.{_+_, _*_, _/_, _<_, _^_};
 ghost use Rattle.lists.specs.Tab.{tab};
-ghost use Rattle.table_fill.specs.Entries.{WiringIn, partOf};
+ghost use Rattle.table_fill.specs.design.Entries.{WiringIn, partOf};
 
 // All that an entry takes of the layouts.
 pub struct Wiring {

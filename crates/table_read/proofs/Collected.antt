@@ -5,9 +5,9 @@ use mathlib.Core.List.{List, _++_}
 use Prim.Native.Nat.{ℕ, _*_}
 use lib.Dec.{ltb, eqb}
 use lib.ListN.{length, getD, drop, replicate}
-use Rattle.table_read.specs.Kept.{told, firstBad, firstMissing, outcomeOf}
+use Rattle.table_read.specs.design.Kept.{told, firstBad, firstMissing, outcomeOf}
 use Rattle.lists.specs.First.{firstWhere}
-use Rattle.table_read.specs.Buffers.{kept, outputHeld, marksHeld, servedBy, heldBy, collectedOf}
+use Rattle.table_read.specs.design.Buffers.{kept, outputHeld, marksHeld, servedBy, heldBy, collectedOf}
 use Rattle.table_read.specs.declared.Outcome.{Outcome}
 use Rattle.table_read.specs.declared.Outcome.the-variants.{Whole, Disagrees, Missing}
 use Rattle.table_read.specs.declared.row.Walked as walked

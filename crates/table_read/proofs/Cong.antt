@@ -8,7 +8,7 @@ use lib.ListN.{length}
 use borrow.Author.Tests.{ltb-true}
 use Rattle.lists.proofs.Tab.{tab-cong, tab-length}
 use Rattle.words.proofs.Words.{words-cong, words-length}
-use Rattle.table_read.specs.Kept.{firstAt, told, markAfter, valueAfter, marksAfter, outputAfter, disagrees, firstBad, firstMissing, outcomeOf}
+use Rattle.table_read.specs.design.Kept.{firstAt, told, markAfter, valueAfter, marksAfter, outputAfter, disagrees, firstBad, firstMissing, outcomeOf}
 use Rattle.table_read.specs.declared.Outcome.{Outcome}
 use Rattle.table_read.specs.declared.Outcome.the-variants.{Whole, Disagrees, Missing}
 use Rattle.lists.proofs.First.{first-cong}

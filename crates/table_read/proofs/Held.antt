@@ -6,8 +6,8 @@ use Prim.Native.Nat.{ℕ, suc, _*_, _^_, _≤_, _<_}
 use native.Mathlib.Omega.{arith}
 use lib.ListN.{length, drop}
 use lib.Seq.{drop-at}
-use Rattle.table_read.specs.Kept.{outputAfter, marksAfter}
-use Rattle.table_read.specs.Buffers.{kept, keepWord, outputHeld, marksHeld, walkedOf}
+use Rattle.table_read.specs.design.Kept.{outputAfter, marksAfter}
+use Rattle.table_read.specs.design.Buffers.{kept, keepWord, outputHeld, marksHeld, walkedOf}
 use Rattle.table_read.specs.declared.row.Walked.{Walked}
 use Rattle.table_read.specs.declared.row.Walked.the-variants.{Through, Disagrees}
 use Rattle.table_read.proofs.Cong.{output-length, marks-length}

@@ -14,8 +14,8 @@ use Rattle.lists.proofs.Tab.{tab-length, getD-tab}
 use Rattle.bits.proofs.Gathered.{gather-lt, gather-row}
 use Rattle.words.specs.Words.{word}
 use Rattle.words.proofs.Words.{word-short}
-use Rattle.table_read.specs.Reading.{gathered, noMap, partBy, romBy, addressBy, noExtent, wordBy, valueBy, ReadingIn}
-use Rattle.table_read.specs.Rows.{tableOf, TablesIn, RowIn}
+use Rattle.table_read.specs.design.Reading.{gathered, noMap, partBy, romBy, addressBy, noExtent, wordBy, valueBy, ReadingIn}
+use Rattle.table_read.specs.design.Rows.{byteTables, TablesIn, RowIn}
 use Rattle.table_read.specs.declared.maps.Map.{Map}
 use Rattle.table_read.specs.declared.reading.Reading.{Reading}
 use Rattle.table_read.specs.declared.row.Row.{Row}
@@ -30,7 +30,7 @@ unfolding gathered
 gathered-row m i = gather-row (m .lines) (λ k. getD (m .positions) k 0) i
 
 -- an entry of a table of eight bits
-table-at : (maps : List Map) (unit k q : ℕ) → k < 5 → q < 256 → getD (tableOf maps unit) (k * 256 + q) 0 ≡ partBy maps k (q * unit)
+table-at : (maps : List Map) (unit k q : ℕ) → k < 5 → q < 256 → getD (byteTables maps unit) (k * 256 + q) 0 ≡ partBy maps k (q * unit)
 table-at maps unit k q h l =
     let high : (k * 256 + q) / 256 ≡ k = omega arith in
     let low : (k * 256 + q) % 256 ≡ q = omega arith in

@@ -11,8 +11,8 @@ use Rattle.lists.proofs.Tab.{tab-cong, tab-length, getD-tab}
 use Rattle.words.specs.Words.{bytesOf, word}
 use Rattle.words.proofs.Words.{words-cong}
 use Rattle.words.proofs.Back.{word-of-words}
-use Rattle.table_read.specs.Kept.{firstAt, told, markAfter, valueAfter, marksAfter, outputAfter, disagrees, firstBad}
-use Rattle.table_read.specs.Buffers.{Kept, kept, keepWord, outputHeld, marksHeld, walkedOf}
+use Rattle.table_read.specs.design.Kept.{firstAt, told, markAfter, valueAfter, marksAfter, outputAfter, disagrees, firstBad}
+use Rattle.table_read.specs.design.Buffers.{Kept, kept, keepWord, outputHeld, marksHeld, walkedOf}
 use Rattle.table_read.specs.declared.row.Walked.the-variants.{Through, Disagrees}
 use Rattle.lists.proofs.First.{first-more, first-one, first-before, first-within, never-both}
 use Rattle.table_read.proofs.Put.{words-put, marks-put}

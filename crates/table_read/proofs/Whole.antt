@@ -8,7 +8,7 @@ use lib.Dec.{ltb, eqb}
 use lib.ListN.{replicate, length-replicate, getD-replicate}
 use borrow.Author.Tests.{ltb-true, ltb-false, eq-eqb, not-false}
 use Rattle.lists.proofs.Tab.{tab-is}
-use Rattle.table_read.specs.Kept.{firstAt, told, marksAfter, disagrees, firstBad, firstMissing, outcomeOf}
+use Rattle.table_read.specs.design.Kept.{firstAt, told, marksAfter, disagrees, firstBad, firstMissing, outcomeOf}
 use Rattle.table_read.specs.declared.Outcome.the-variants.{Whole, Disagrees, Missing}
 use Rattle.lists.proofs.First.{first-before, first-one, first-stays}
 

@@ -1,4 +1,1 @@
-pub mod Kept
-pub mod Reading
-pub mod Rows
-pub mod Buffers
+pub mod design

@@ -7,7 +7,7 @@ ghost use Prim.Native.Nat.{_+_, _*_, _≤_, _<_};
 ghost use lib.Dec.{eqb};
 ghost use lib.ListN.{length, getD, drop, replicate};
 ghost use Rattle.lists.specs.First.{firstWhere};
-ghost use Rattle.table_read.specs.Buffers.{kept, keepWord};
+ghost use Rattle.table_read.specs.design.Buffers.{kept, keepWord};
 
 // Makes the first n bytes 0.
 pub fn clear(buffer: &mut [u8], n: usize)

@@ -16,9 +16,9 @@ ghost use mathlib.Core.List.{_++_};
 ghost use Prim.Native.Nat.{_*_, _^_, _≤_};
 ghost use lib.Dec.{eqb};
 ghost use lib.ListN.{length, getD, drop, replicate};
-ghost use Rattle.table_read.specs.Reading.{ReadingIn, wordBy, valueBy};
+ghost use Rattle.table_read.specs.design.Reading.{ReadingIn, wordBy, valueBy};
 ghost use Rattle.lists.specs.First.{firstWhere};
-ghost use Rattle.table_read.specs.Buffers.{kept, servedBy, collectedOf};
+ghost use Rattle.table_read.specs.design.Buffers.{kept, servedBy, collectedOf};
 
 // What all entries come to; the word that one is at fault for is counted through all ROMs.
 pub enum Outcome {

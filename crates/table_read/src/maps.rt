@@ -2,8 +2,8 @@
 use bits::gather;
 ghost use mathlib.Core.Path.{_≡_};
 ghost use Prim.Native.Nat.{_≤_, _<_};
-ghost use Rattle.table_read.specs.Reading.{MapsIn, gathered, partBy};
-ghost use Rattle.table_read.specs.Rows.{tableOf, highOf};
+ghost use Rattle.table_read.specs.design.Reading.{MapsIn, gathered, partBy};
+ghost use Rattle.table_read.specs.design.Rows.{byteTables, highOf};
 
 // The positions of so many lines, lowest line first.
 pub struct Map {
@@ -31,7 +31,7 @@ fn part_of(maps: [Map; 5], k: usize, i: u32) -> u32
 // What each map says of each value of eight bits that count `unit`: the 256 of map k from 256 k on.
 pub fn parts(maps: [Map; 5], unit: u32) -> [u32; 1280]
     requires { ⌜ MapsIn maps × (unit ≤ 256) ⌝ }
-    ensures { λ r. ⌜ r ≡ tableOf maps unit ⌝ }
+    ensures { λ r. ⌜ r ≡ byteTables maps unit ⌝ }
 {
     let mut out = [0u32; 1280];
     let mut q: u32 = 0;

@@ -7,9 +7,9 @@ use words::word_at;
 ghost use mathlib.Core.Path.{_≡_};
 ghost use Prim.Native.Nat.{_+_, _*_, _/_, _%_, _<_, _≤_, _^_};
 ghost use lib.ListN.{length, drop, getD};
-ghost use Rattle.table_read.specs.Reading.{ReadingIn, wordBy, valueBy};
-ghost use Rattle.table_read.specs.Buffers.{outputHeld, marksHeld, walkedOf};
-ghost use Rattle.table_read.specs.Rows.{TablesIn, RowIn};
+ghost use Rattle.table_read.specs.design.Reading.{ReadingIn, wordBy, valueBy};
+ghost use Rattle.table_read.specs.design.Buffers.{outputHeld, marksHeld, walkedOf};
+ghost use Rattle.table_read.specs.design.Rows.{TablesIn, RowIn};
 ghost use Rattle.table_read.specs.declared.row.Walked.the-variants.{Through};
 
 // A row: what the bits above the low eight say of its indices, the first of them, and how many there are.

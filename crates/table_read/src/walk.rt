@@ -8,8 +8,8 @@ use crate::row::read_row;
 ghost use mathlib.Core.Path.{_≡_};
 ghost use Prim.Native.Nat.{_*_, _≤_, _^_, min};
 ghost use lib.ListN.{length, drop};
-ghost use Rattle.table_read.specs.Reading.{ReadingIn, wordBy, valueBy};
-ghost use Rattle.table_read.specs.Buffers.{outputHeld, marksHeld, walkedOf};
+ghost use Rattle.table_read.specs.design.Reading.{ReadingIn, wordBy, valueBy};
+ghost use Rattle.table_read.specs.design.Buffers.{outputHeld, marksHeld, walkedOf};
 ghost use Rattle.table_read.specs.declared.row.Walked.the-variants.{Through};
 
 // The lower of two numbers.

@@ -10,10 +10,10 @@ use Rattle.slot.specs.declared.description.ChipSetType.{ChipSetType}
 use Rattle.picks.specs.Picks.{chipsFit}
 use Rattle.picks.specs.declared.Picked.{Picked}
 use Rattle.picks.specs.declared.Picked.the-variants.{NoChip, Chip}
-use Rattle.table_read.specs.Kept.{firstAt}
+use Rattle.table_read.specs.design.Kept.{firstAt}
 use Rattle.lists.proofs.First.{first-passes, first-cong}
-use Rattle.stored_slot.specs.Stored.{free, pinsOf}
-use Rattle.unscramble.specs.Words.{pickedAt, addressAt, valueAt, serves}
+use Rattle.stored_slot.specs.Stored.{free, storedPins}
+use Rattle.unscramble.specs.Words.{romPicked, addressAt, valueAt, serves}
 use Rattle.stored_slot.specs.Words.{romWords, wordsBefore, allWords}
 use Rattle.unscramble.specs.Recovered.{firstFor, keptValue}
 use Rattle.unscramble.proofs.WordAt.{wordOf, wordAt, saidAt}
@@ -34,7 +34,7 @@ module _ (s : StoredSlot) (set : ChipSetType) where
   in-rom rom i true e l = ltb-true (addressAt s rom i) (romWords s rom) e
   in-rom rom i false e l = absurd (omega arith)
 
-  entry-case : (i : ℕ) (b : Bool) (p : Picked) → free s i ≡ b → pickedAt s set i ≡ p → cond b (wordOf s p i) (allWords s) < allWords s
+  entry-case : (i : ℕ) (b : Bool) (p : Picked) → free s i ≡ b → romPicked s set i ≡ p → cond b (wordOf s p i) (allWords s) < allWords s
       → (rom : ℕ) × (serves s set rom (addressAt s rom i) i ≡ true)
   entry-case i false p e g l = absurd (omega arith)
   entry-case i true NoChip e g l = absurd (omega arith)
@@ -43,7 +43,7 @@ module _ (s : StoredSlot) (set : ChipSetType) where
 
   pub entry-serves : (i : ℕ) → wordAt s set i < allWords s → (rom : ℕ) × (serves s set rom (addressAt s rom i) i ≡ true)
   unfolding wordAt
-  entry-serves i l = entry-case i (free s i) (pickedAt s set i) refl refl l
+  entry-serves i l = entry-case i (free s i) (romPicked s set i) refl refl l
 
   word-is : (rom n i : ℕ) → serves s set rom n i ≡ true → wordAt s set i ≡ wordsBefore s rom + n
   unfolding wordAt
@@ -79,8 +79,8 @@ module _ (s : StoredSlot) (set : ChipSetType) where
     first-flat f rom n m w = first-cong m _ _ (λ i l. serves-flat f rom n i w)
 
     -- the value that is kept of a word is what its first entry says
-    pub kept-said : (stored : List ℕ) (f rom n : ℕ) → Flat s f rom n → firstAt (wordAt s set) f (2 ^ pinsOf s) < 2 ^ pinsOf s
-        → saidAt s set stored (firstAt (wordAt s set) f (2 ^ pinsOf s)) ≡ keptValue s set stored rom n
+    pub kept-said : (stored : List ℕ) (f rom n : ℕ) → Flat s f rom n → firstAt (wordAt s set) f (2 ^ storedPins s) < 2 ^ storedPins s
+        → saidAt s set stored (firstAt (wordAt s set) f (2 ^ storedPins s)) ≡ keptValue s set stored rom n
     kept-said stored f rom n w l =
-        let e = first-flat f rom n (2 ^ pinsOf s) w in
-        ap (saidAt s set stored) (sym e) ∙ said-is stored rom n _ (first-passes (serves s set rom n) (2 ^ pinsOf s) (omega arith))
+        let e = first-flat f rom n (2 ^ storedPins s) w in
+        ap (saidAt s set stored) (sym e) ∙ said-is stored rom n _ (first-passes (serves s set rom n) (2 ^ storedPins s) (omega arith))

@@ -12,19 +12,19 @@ use Rattle.refusal.specs.First.{orElse}
 use Rattle.refusal.specs.declared.first.FirstFault.{FirstFault}
 use Rattle.refusal.specs.declared.first.FirstFault.the-variants.{None}
 use Rattle.picks.specs.Picks.{chipsFit}
-use Rattle.table_read.specs.Kept.{outputAfter, outcomeOf}
-use Rattle.table_read.specs.Reading.{wordBy, valueBy, ReadingIn}
+use Rattle.table_read.specs.design.Kept.{outputAfter, outcomeOf}
+use Rattle.table_read.specs.design.Reading.{wordBy, valueBy, ReadingIn}
 use Rattle.table_read.specs.declared.reading.Reading.{Reading}
-use Rattle.table_read.specs.Buffers.{Kept, kept, marksHeld, heldBy, collectedOf}
+use Rattle.table_read.specs.design.Buffers.{Kept, kept, marksHeld, heldBy, collectedOf}
 use Rattle.table_read.specs.declared.Outcome.{Outcome}
 use Rattle.table_read.specs.declared.Outcome.the-variants.{Whole, Disagrees, Missing}
 use Rattle.table_read.proofs.Cong.{output-length, marks-cong, output-cong, outcome-cong}
-use Rattle.stored_slot.specs.Stored.{storedIn, romAt, wordBytes, pinsOf, dataLines}
+use Rattle.stored_slot.specs.Stored.{storedIn, romAt, wordBytes, storedPins, dataLines}
 use Rattle.stored_slot.specs.Faults.{romsFault}
 use Rattle.stored_slot.specs.Words.{allWords}
-use Rattle.unscramble.specs.Place.{faultOf}
+use Rattle.unscramble.specs.design.Place.{outcomeFault}
 use Rattle.unscramble.proofs.WordAt.{wordAt, saidAt}
-use Rattle.unscramble.specs.Reading.{Readable, readingOf}
+use Rattle.unscramble.specs.design.Reading.{Readable, readingOf}
 use Rattle.unscramble.specs.Recovered.{ReadBack, readBack, front, inconsistent, unserved, recovered, afterEntries}
 use Rattle.stored_slot.specs.declared.stored.StoredSlot.{StoredSlot}
 use Rattle.unscramble.proofs.Same.{fault-same, output-same, marks-same}
@@ -44,7 +44,7 @@ module _ (s : StoredSlot) (set : ChipSetType) (stored output marks : List ℕ)
   words = allWords s
 
   abbrev entries : ℕ
-  entries = 2 ^ pinsOf s
+  entries = 2 ^ storedPins s
 
   abbrev for-word : ℕ → ℕ
   for-word = wordAt s set
@@ -69,7 +69,7 @@ module _ (s : StoredSlot) (set : ChipSetType) (stored output marks : List ℕ)
   held-same (Missing f) = refl
 
   abbrev answered : Kept Outcome → ReadBack
-  answered k = readBack (faultOf s (k .answer)) (k .output) (k .marks)
+  answered k = readBack (outcomeFault s (k .answer)) (k .output) (k .marks)
 
   -- 0 over all words
   cleared : (why : FirstFault)
@@ -80,17 +80,17 @@ module _ (s : StoredSlot) (set : ChipSetType) (stored output marks : List ℕ)
       ∙ ap (λ (m : List ℕ). readBack why (front (replicate (words * w) 0) output) m) (front-long (replicate words 0) marks words (length-replicate {A = ℕ} words 0))
 
   -- by the outcome
-  by-outcome : (x : Outcome) → outcomeOf for-word says words entries ≡ x → answered (heldBy w for-word says words entries output marks x) ≡ afterEntries s set stored output marks (faultOf s x)
+  by-outcome : (x : Outcome) → outcomeOf for-word says words entries ≡ x → answered (heldBy w for-word says words entries output marks x) ≡ afterEntries s set stored output marks (outcomeFault s x)
   by-outcome Whole e =
       let out = front-long (outputAfter w for-word says words entries) output (words * w) (output-length w for-word says words entries)
       ∙ ap (λ (x : List ℕ). front x output) (output-same s set stored fit e) in
       let told = ap (λ (x : List ℕ). x ++ drop words marks) (marks-same s set stored fit e) ∙ front-long (replicate words 1) marks words (length-replicate {A = ℕ} words 1) in
       ap (λ (o : List ℕ). readBack None o (marksHeld for-word words entries marks)) out ∙ ap (λ (m : List ℕ). readBack None (front (recovered s set stored) output) m) told
-  by-outcome (Disagrees f) e = cleared (faultOf s (Disagrees f))
-  by-outcome (Missing f) e = cleared (faultOf s (Missing f))
+  by-outcome (Disagrees f) e = cleared (outcomeFault s (Disagrees f))
+  by-outcome (Missing f) e = cleared (outcomeFault s (Missing f))
 
   pub finished : (x : Outcome) (o m : List ℕ) → kept x o m ≡ collectedOf w (wordBy (readingOf s set)) (valueBy (readingOf s set) stored) words entries output marks
-      → readBack (faultOf s x) o m ≡ afterEntries s set stored output marks (orElse (inconsistent s set stored) (unserved s set))
+      → readBack (outcomeFault s x) o m ≡ afterEntries s set stored output marks (orElse (inconsistent s set stored) (unserved s set))
   unfolding collectedOf
   finished x o m e =
       ap answered e
@@ -112,26 +112,26 @@ module _ (s : StoredSlot) (set : ChipSetType) (stored output marks : List ℕ)
   Collectable r n =
       (ReadingIn r × (n ≤ 2 ^ 31) × (n * r .«word_bytes» ≤ length stored)) × ((r .words * r .«word_bytes» ≤ length output) × (r .words ≤ length marks))
 
-  collectable-so : Collectable (readingOf s set) (2 ^ pinsOf s)
+  collectable-so : Collectable (readingOf s set) (2 ^ storedPins s)
   unfolding readingOf
   collectable-so = (
     (reading-in s set (few-roms s in-domain) data-lines can, pow-mono {j = 31} (omega (arith, can .pins)), le-of-eq (sym (table-long s set stored (length output) (length marks) in-domain none))),
     (room-output s set stored (length output) (length marks) in-domain none, room-marks s set stored (length output) (length marks) in-domain none),
   )
 
-  pub collectable : (r : Reading) (n : ℕ) → r ≡ readingOf s set → n ≡ 2 ^ pinsOf s → Collectable r n
+  pub collectable : (r : Reading) (n : ℕ) → r ≡ readingOf s set → n ≡ 2 ^ storedPins s → Collectable r n
   collectable r n e h = subst (λ (x : Reading). Collectable x n) (sym e) (subst (Collectable (readingOf s set)) (sym h) collectable-so)
 
   abbrev Finishes : Reading → ℕ → Type 0
-  Finishes r n = (x : Outcome) (o m : List ℕ) (why : FirstFault) → why ≡ faultOf s x
+  Finishes r n = (x : Outcome) (o m : List ℕ) (why : FirstFault) → why ≡ outcomeFault s x
       → kept x o m ≡ collectedOf (r .«word_bytes») (wordBy r) (valueBy r stored) (r .words) n output marks
       → readBack why o m ≡ afterEntries s set stored output marks (orElse (inconsistent s set stored) (unserved s set))
 
-  finishes-so : Finishes (readingOf s set) (2 ^ pinsOf s)
+  finishes-so : Finishes (readingOf s set) (2 ^ storedPins s)
   unfolding readingOf
   finishes-so x o m why e h =
       ap (λ (y : FirstFault). readBack y o m) e
       ∙ finished s set stored output marks (fit s set stored (length output) (length marks) in-domain none) (few-roms s in-domain) data-lines x o m h
 
-  pub finishes : (r : Reading) (n : ℕ) → r ≡ readingOf s set → n ≡ 2 ^ pinsOf s → Finishes r n
+  pub finishes : (r : Reading) (n : ℕ) → r ≡ readingOf s set → n ≡ 2 ^ storedPins s → Finishes r n
   finishes r n e h = subst (λ (x : Reading). Finishes x n) (sym e) (subst (Finishes (readingOf s set)) (sym h) finishes-so)

@@ -9,7 +9,7 @@ use mathlib.Core.Logic.{inl, inr}
 use borrow.Author.Tests.{le-leb, lt-leb}
 use Rattle.lists.specs.Each.{tally}
 use Rattle.stored_slot.specs.Words.{romWords, wordsBefore, allWords}
-use Rattle.unscramble.specs.Place.{romOf, addressOf}
+use Rattle.unscramble.specs.design.Place.{wordRom, wordAddress}
 use Rattle.stored_slot.specs.declared.stored.StoredSlot.{StoredSlot}
 
 -- a test that passes below r and not from there on
@@ -55,7 +55,7 @@ module _ (s : StoredSlot) where
     pub flat-counted : f < allWords s
     flat-counted = let l = before-le (suc rom) (s .«num_roms») (w .there) in let h = before-end in omega arith
 
-    pub flat-rom : romOf s f ≡ rom
+    pub flat-rom : wordRom s f ≡ rom
     flat-rom =
         let h = w .there in
         let g = w .flat in
@@ -65,7 +65,7 @@ module _ (s : StoredSlot) where
         (λ k l. lt-leb (wordsBefore s (suc k)) f (omega (arith, before-le (suc rom) (suc k) (omega arith)))) in
         omega arith
 
-    pub flat-address : addressOf s f ≡ n
+    pub flat-address : wordAddress s f ≡ n
     flat-address = let g = w .flat in ap (λ (r : ℕ). f - wordsBefore s r) flat-rom ∙ omega arith
 
   -- a word is of one ROM only

@@ -9,7 +9,7 @@ use lib.Dec.{eqb}
 use lib.ListN.{getD}
 use lib.Pow.{pow-mono}
 use Rattle.stored_slot.specs.Stored.{names}
-use Rattle.unscramble.specs.Reading.{maskOf}
+use Rattle.unscramble.specs.design.Reading.{maskOf}
 use Rattle.unscramble.proofs.Masks.{mask-lt}
 
 pub names-none : (l : List ℕ) (kind gpio : ℕ) → false ≡ names 0 l kind gpio

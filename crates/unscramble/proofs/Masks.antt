@@ -11,8 +11,8 @@ use borrow.Author.Tests.{eqb-true, eqb-false, eq-eqb, ne-eqb}
 use Rattle.lists.specs.Each.{each}
 use Rattle.bits.specs.Bits.{bit}
 use Rattle.bits.proofs.Bit.{bit-lt}
-use Rattle.stored_slot.specs.Stored.{names, addrBase, pinsOf, free}
-use Rattle.unscramble.specs.Reading.{maskOf, highAt, forcedAt}
+use Rattle.stored_slot.specs.Stored.{names, addrBase, storedPins, free}
+use Rattle.unscramble.specs.design.Reading.{maskOf, highAt, forcedAt}
 use Rattle.stored_slot.specs.declared.stored.StoredSlot.{StoredSlot}
 
 -- a mask of n bits
@@ -91,6 +91,6 @@ module _ (high low : ℕ → Bool) (i : ℕ) where
       (one-or-none (high n || low n) (bit i n) (bit-lt i n)) (one-or-none (high n) 1 (omega arith)) in
       rw (parts, unit (high n) (2 ^ n), whole, masked n, may-case (high n) (low n) (bit i n))
 
-pub masked-free : (s : StoredSlot) (i : ℕ) → eqb (bitAnd i (maskOf (pinsOf s) (forcedAt s))) (maskOf (pinsOf s) (highAt s)) ≡ free s i
+pub masked-free : (s : StoredSlot) (i : ℕ) → eqb (bitAnd i (maskOf (storedPins s) (forcedAt s))) (maskOf (storedPins s) (highAt s)) ≡ free s i
 unfolding free
-masked-free s i = masked (highAt s) (λ p. names (s .«num_overrides») (s .overrides) 2 (addrBase s + p)) i (pinsOf s)
+masked-free s i = masked (highAt s) (λ p. names (s .«num_overrides») (s .overrides) 2 (addrBase s + p)) i (storedPins s)

@@ -20,15 +20,15 @@ use Rattle.picks.specs.Picks.{picksOf, pickedBy, chipsFit}
 use Rattle.picks.proofs.Picking.{picks-three}
 use Rattle.picks.specs.declared.Picked.{Picked}
 use Rattle.picks.specs.declared.Picked.the-variants.{NoChip, Chip}
-use Rattle.table_read.specs.Reading.{noMap, gathered, partBy, romBy, noExtent, wordBy, valueBy, ReadingIn}
+use Rattle.table_read.specs.design.Reading.{noMap, gathered, partBy, romBy, noExtent, wordBy, valueBy, ReadingIn}
 use Rattle.table_read.specs.declared.maps.Map.{Map}
 use Rattle.table_read.specs.declared.reading.Extent.{Extent}
 use Rattle.table_read.specs.declared.reading.Reading.{Reading}
-use Rattle.stored_slot.specs.Stored.{romAt, wordBytes, addrBase, dataBase, listed, dataLines, dataPosition, free}
-use Rattle.unscramble.specs.Words.{pickedAt, addressAt, valueAt}
-use Rattle.stored_slot.specs.Words.{romWords, wordsBefore, allWords, pickPosition}
+use Rattle.stored_slot.specs.Stored.{romAt, wordBytes, addrBase, storedDataBase, mapLines, dataLines, storedDataPosition, free}
+use Rattle.unscramble.specs.Words.{romPicked, addressAt, valueAt}
+use Rattle.stored_slot.specs.Words.{romWords, wordsBefore, allWords, storedPickPosition}
 use Rattle.unscramble.proofs.WordAt.{wordOf, wordAt, saidOf, saidAt}
-use Rattle.unscramble.specs.Reading.{Readable, mapOf, pickMap, noLines, addressMap, dataMap, placeOf, extentOf, readingOf}
+use Rattle.unscramble.specs.design.Reading.{Readable, readMap, pickMap, noLines, addressMap, dataMap, romPlace, extentOf, readingOf}
 use Rattle.stored_slot.specs.declared.stored.StoredSlot.{StoredSlot}
 use Rattle.stored_slot.proofs.Listed.{listed-most}
 use Rattle.unscramble.proofs.Flat.{before-le, before-next}
@@ -39,9 +39,9 @@ use Rattle.unscramble.proofs.Masks.{masked-free}
 gather-tab : (n m : ℕ) (p : ℕ → ℕ) (i : ℕ) → n ≤ m → gather n (λ k. getD (tab m p) k 0) i ≡ gather n p i
 gather-tab n m p i h = gather-cong n _ _ i (λ k l. getD-tab p m k 0 (omega arith))
 
-map-says : (gpios : List ℕ) (base i : ℕ) → gathered (mapOf gpios base) i ≡ gather (listed 32 gpios) (λ k. getD gpios k 0 - base) i
+map-says : (gpios : List ℕ) (base i : ℕ) → gathered (readMap gpios base) i ≡ gather (mapLines 32 gpios) (λ k. getD gpios k 0 - base) i
 unfolding gathered
-map-says gpios base i = gather-tab (listed 32 gpios) 32 (λ k. getD gpios k 0 - base) i (listed-most 32 gpios)
+map-says gpios base i = gather-tab (mapLines 32 gpios) 32 (λ k. getD gpios k 0 - base) i (listed-most 32 gpios)
 
 nest : {A : Type 0} (f t : Bool) (x y : A) → cond (f && t) x y ≡ cond f (cond t x y) y
 nest true t x y = refl
@@ -52,38 +52,38 @@ module _ (s : StoredSlot) (set : ChipSetType) where
   r = readingOf s set
 
   -- the lines that pick
-  pick-says : (i : ℕ) → gathered (pickMap s set) i ≡ gather (picksOf set (s .«num_roms»)) (pickPosition s set) i
+  pick-says : (i : ℕ) → gathered (pickMap s set) i ≡ gather (picksOf set (s .«num_roms»)) (storedPickPosition s set) i
   unfolding gathered
   pick-says i =
-      gather-tab (picksOf set (s .«num_roms»)) 32 (λ k. cond (ltb k 3) (pickPosition s set k) 0) i (omega (arith, picks-three set (s .«num_roms»)))
+      gather-tab (picksOf set (s .«num_roms»)) 32 (λ k. cond (ltb k 3) (storedPickPosition s set k) 0) i (omega (arith, picks-three set (s .«num_roms»)))
       ∙ gather-cong (picksOf set (s .«num_roms»)) _ _ i (λ k l. rw (lt-ltb k 3 (omega (arith, picks-three set (s .«num_roms»)))))
 
-  part-pick : (i : ℕ) → partBy (r .address) 4 i ≡ gather (picksOf set (s .«num_roms»)) (pickPosition s set) i
+  part-pick : (i : ℕ) → partBy (r .address) 4 i ≡ gather (picksOf set (s .«num_roms»)) (storedPickPosition s set) i
   unfolding readingOf
   part-pick i = ap (λ (m : Map). gathered m i) (getD-tab (addressMap s set) 5 4 noMap (omega arith)) ∙ pick-says i
 
-  picks-eight : (i : ℕ) → gather (picksOf set (s .«num_roms»)) (pickPosition s set) i < 8
+  picks-eight : (i : ℕ) → gather (picksOf set (s .«num_roms»)) (storedPickPosition s set) i < 8
   picks-eight i =
-      lt-of-lt-of-le (gather-lt (picksOf set (s .«num_roms»)) (pickPosition s set) i) (pow-mono {j = 3} (picks-three set (s .«num_roms»)))
+      lt-of-lt-of-le (gather-lt (picksOf set (s .«num_roms»)) (storedPickPosition s set) i) (pow-mono {j = 3} (picks-three set (s .«num_roms»)))
 
-  place-is : (i : ℕ) → romBy r i ≡ placeOf (pickedAt s set i)
-  unfolding readingOf pickedAt
+  place-is : (i : ℕ) → romBy r i ≡ romPlace (romPicked s set i)
+  unfolding readingOf romPicked
   place-is i =
       ap (λ (b : ℕ). getD (r .roms) b 0) (part-pick i)
-      ∙ getD-tab (λ b. placeOf (pickedBy set (s .«num_roms») b)) 8 (gather (picksOf set (s .«num_roms»)) (pickPosition s set) i) 0 (picks-eight i)
+      ∙ getD-tab (λ b. romPlace (pickedBy set (s .«num_roms») b)) 8 (gather (picksOf set (s .«num_roms»)) (storedPickPosition s set) i) 0 (picks-eight i)
 
   -- a ROM's lines
   part-address : (rom i : ℕ) → rom < 4 → partBy (r .address) rom i ≡ addressAt s rom i
   unfolding readingOf addressAt
   part-address rom i h =
-      let e : addressMap s set rom ≡ mapOf (romAt s rom .addr) (addrBase s) = rw (lt-ltb rom 4 h) in
+      let e : addressMap s set rom ≡ readMap (romAt s rom .addr) (addrBase s) = rw (lt-ltb rom 4 h) in
       ap (λ (m : Map). gathered m i) (getD-tab (addressMap s set) 5 rom noMap (omega arith) ∙ e) ∙ map-says (romAt s rom .addr) (addrBase s) i
 
-  part-data : (rom v : ℕ) → rom < 5 → rom < s .«num_roms» → partBy (r .«data_lines») rom v ≡ gather (dataLines (romAt s rom)) (dataPosition s rom) v
+  part-data : (rom v : ℕ) → rom < 5 → rom < s .«num_roms» → partBy (r .«data_lines») rom v ≡ gather (dataLines (romAt s rom)) (storedDataPosition s rom) v
   unfolding readingOf
   part-data rom v h l =
-      let e : dataMap s rom ≡ mapOf (romAt s rom .«data_lines») (dataBase s) = rw (lt-ltb rom (s .«num_roms») l) in
-      ap (λ (m : Map). gathered m v) (getD-tab (dataMap s) 5 rom noMap h ∙ e) ∙ map-says (romAt s rom .«data_lines») (dataBase s) v
+      let e : dataMap s rom ≡ readMap (romAt s rom .«data_lines») (storedDataBase s) = rw (lt-ltb rom (s .«num_roms») l) in
+      ap (λ (m : Map). gathered m v) (getD-tab (dataMap s) 5 rom noMap h ∙ e) ∙ map-says (romAt s rom .«data_lines») (storedDataBase s) v
 
   extent-at : (k : ℕ) → k < 5 → getD (r .extents) k noExtent ≡ extentOf s k
   unfolding readingOf
@@ -111,23 +111,23 @@ module _ (s : StoredSlot) (set : ChipSetType) where
     extent-rom : (rom : ℕ) → rom < s .«num_roms» → _≡_ {A = Extent} (extentOf s rom) (record { start = wordsBefore s rom; words = romWords s rom })
     extent-rom rom h = rw (lt-ltb rom (s .«num_roms») h)
 
-    word-case : (i : ℕ) (p : Picked) → pickedAt s set i ≡ p → wordBy r i ≡ cond (free s i) (wordOf s p i) (allWords s)
+    word-case : (i : ℕ) (p : Picked) → romPicked s set i ≡ p → wordBy r i ≡ cond (free s i) (wordOf s p i) (allWords s)
     word-case i NoChip e =
         by-place i
-        ∙ ap (word-there i) (place-is i ∙ ap placeOf e)
+        ∙ ap (word-there i) (place-is i ∙ ap romPlace e)
         ∙ ap (λ (x : Extent). word-in i x (partBy (r .address) 4 i)) (extent-at 4 (omega arith) ∙ extent-none)
         ∙ nowhere (free s i) (ltb (partBy (r .address) 4 i) 0) (0 + partBy (r .address) 4 i) (allWords s) (le-ltb (partBy (r .address) 4 i) 0 (omega arith))
     word-case i (Chip rom) e =
         let there : rom < s .«num_roms» = picked-there s set fit rom i e in
         by-place i
-        ∙ ap (word-there i) (place-is i ∙ ap placeOf e)
+        ∙ ap (word-there i) (place-is i ∙ ap romPlace e)
         ∙ ap (λ (x : Extent). word-in i x (partBy (r .address) rom i)) (extent-at rom (omega arith) ∙ extent-rom rom there)
         ∙ ap (λ (a : ℕ). word-in i (record { start = wordsBefore s rom; words = romWords s rom }) a) (part-address rom i (omega arith))
         ∙ nest (free s i) (ltb (addressAt s rom i) (romWords s rom)) (wordsBefore s rom + addressAt s rom i) (allWords s)
 
     pub word-same : (i : ℕ) → wordBy r i ≡ wordAt s set i
     unfolding wordAt
-    word-same i = word-case i (pickedAt s set i) refl
+    word-same i = word-case i (romPicked s set i) refl
 
     -- what it says
     module _ (whole : (rom : ℕ) → rom < s .«num_roms» → dataLines (romAt s rom) ≡ 8 * wordBytes s) (stored : List ℕ) where
@@ -144,23 +144,23 @@ module _ (s : StoredSlot) (set : ChipSetType) where
           let e : dataMap s 4 ≡ noLines = rw (le-ltb 4 (s .«num_roms») few) in
           ap (λ (m : Map). gathered m v) (getD-tab (dataMap s) 5 4 noMap (omega arith) ∙ e)
 
-      value-is : (rom i : ℕ) → gather (8 * wordBytes s) (dataPosition s rom) (word (wordBytes s) stored i) ≡ valueAt s stored rom i
+      value-is : (rom i : ℕ) → gather (8 * wordBytes s) (storedDataPosition s rom) (word (wordBytes s) stored i) ≡ valueAt s stored rom i
       unfolding valueAt
       value-is rom i = refl
 
-      said-case : (i : ℕ) (p : Picked) → pickedAt s set i ≡ p → valueBy r stored i ≡ saidOf s stored p i
-      said-case i NoChip e = by-rom i ∙ ap (said-there i) (place-is i ∙ ap placeOf e) ∙ said-none (word (wordBytes s) stored i)
+      said-case : (i : ℕ) (p : Picked) → romPicked s set i ≡ p → valueBy r stored i ≡ saidOf s stored p i
+      said-case i NoChip e = by-rom i ∙ ap (said-there i) (place-is i ∙ ap romPlace e) ∙ said-none (word (wordBytes s) stored i)
       said-case i (Chip rom) e =
           let there : rom < s .«num_roms» = picked-there s set fit rom i e in
           by-rom i
-          ∙ ap (said-there i) (place-is i ∙ ap placeOf e)
+          ∙ ap (said-there i) (place-is i ∙ ap romPlace e)
           ∙ part-data rom (word (wordBytes s) stored i) (omega arith) there
-          ∙ ap (λ (n : ℕ). gather n (dataPosition s rom) (word (wordBytes s) stored i)) (whole rom there)
+          ∙ ap (λ (n : ℕ). gather n (storedDataPosition s rom) (word (wordBytes s) stored i)) (whole rom there)
           ∙ value-is rom i
 
       pub said-same : (i : ℕ) → valueBy r stored i ≡ saidAt s set stored i
       unfolding saidAt
-      said-same i = said-case i (pickedAt s set i) refl
+      said-same i = said-case i (romPicked s set i) refl
 
   -- it is in bounds
   module _ (few : s .«num_roms» ≤ 4) (whole : (rom : ℕ) → rom < s .«num_roms» → dataLines (romAt s rom) ≡ 8 * wordBytes s) (can : Readable s set) where
@@ -168,11 +168,11 @@ module _ (s : StoredSlot) (set : ChipSetType) where
     unfolding readingOf
     address-few k h = rw (getD-tab (addressMap s set) 5 k noMap h) (lines-few (ltb k 4))
       where
-        lines-few : (t : Bool) → cond t (mapOf (romAt s k .addr) (addrBase s)) (pickMap s set) .lines ≤ 32
+        lines-few : (t : Bool) → cond t (readMap (romAt s k .addr) (addrBase s)) (pickMap s set) .lines ≤ 32
         lines-few true = listed-most 32 (romAt s k .addr)
         lines-few false = omega (arith, picks-three set (s .«num_roms»))
 
-    data-case : (k : ℕ) (t : Bool) → ltb k (s .«num_roms») ≡ t → cond t (mapOf (romAt s k .«data_lines») (dataBase s)) noLines .lines ≤ 8 * wordBytes s
+    data-case : (k : ℕ) (t : Bool) → ltb k (s .«num_roms») ≡ t → cond t (readMap (romAt s k .«data_lines») (storedDataBase s)) noLines .lines ≤ 8 * wordBytes s
     data-case k true e = omega (arith, whole k (ltb-true k (s .«num_roms») e))
     data-case k false e = omega arith
 
@@ -181,11 +181,11 @@ module _ (s : StoredSlot) (set : ChipSetType) where
     data-few k h = rw (getD-tab (dataMap s) 5 k noMap h) (data-case k (ltb k (s .«num_roms»)) refl)
 
     -- a place that is picked is one of the five
-    place-if : (t : Bool) (k : ℕ) (next : Picked) → (t ≡ true → k < 5) → placeOf next < 5 → placeOf (cond t (Chip k) next) < 5
+    place-if : (t : Bool) (k : ℕ) (next : Picked) → (t ≡ true → k < 5) → romPlace next < 5 → romPlace (cond t (Chip k) next) < 5
     place-if true k next h n = h refl
     place-if false k next h n = n
 
-    place-five : (x : ChipSetType) (n bits : ℕ) → n ≤ 4 → placeOf (pickedBy x n bits) < 5
+    place-five : (x : ChipSetType) (n bits : ℕ) → n ≤ 4 → romPlace (pickedBy x n bits) < 5
     place-five Single n bits h = omega arith
     place-five Banked n bits h = place-if (ltb bits n) bits NoChip (λ e. omega (arith, ltb-true bits n e)) (omega arith)
     place-five Multi n bits h =
@@ -195,7 +195,7 @@ module _ (s : StoredSlot) (set : ChipSetType) where
     places-five : (bits : ℕ) → bits < 8 → getD (r .roms) bits 0 < 5
     unfolding readingOf
     places-five bits h =
-        rw (getD-tab (λ b. placeOf (pickedBy set (s .«num_roms») b)) 8 bits 0 h) (place-five set (s .«num_roms») bits few)
+        rw (getD-tab (λ b. romPlace (pickedBy set (s .«num_roms») b)) 8 bits 0 h) (place-five set (s .«num_roms») bits few)
 
     extent-case : (k : ℕ) (t : Bool) → ltb k (s .«num_roms») ≡ t
         → cond t (record { start = wordsBefore s k; words = romWords s k }) noExtent .start + cond t (record { start = wordsBefore s k; words = romWords s k }) noExtent .words

@@ -16,15 +16,15 @@ use Rattle.refusal.specs.declared.first.FirstFault.the-variants.{None}
 use Rattle.picks.specs.Picks.{chipsFit}
 use Rattle.picks.specs.declared.Picked.{Picked}
 use Rattle.picks.specs.declared.Picked.the-variants.{NoChip, Chip}
-use Rattle.table_read.specs.Kept.{firstAt, told, valueAfter, marksAfter, outputAfter, disagrees, firstBad, firstMissing, outcomeOf}
+use Rattle.table_read.specs.design.Kept.{firstAt, told, valueAfter, marksAfter, outputAfter, disagrees, firstBad, firstMissing, outcomeOf}
 use Rattle.table_read.specs.declared.Outcome.the-variants.{Whole, Disagrees, Missing}
 use Rattle.lists.proofs.First.{never-both, not-less, first-within, first-found}
 use Rattle.table_read.proofs.Whole.{disagrees-first, whole-told, whole-marks}
-use Rattle.stored_slot.specs.Stored.{wordBytes, pinsOf}
-use Rattle.unscramble.specs.Words.{pickedAt, addressAt, valueAt, serves}
+use Rattle.stored_slot.specs.Stored.{wordBytes, storedPins}
+use Rattle.unscramble.specs.Words.{romPicked, addressAt, valueAt, serves}
 use Rattle.stored_slot.specs.Words.{wordsBefore, allWords}
 use Rattle.unscramble.specs.Recovered.{keptValue, disagreesFor, inconsistent, unservedIn, unserved, recovered}
-use Rattle.unscramble.specs.Place.{romOf, addressOf, faultOf}
+use Rattle.unscramble.specs.design.Place.{wordRom, wordAddress, outcomeFault}
 use Rattle.unscramble.proofs.WordAt.{wordAt, saidAt}
 use Rattle.stored_slot.specs.declared.stored.StoredSlot.{StoredSlot}
 use Rattle.unscramble.proofs.Serves.{serves-picks}
@@ -39,7 +39,7 @@ at-end x n l false e = let h = ltb-false x n e in eq-eqb x n (omega arith)
 
 module _ (s : StoredSlot) (set : ChipSetType) (stored : List ℕ) where
   abbrev entries : ℕ
-  entries = 2 ^ pinsOf s
+  entries = 2 ^ storedPins s
 
   abbrev t : ℕ → ℕ
   t = wordAt s set
@@ -54,13 +54,13 @@ module _ (s : StoredSlot) (set : ChipSetType) (stored : List ℕ) where
   missing = firstMissing t (allWords s) entries
 
   abbrev inconsistentWord : ℕ → Refusal
-  inconsistentWord f = Inconsistent (romOf s f) (addressOf s f)
+  inconsistentWord f = Inconsistent (wordRom s f) (wordAddress s f)
 
   abbrev unservedWord : ℕ → Refusal
-  unservedWord f = Unserved (romOf s f) (addressOf s f)
+  unservedWord f = Unserved (wordRom s f) (wordAddress s f)
 
   fault-case : (b c : Bool) (f g : ℕ)
-      → faultOf s (cond b (Disagrees f) (cond c (Missing g) Whole)) ≡ orElse (faultIf b (inconsistentWord f)) (faultIf c (unservedWord g))
+      → outcomeFault s (cond b (Disagrees f) (cond c (Missing g) Whole)) ≡ orElse (faultIf b (inconsistentWord f)) (faultIf c (unservedWord g))
   fault-case true c f g = refl
   fault-case false true f g = refl
   fault-case false false f g = refl
@@ -91,9 +91,9 @@ module _ (s : StoredSlot) (set : ChipSetType) (stored : List ℕ) where
       served-fault =
           ap (λ (b : Bool). faultIf b (Inconsistent rom (addressAt s rom i))) (sym test-same)
           ∙ ap (λ (r : ℕ). faultIf (disagrees t v (allWords s) i) (Inconsistent r (addressAt s rom i))) (sym (flat-rom s (t i) rom (addressAt s rom i) its-word))
-          ∙ ap (λ (n : ℕ). faultIf (disagrees t v (allWords s) i) (Inconsistent (romOf s (t i)) n)) (sym (flat-address s (t i) rom (addressAt s rom i) its-word))
+          ∙ ap (λ (n : ℕ). faultIf (disagrees t v (allWords s) i) (Inconsistent (wordRom s (t i)) n)) (sym (flat-address s (t i) rom (addressAt s rom i) its-word))
 
-    by-test : (rom i : ℕ) → i < entries → pickedAt s set i ≡ Chip rom → (b : Bool) → serves s set rom (addressAt s rom i) i ≡ b
+    by-test : (rom i : ℕ) → i < entries → romPicked s set i ≡ Chip rom → (b : Bool) → serves s set rom (addressAt s rom i) i ≡ b
         → faultIf (b && not (eqb (valueAt s stored rom i) (keptValue s set stored rom (addressAt s rom i)))) (Inconsistent rom (addressAt s rom i))
         ≡ faultIf (disagrees t v (allWords s) i) (inconsistentWord (t i))
     by-test rom i l g true e = served-fault rom i l e
@@ -104,7 +104,7 @@ module _ (s : StoredSlot) (set : ChipSetType) (stored : List ℕ) where
         let same : r ≡ rom = cc in
         never-both (serves s set rom (addressAt s rom i) i) (ap (λ (x : ℕ). serves s set x (addressAt s x i) i) (sym same) ∙ q) e)
 
-    by-rom : (i : ℕ) → i < entries → (p : Picked) → pickedAt s set i ≡ p
+    by-rom : (i : ℕ) → i < entries → (p : Picked) → romPicked s set i ≡ p
         → disagreesFor s set stored i p ≡ faultIf (disagrees t v (allWords s) i) (inconsistentWord (t i))
     by-rom i l NoChip g =
         skipped i (inconsistentWord (t i)) (λ h.
@@ -116,14 +116,14 @@ module _ (s : StoredSlot) (set : ChipSetType) (stored : List ℕ) where
 
     inconsistent-is : inconsistent s set stored ≡ faultIf (ltb bad entries) (inconsistentWord (t bad))
     inconsistent-is =
-        first-fault entries _ (disagrees t v (allWords s)) (λ i. inconsistentWord (t i)) (λ i l. by-rom i l (pickedAt s set i) refl)
+        first-fault entries _ (disagrees t v (allWords s)) (λ i. inconsistentWord (t i)) (λ i l. by-rom i l (romPicked s set i) refl)
 
     unserved-one : (f rom n : ℕ) → Flat s f rom n → unservedIn s set rom n ≡ faultIf (not (told t f entries)) (unservedWord f)
     unserved-one f rom n w =
         ap (λ (x : ℕ). faultIf (eqb x entries) (Unserved rom n)) (first-flat s set fit f rom n entries w)
         ∙ ap (λ (b : Bool). faultIf b (Unserved rom n)) (at-end (firstAt t f entries) entries (first-within _ entries) (told t f entries) refl)
         ∙ ap (λ (r : ℕ). faultIf (not (told t f entries)) (Unserved r n)) (sym (flat-rom s f rom n w))
-        ∙ ap (λ (m : ℕ). faultIf (not (told t f entries)) (Unserved (romOf s f) m)) (sym (flat-address s f rom n w))
+        ∙ ap (λ (m : ℕ). faultIf (not (told t f entries)) (Unserved (wordRom s f) m)) (sym (flat-address s f rom n w))
 
     unserved-is : unserved s set ≡ faultIf (ltb missing (allWords s)) (unservedWord missing)
     unserved-is =
@@ -131,7 +131,7 @@ module _ (s : StoredSlot) (set : ChipSetType) (stored : List ℕ) where
         unserved-one (wordsBefore s rom + n) rom n (flat-of s rom n l q))
         ∙ first-fault (allWords s) _ (λ f. not (told t f entries)) unservedWord (λ f l. refl)
 
-    pub fault-same : faultOf s (outcomeOf t v (allWords s) entries) ≡ orElse (inconsistent s set stored) (unserved s set)
+    pub fault-same : outcomeFault s (outcomeOf t v (allWords s) entries) ≡ orElse (inconsistent s set stored) (unserved s set)
     unfolding outcomeOf
     fault-same =
         fault-case (ltb bad entries) (ltb missing (allWords s)) (t bad) missing

@@ -12,8 +12,8 @@ use Rattle.picks.specs.declared.Picked.{Picked}
 use Rattle.picks.specs.declared.Picked.the-variants.{NoChip, Chip}
 use Rattle.picks.proofs.Picking.{picked-below}
 use Rattle.stored_slot.specs.Stored.{free}
-use Rattle.unscramble.specs.Words.{pickedAt, addressAt, picksRom, serves}
-use Rattle.stored_slot.specs.Words.{romWords, pickPosition}
+use Rattle.unscramble.specs.Words.{romPicked, addressAt, picksRom, serves}
+use Rattle.stored_slot.specs.Words.{romWords, storedPickPosition}
 use Rattle.stored_slot.specs.declared.stored.StoredSlot.{StoredSlot}
 
 picks-is : (p : Picked) (rom : ℕ) → picksRom p rom ≡ true → p ≡ Chip rom
@@ -21,15 +21,15 @@ picks-is NoChip rom e = cc
 picks-is (Chip k) rom e = ap Chip (eqb-true k rom e)
 
 module _ (s : StoredSlot) (set : ChipSetType) where
-  pub picked-there : chipsFit set (s .«num_roms») ≡ true → (rom i : ℕ) → pickedAt s set i ≡ Chip rom → rom < s .«num_roms»
-  unfolding pickedAt
+  pub picked-there : chipsFit set (s .«num_roms») ≡ true → (rom i : ℕ) → romPicked s set i ≡ Chip rom → rom < s .«num_roms»
+  unfolding romPicked
   picked-there fit rom i p =
-      picked-below set (s .«num_roms») _ rom fit (gather-lt (picksOf set (s .«num_roms»)) (pickPosition s set) i) p
+      picked-below set (s .«num_roms») _ rom fit (gather-lt (picksOf set (s .«num_roms»)) (storedPickPosition s set) i) p
 
   module _ (rom n : ℕ) where
     module _ (i : ℕ) (e : serves s set rom n i ≡ true) where
       abbrev own : Bool
-      own = free s i && picksRom (pickedAt s set i) rom
+      own = free s i && picksRom (romPicked s set i) rom
 
       abbrev there : Bool
       there = eqb (addressAt s rom i) n
@@ -39,10 +39,10 @@ module _ (s : StoredSlot) (set : ChipSetType) where
       all-but-last = and-left (own && there) (ltb n (romWords s rom)) e
 
       pub serves-free : free s i ≡ true
-      serves-free = and-left (free s i) (picksRom (pickedAt s set i) rom) (and-left own there all-but-last)
+      serves-free = and-left (free s i) (picksRom (romPicked s set i) rom) (and-left own there all-but-last)
 
-      pub serves-picks : pickedAt s set i ≡ Chip rom
-      serves-picks = picks-is _ rom (and-right (free s i) (picksRom (pickedAt s set i) rom) (and-left own there all-but-last))
+      pub serves-picks : romPicked s set i ≡ Chip rom
+      serves-picks = picks-is _ rom (and-right (free s i) (picksRom (romPicked s set i) rom) (and-left own there all-but-last))
 
       pub serves-address : addressAt s rom i ≡ n
       serves-address = eqb-true (addressAt s rom i) n (and-right own there all-but-last)
@@ -51,6 +51,6 @@ module _ (s : StoredSlot) (set : ChipSetType) where
       unfolding serves
       serves-counted = ltb-true n (romWords s rom) (and-right (own && there) (ltb n (romWords s rom)) e)
 
-    pub serves-is : (i : ℕ) → free s i ≡ true → pickedAt s set i ≡ Chip rom → addressAt s rom i ≡ n → n < romWords s rom → serves s set rom n i ≡ true
+    pub serves-is : (i : ℕ) → free s i ≡ true → romPicked s set i ≡ Chip rom → addressAt s rom i ≡ n → n < romWords s rom → serves s set rom n i ≡ true
     unfolding serves
     serves-is i f p q r = rw (f, p, eq-eqb rom rom refl, eq-eqb (addressAt s rom i) n q, lt-ltb n (romWords s rom) r)

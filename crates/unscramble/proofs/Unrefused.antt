@@ -23,10 +23,10 @@ use Rattle.refusal.specs.declared.first.FirstFault.{FirstFault}
 use Rattle.refusal.specs.declared.first.FirstFault.the-variants.{None}
 use Rattle.picks.specs.Picks.{chipsFit}
 use Rattle.refusal.proofs.Firsts.{or-left, or-right, first-all}
-use Rattle.stored_slot.specs.Stored.{romAt, storedIn, wordBytes, addrBase, dataBase, selectGpio, pinsOf, addrLines, dataLines, within, inWindow, xInside}
+use Rattle.stored_slot.specs.Stored.{romAt, storedIn, wordBytes, addrBase, storedDataBase, storedSelect, storedPins, addrLines, dataLines, within, inWindow, xInside}
 use Rattle.stored_slot.specs.Words.{romWords, wordsBefore, allWords, xAt, pickGpio}
 use Rattle.stored_slot.specs.Faults.{layoutFault, romFault, xFaults, selectFault, pickFault, roomFault, romsFault}
-use Rattle.unscramble.specs.Reading.{Readable}
+use Rattle.unscramble.specs.design.Reading.{Readable}
 use Rattle.stored_slot.specs.declared.stored.StoredSlot.{StoredSlot}
 
 no-fault : (b : Bool) (why : Refusal) → faultIf b why ≡ None → b ≡ false
@@ -130,16 +130,16 @@ module _ (s : StoredSlot) (set : ChipSetType) (stored : List ℕ) (output marks 
 
   -- the algorithms and the table
   abbrev table-bad : Bool
-  table-bad = not (eqb (length stored) (2 ^ pinsOf s * wordBytes s))
+  table-bad = not (eqb (length stored) (2 ^ storedPins s * wordBytes s))
 
   abbrev dma-bad : Bool
   dma-bad = not (eqb (s .«alg_dma» .alg) 0) || ltb 1 (s .«alg_dma» .«bit_mode»)
 
   abbrev past-data-base : FirstFault
-  past-data-base = orElse (faultIf dma-bad UnknownAlgorithm) (orElse (faultIf (leb 32 (pinsOf s)) BadLayout) (faultIf table-bad BadLayout))
+  past-data-base = orElse (faultIf dma-bad UnknownAlgorithm) (orElse (faultIf (leb 32 (storedPins s)) BadLayout) (faultIf table-bad BadLayout))
 
   abbrev past-addr-base : FirstFault
-  past-addr-base = orElse (faultIf (ltb 1 (s .«alg_data» .alg)) UnknownAlgorithm) (orElse (faultIf (ltb 255 (dataBase s)) BadLayout) past-data-base)
+  past-addr-base = orElse (faultIf (ltb 1 (s .«alg_data» .alg)) UnknownAlgorithm) (orElse (faultIf (ltb 255 (storedDataBase s)) BadLayout) past-data-base)
 
   abbrev past-addr-alg : FirstFault
   past-addr-alg = orElse (faultIf (ltb 255 (addrBase s)) BadLayout) past-addr-base
@@ -153,31 +153,31 @@ module _ (s : StoredSlot) (set : ChipSetType) (stored : List ℕ) (output marks 
   addr-base-in : addrBase s ≤ 255
   addr-base-in = ltb-false 255 (addrBase s) (no-fault (ltb 255 (addrBase s)) BadLayout (or-left _ past-addr-base addr-alg-none))
 
-  data-alg-none : orElse (faultIf (ltb 255 (dataBase s)) BadLayout) past-data-base ≡ None
+  data-alg-none : orElse (faultIf (ltb 255 (storedDataBase s)) BadLayout) past-data-base ≡ None
   data-alg-none =
       or-right (faultIf (ltb 1 (s .«alg_data» .alg)) UnknownAlgorithm) _ (or-right (faultIf (ltb 255 (addrBase s)) BadLayout) past-addr-base addr-alg-none)
 
-  data-base-in : dataBase s ≤ 255
-  data-base-in = ltb-false 255 (dataBase s) (no-fault (ltb 255 (dataBase s)) BadLayout (or-left _ past-data-base data-alg-none))
+  data-base-in : storedDataBase s ≤ 255
+  data-base-in = ltb-false 255 (storedDataBase s) (no-fault (ltb 255 (storedDataBase s)) BadLayout (or-left _ past-data-base data-alg-none))
 
   data-base-none : past-data-base ≡ None
-  data-base-none = or-right (faultIf (ltb 255 (dataBase s)) BadLayout) past-data-base data-alg-none
+  data-base-none = or-right (faultIf (ltb 255 (storedDataBase s)) BadLayout) past-data-base data-alg-none
 
   bytes-in : wordBytes s ≤ 2
   bytes-in =
-      let mode = no-fault dma-bad UnknownAlgorithm (or-left _ (orElse (faultIf (leb 32 (pinsOf s)) BadLayout) (faultIf table-bad BadLayout)) data-base-none) in
+      let mode = no-fault dma-bad UnknownAlgorithm (or-left _ (orElse (faultIf (leb 32 (storedPins s)) BadLayout) (faultIf table-bad BadLayout)) data-base-none) in
       omega (arith, ltb-false 1 (s .«alg_dma» .«bit_mode») (or-false-right (not (eqb (s .«alg_dma» .alg) 0)) (ltb 1 (s .«alg_dma» .«bit_mode»)) mode))
 
-  table-none : orElse (faultIf (leb 32 (pinsOf s)) BadLayout) (faultIf table-bad BadLayout) ≡ None
+  table-none : orElse (faultIf (leb 32 (storedPins s)) BadLayout) (faultIf table-bad BadLayout) ≡ None
   table-none = or-right (faultIf dma-bad UnknownAlgorithm) _ data-base-none
 
-  pub pins-in-index : pinsOf s < 32
-  pins-in-index = leb-false 32 (pinsOf s) (no-fault (leb 32 (pinsOf s)) BadLayout (or-left _ (faultIf table-bad BadLayout) table-none))
+  pub pins-in-index : storedPins s < 32
+  pins-in-index = leb-false 32 (storedPins s) (no-fault (leb 32 (storedPins s)) BadLayout (or-left _ (faultIf table-bad BadLayout) table-none))
 
-  pub table-long : length stored ≡ 2 ^ pinsOf s * wordBytes s
+  pub table-long : length stored ≡ 2 ^ storedPins s * wordBytes s
   table-long =
-      eqb-true (length stored) (2 ^ pinsOf s * wordBytes s)
-      (not-false _ (no-fault table-bad BadLayout (or-right (faultIf (leb 32 (pinsOf s)) BadLayout) (faultIf table-bad BadLayout) table-none)))
+      eqb-true (length stored) (2 ^ storedPins s * wordBytes s)
+      (not-false _ (no-fault table-bad BadLayout (or-right (faultIf (leb 32 (storedPins s)) BadLayout) (faultIf table-bad BadLayout) table-none)))
 
   -- a ROM's data lines
   pub data-whole : (rom : ℕ) → rom < s .«num_roms» → dataLines (romAt s rom) ≡ 8 * wordBytes s
@@ -185,7 +185,7 @@ module _ (s : StoredSlot) (set : ChipSetType) (stored : List ℕ) (output marks 
   data-whole rom l =
       let missing = faultIf (not (romAt s rom .«has_map»)) MissingLayout in
       let lines-bad = faultIf (not (each (addrLines (romAt s rom)) (λ n. inWindow s (getD (romAt s rom .addr) n 0)))) BadLayout in
-      let data-bad = faultIf (not (each (dataLines (romAt s rom)) (λ n. within (dataBase s) (8 * wordBytes s) (getD (romAt s rom .«data_lines») n 0)))) BadLayout in
+      let data-bad = faultIf (not (each (dataLines (romAt s rom)) (λ n. within (storedDataBase s) (8 * wordBytes s) (getD (romAt s rom .«data_lines») n 0)))) BadLayout in
       let whole = first-all (romFault s) (s .«num_roms») (or-left _ (orElse (faultIf (not (chipsFit set (s .«num_roms»))) BadLayout) (orElse (pickFault s set) (roomFault s output marks))) past-layout) rom l in
       eqb-true (dataLines (romAt s rom)) (8 * wordBytes s) (not-false _ (no-fault (not (eqb (dataLines (romAt s rom)) (8 * wordBytes s))) BadLayout (last-none missing lines-bad data-bad _ whole)))
 
@@ -194,8 +194,8 @@ module _ (s : StoredSlot) (set : ChipSetType) (stored : List ℕ) (output marks 
   select-small Single e k = omega arith
   select-small Banked e k = x-at-small s in-domain k
   select-small Multi e zero =
-      let outside = no-fault (ltb 255 (selectGpio s) || not (inWindow s (selectGpio s))) BadLayout (or-right (faultIf (not (eqb (s .«alg_cs» .alg) 0)) UnknownAlgorithm) _ (or-right (xFaults s) (selectFault s) e)) in
-      ltb-false 255 (selectGpio s) (or-false-left (ltb 255 (selectGpio s)) (not (inWindow s (selectGpio s))) outside)
+      let outside = no-fault (ltb 255 (storedSelect s) || not (inWindow s (storedSelect s))) BadLayout (or-right (faultIf (not (eqb (s .«alg_cs» .alg) 0)) UnknownAlgorithm) _ (or-right (xFaults s) (selectFault s) e)) in
+      ltb-false 255 (storedSelect s) (or-false-left (ltb 255 (storedSelect s)) (not (inWindow s (storedSelect s))) outside)
   select-small Multi e (suc k) = x-at-small s in-domain k
 
   pub readable : Readable s set

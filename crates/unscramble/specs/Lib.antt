@@ -1,4 +1,3 @@
 pub mod Words
 pub mod Recovered
-pub mod Place
-pub mod Reading
+pub mod design

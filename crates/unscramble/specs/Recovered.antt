@@ -15,9 +15,9 @@ use Rattle.refusal.specs.declared.first.FirstFault.{FirstFault}
 use Rattle.refusal.specs.declared.first.FirstFault.the-variants.{None, Of}
 use Rattle.picks.specs.declared.Picked.{Picked}
 use Rattle.picks.specs.declared.Picked.the-variants.{NoChip, Chip}
-use Rattle.stored_slot.specs.Stored.{storedIn, wordBytes, pinsOf}
+use Rattle.stored_slot.specs.Stored.{storedIn, wordBytes, storedPins}
 use Rattle.stored_slot.specs.Faults.{wrongSize, romsFault}
-use Rattle.unscramble.specs.Words.{pickedAt, addressAt, valueAt, serves}
+use Rattle.unscramble.specs.Words.{romPicked, addressAt, valueAt, serves}
 use Rattle.stored_slot.specs.Words.{romWords, allWords}
 use Rattle.stored_slot.specs.declared.stored.SlotType.{SlotType}
 use Rattle.stored_slot.specs.declared.stored.SlotType.the-variants.{Unknown, Plugin, Roms}
@@ -29,7 +29,7 @@ firstFor s set rom n m = firstWhere m (serves s set rom n)
 
 -- 01 unscramble 8: a word has the value of the lowest index whose entry is for it
 abbrev pub keptValue : StoredSlot → ChipSetType → List ℕ → ℕ → ℕ → ℕ
-keptValue s set stored rom n = valueAt s stored rom (firstFor s set rom n (2 ^ pinsOf s))
+keptValue s set stored rom n = valueAt s stored rom (firstFor s set rom n (2 ^ storedPins s))
 
 -- 01 Number 23: the entry at index i is for word n of a ROM and says another value than that word has; the place is ROM and n
 abbrev pub disagreesIn : StoredSlot → ChipSetType → List ℕ → ℕ → ℕ → ℕ → FirstFault
@@ -43,11 +43,11 @@ disagreesFor s set stored i (Chip rom) = disagreesIn s set stored i rom (address
 -- 01 Number 23: of several entries that disagree the one of lowest index answers
 abbrev pub inconsistent : StoredSlot → ChipSetType → List ℕ → FirstFault
 -- 01 Number 23: of several entries that disagree the one of lowest index answers
-inconsistent s set stored = firstOf (2 ^ pinsOf s) (λ i. disagreesFor s set stored i (pickedAt s set i))
+inconsistent s set stored = firstOf (2 ^ storedPins s) (λ i. disagreesFor s set stored i (romPicked s set i))
 
 -- 01 Number 24: no entry is for word n of a ROM; the place is ROM and n
 abbrev pub unservedIn : StoredSlot → ChipSetType → ℕ → ℕ → FirstFault
-unservedIn s set rom n = faultIf (eqb (firstFor s set rom n (2 ^ pinsOf s)) (2 ^ pinsOf s)) (Unserved rom n)
+unservedIn s set rom n = faultIf (eqb (firstFor s set rom n (2 ^ storedPins s)) (2 ^ storedPins s)) (Unserved rom n)
 
 -- 01 Number 24: the lowest ROM that misses a word answers, with the lowest word that it misses
 abbrev pub unserved : StoredSlot → ChipSetType → FirstFault
@@ -73,8 +73,8 @@ abbrev pub readBack : FirstFault → List ℕ → List ℕ → ReadBack
 readBack a o m = record { answer = a; output = o; marks = m }
 
 -- 01 Numbers 5: a refusal before the entries leaves output and marks as they were lent
-abbrev pub refused : Refusal → List ℕ → List ℕ → ReadBack
-refused why output marks = readBack (Of why) output marks
+abbrev pub readRefused : Refusal → List ℕ → List ℕ → ReadBack
+readRefused why output marks = readBack (Of why) output marks
 
 -- 01 Numbers 7: new bytes stand at the front of a buffer, and those behind them stay
 abbrev pub front : List ℕ → List ℕ → List ℕ
@@ -89,11 +89,11 @@ afterEntries s set stored output marks (Of why) =
     readBack (Of why) (front (replicate (allWords s * wordBytes s) 0) output) (front (replicate (allWords s) 0) marks)
 
 -- 01 Numbers 4: entries count only where no earlier test refuses
-abbrev pub afterFault : StoredSlot → ChipSetType → List ℕ → List ℕ → List ℕ → FirstFault → ReadBack
+abbrev pub readAfter : StoredSlot → ChipSetType → List ℕ → List ℕ → List ℕ → FirstFault → ReadBack
 -- 01 Numbers 4: entries count only where no earlier test refuses
-afterFault s set stored output marks (Of why) = refused why output marks
+readAfter s set stored output marks (Of why) = readRefused why output marks
 -- 01 Numbers 4: entries count only where no earlier test refuses
-afterFault s set stored output marks None =
+readAfter s set stored output marks None =
     afterEntries s set stored output marks (orElse (inconsistent s set stored) (unserved s set))
 
 -- 01 Number 16: the output has fewer bytes than the plugin
@@ -101,18 +101,18 @@ afterFault s set stored output marks None =
 -- 01 unscramble 1: the output gets every byte of a plugin
 abbrev pub pluginRead : List ℕ → List ℕ → List ℕ → ReadBack
 pluginRead stored output marks =
-    cond (ltb (length output) (length stored)) (refused ShortBuffer output marks) (readBack None (front stored output) marks)
+    cond (ltb (length output) (length stored)) (readRefused ShortBuffer output marks) (readBack None (front stored output) marks)
 
 -- 01 Number 18: the slot is neither a plugin nor of a known set kind
 abbrev pub ofType : StoredSlot → List ℕ → List ℕ → List ℕ → SlotType → ReadBack
 -- 01 Number 18: the slot is neither a plugin nor of a known set kind
-ofType s stored output marks Unknown = refused UnknownSlotType output marks
+ofType s stored output marks Unknown = readRefused UnknownSlotType output marks
 -- 01 Number 18: the slot is neither a plugin nor of a known set kind
 ofType s stored output marks Plugin = pluginRead stored output marks
 -- 01 Number 18: the slot is neither a plugin nor of a known set kind
 ofType s stored output marks (Roms set) =
     -- 01 Numbers 4: entries count only where no earlier test refuses
-    afterFault s set stored output marks (romsFault s set stored (length output) (length marks))
+    readAfter s set stored output marks (romsFault s set stored (length output) (length marks))
 
 -- 01 Number 1: the slot is outside of the domain
 -- 01 Numbers 2: the domain is tested before all else
@@ -123,5 +123,5 @@ unfoldable pub unscrambled : StoredSlot → List ℕ → List ℕ → List ℕ �
 -- 01 Numbers 4: the length (17) is tested next, before the kind is looked at, so that a plugin's 16 comes after it
 unscrambled s stored output marks =
     cond (storedIn s)
-    (cond (wrongSize s stored) (refused WrongSize output marks) (ofType s stored output marks (s .«slot_type»)))
-    (refused OutOfDomain output marks)
+    (cond (wrongSize s stored) (readRefused WrongSize output marks) (ofType s stored output marks (s .«slot_type»)))
+    (readRefused OutOfDomain output marks)

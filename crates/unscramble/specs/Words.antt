@@ -10,13 +10,13 @@ use Rattle.slot.specs.declared.description.ChipSetType.the-variants.{Single, Ba
 use Rattle.picks.specs.Picks.{picksOf, pickedBy}
 use Rattle.picks.specs.declared.Picked.{Picked}
 use Rattle.picks.specs.declared.Picked.the-variants.{NoChip, Chip}
-use Rattle.stored_slot.specs.Words.{romWords, pickPosition}
-use Rattle.stored_slot.specs.Stored.{romAt, wordBytes, addrBase, selectGpio, addrLines, addrPosition, dataPosition, xInside, free}
+use Rattle.stored_slot.specs.Words.{romWords, storedPickPosition}
+use Rattle.stored_slot.specs.Stored.{romAt, wordBytes, addrBase, storedSelect, addrLines, addrPosition, storedDataPosition, xInside, free}
 use Rattle.stored_slot.specs.declared.stored.StoredSlot.{StoredSlot}
 
 -- 01 unscramble 6: the lines that pick a ROM are read as a build reads them
-unfoldable pub pickedAt : StoredSlot → ChipSetType → ℕ → Picked
-pickedAt s set i = pickedBy set (s .«num_roms») (gather (picksOf set (s .«num_roms»)) (pickPosition s set) i)
+unfoldable pub romPicked : StoredSlot → ChipSetType → ℕ → Picked
+romPicked s set i = pickedBy set (s .«num_roms») (gather (picksOf set (s .«num_roms»)) (storedPickPosition s set) i)
 
 -- the address that it has there
 -- 01 unscramble 6: bit k of the address stands in the index at the position of address line k
@@ -25,7 +25,7 @@ addressAt s rom i = gather (addrLines (romAt s rom)) (addrPosition s rom) i
 
 -- 01 unscramble 6: bit k of the value stands in the entry at the position of data line k
 unfoldable pub valueAt : StoredSlot → List ℕ → ℕ → ℕ → ℕ
-valueAt s stored rom i = gather (8 * wordBytes s) (dataPosition s rom) (word (wordBytes s) stored i)
+valueAt s stored rom i = gather (8 * wordBytes s) (storedDataPosition s rom) (word (wordBytes s) stored i)
 
 -- whether it is this ROM that is picked
 abbrev pub picksRom : Picked → ℕ → Bool
@@ -38,4 +38,4 @@ unfoldable pub serves : StoredSlot → ChipSetType → ℕ → ℕ → ℕ → B
 -- whether an entry is for word n of a ROM
 -- 01 unscramble 7: an entry is for no word where a forced bit differs, no ROM is picked, or its address is too high for the ROM
 serves s set rom n i =
-    free s i && picksRom (pickedAt s set i) rom && eqb (addressAt s rom i) n && ltb n (romWords s rom)
+    free s i && picksRom (romPicked s set i) rom && eqb (addressAt s rom i) n && ltb n (romWords s rom)

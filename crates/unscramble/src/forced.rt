@@ -5,8 +5,8 @@ ghost use mathlib.Core.Path.{_≡_};
 ghost use mathlib.Core.Bool.{cond, _&&_, _||_};
 ghost use Prim.Native.Nat.{_%_, _/_, _^_, _<_};
 ghost use lib.Dec.{eqb};
-ghost use Rattle.stored_slot.specs.Stored.{names, pinsOf};
-ghost use Rattle.unscramble.specs.Reading.{maskOf, forcedAt, highAt};
+ghost use Rattle.stored_slot.specs.Stored.{names, storedPins};
+ghost use Rattle.unscramble.specs.design.Reading.{maskOf, forcedAt, highAt};
 
 // Whether one before an entry names a GPIO by a kind, or the entry does.
 fn names_it(entry: u8, kind: u8, gpio: u32, found: bool) -> bool
@@ -71,8 +71,8 @@ fn forces(s: StoredSlot, low_too: bool, p: u8) -> bool
 }
 
 fn mask(s: StoredSlot, low_too: bool) -> u32
-    requires { ⌜ pinsOf s < 32 ⌝ }
-    ensures { λ r. ⌜ r ≡ maskOf (pinsOf s) (λ p. cond «low_too» (forcedAt s p) (highAt s p)) ⌝ }
+    requires { ⌜ storedPins s < 32 ⌝ }
+    ensures { λ r. ⌜ r ≡ maskOf (storedPins s) (λ p. cond «low_too» (forcedAt s p) (highAt s p)) ⌝ }
 {
     let addr = s.alg_addr;
     let n = addr.num_addr_pins;
@@ -87,16 +87,16 @@ fn mask(s: StoredSlot, low_too: bool) -> u32
 
 // The index bits that are forced high.
 pub fn forced_high(s: StoredSlot) -> u32
-    requires { ⌜ pinsOf s < 32 ⌝ }
-    ensures { λ r. ⌜ r ≡ maskOf (pinsOf s) (highAt s) ⌝ }
+    requires { ⌜ storedPins s < 32 ⌝ }
+    ensures { λ r. ⌜ r ≡ maskOf (storedPins s) (highAt s) ⌝ }
 {
     mask(s, false)
 }
 
 // The index bits that are forced, low or high.
 pub fn forced(s: StoredSlot) -> u32
-    requires { ⌜ pinsOf s < 32 ⌝ }
-    ensures { λ r. ⌜ r ≡ maskOf (pinsOf s) (forcedAt s) ⌝ }
+    requires { ⌜ storedPins s < 32 ⌝ }
+    ensures { λ r. ⌜ r ≡ maskOf (storedPins s) (forcedAt s) ⌝ }
 {
     mask(s, true)
 }

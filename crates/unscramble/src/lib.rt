@@ -25,7 +25,7 @@ ghost use Rattle.refusal.specs.First.{orElse};
 ghost use Rattle.refusal.specs.declared.first.FirstFault.the-variants.{None};
 ghost use Rattle.stored_slot.specs.Stored.{storedIn};
 ghost use Rattle.stored_slot.specs.Faults.{romsFault};
-ghost use Rattle.unscramble.specs.Recovered.{readBack, pluginRead, inconsistent, unserved, afterEntries, afterFault, unscrambled};
+ghost use Rattle.unscramble.specs.Recovered.{readBack, pluginRead, inconsistent, unserved, afterEntries, readAfter, unscrambled};
 
 // A plugin is stored as it is.
 fn plugin(stored: &[u8], output: &mut [u8]) -> FirstFault
@@ -61,7 +61,7 @@ fn roms_read(
     marks: &mut [u8],
 ) -> FirstFault
     requires { ⌜ storedIn s ≡ true ⌝ }
-    ensures { λ r. ⌜ readBack r (now (output .exit)) (now (marks .exit)) ≡ afterFault s «set_type» (now (stored .entry)) (now (output .entry)) (now (marks .entry)) (romsFault s «set_type» (now (stored .entry)) (length (now (output .entry))) (length (now (marks .entry)))) ⌝ }
+    ensures { λ r. ⌜ readBack r (now (output .exit)) (now (marks .exit)) ≡ readAfter s «set_type» (now (stored .entry)) (now (output .entry)) (now (marks .entry)) (romsFault s «set_type» (now (stored .entry)) (length (now (output .entry))) (length (now (marks .entry)))) ⌝ }
 {
     match roms_fault(s, set_type, stored, output.len(), marks.len()) {
         FirstFault::Of(why) => FirstFault::Of(why),

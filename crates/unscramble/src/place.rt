@@ -6,11 +6,11 @@ use stored_slot::roms::words_before;
 use stored_slot::stored::StoredSlot;
 use table_read::Outcome;
 ghost use mathlib.Core.Path.{_≡_};
-ghost use Rattle.unscramble.specs.Place.{romOf, addressOf, faultOf};
+ghost use Rattle.unscramble.specs.design.Place.{wordRom, wordAddress, outcomeFault};
 
 // The ROM of a word: as many ROMs end before it.
 fn rom_of(s: StoredSlot, f: u32) -> u8
-    ensures { λ r. ⌜ r ≡ romOf s f ⌝ }
+    ensures { λ r. ⌜ r ≡ wordRom s f ⌝ }
 {
     let n = s.num_roms;
     let mut rom: u8 = 0;
@@ -24,7 +24,7 @@ fn rom_of(s: StoredSlot, f: u32) -> u8
 
 // A word's address in its ROM.
 fn address_of(s: StoredSlot, f: u32) -> u32
-    ensures { λ r. ⌜ r ≡ addressOf s f ⌝ }
+    ensures { λ r. ⌜ r ≡ wordAddress s f ⌝ }
 {
     let before = words_before(s, rom_of(s, f));
     if (f as u64) < before {
@@ -35,7 +35,7 @@ fn address_of(s: StoredSlot, f: u32) -> u32
 
 // What the outcome of all entries is refused for.
 pub fn fault_of(s: StoredSlot, outcome: Outcome) -> FirstFault
-    ensures { λ r. ⌜ r ≡ faultOf s outcome ⌝ }
+    ensures { λ r. ⌜ r ≡ outcomeFault s outcome ⌝ }
 {
     match outcome {
         Outcome::Whole => FirstFault::None,

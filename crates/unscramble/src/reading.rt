@@ -25,9 +25,9 @@ ghost use lib.Dec.{ltb};
 ghost use lib.ListN.{getD};
 ghost use Rattle.lists.specs.Tab.{tab};
 ghost use Rattle.picks.specs.Picks.{pickedBy};
-ghost use Rattle.stored_slot.specs.Stored.{addrBase, dataBase, romAt};
-ghost use Rattle.stored_slot.specs.Words.{allWords, pickGpio, pickPosition};
-ghost use Rattle.unscramble.specs.Reading.{Readable, mapOf, pickMap, addressMap, dataMap, placeOf, extentOf, readingOf};
+ghost use Rattle.stored_slot.specs.Stored.{addrBase, storedDataBase, romAt};
+ghost use Rattle.stored_slot.specs.Words.{allWords, pickGpio, storedPickPosition};
+ghost use Rattle.unscramble.specs.design.Reading.{Readable, readMap, pickMap, addressMap, dataMap, romPlace, extentOf, readingOf};
 
 // The positions of a list of GPIOs from a base.
 fn positions(gpios: [u8; 32], base: u8) -> [u8; 32]
@@ -44,7 +44,7 @@ fn positions(gpios: [u8; 32], base: u8) -> [u8; 32]
 
 // A ROM's map from a base.
 fn map_of(gpios: [u8; 32], base: u8) -> Map
-    ensures { λ r. ⌜ r ≡ mapOf gpios base ⌝ }
+    ensures { λ r. ⌜ r ≡ readMap gpios base ⌝ }
 {
     Map {
         positions: positions(gpios, base),
@@ -54,7 +54,7 @@ fn map_of(gpios: [u8; 32], base: u8) -> Map
 
 fn address_map(s: StoredSlot, k: u8) -> Map
     requires { ⌜ addrBase s ≤ 255 ⌝ }
-    ensures { λ r. ⌜ r ≡ mapOf (romAt s k .addr) (addrBase s) ⌝ }
+    ensures { λ r. ⌜ r ≡ readMap (romAt s k .addr) (addrBase s) ⌝ }
 {
     let rom = rom_at(s, k);
     let gpios = rom.addr;
@@ -63,7 +63,7 @@ fn address_map(s: StoredSlot, k: u8) -> Map
 
 // The data lines of a place; past the last ROM there are none.
 fn data_map(s: StoredSlot, k: u8) -> Map
-    requires { ⌜ dataBase s ≤ 255 ⌝ }
+    requires { ⌜ storedDataBase s ≤ 255 ⌝ }
     ensures { λ r. ⌜ r ≡ dataMap s k ⌝ }
 {
     let rom = rom_at(s, k);
@@ -79,7 +79,7 @@ fn data_map(s: StoredSlot, k: u8) -> Map
 
 fn pick_position(s: StoredSlot, set_type: ChipSetType, k: u8) -> u8
     requires { ⌜ (addrBase s ≤ 255) × (pickGpio s «set_type» k ≤ 255) ⌝ }
-    ensures { λ r. ⌜ r ≡ pickPosition s «set_type» k ⌝ }
+    ensures { λ r. ⌜ r ≡ storedPickPosition s «set_type» k ⌝ }
 {
     position(addr_base(s) as u8, pick_gpio(s, set_type, k) as u8)
 }
@@ -87,7 +87,7 @@ fn pick_position(s: StoredSlot, set_type: ChipSetType, k: u8) -> u8
 // The position of the k-th line that picks; at most three do.
 fn pick_entry(s: StoredSlot, set_type: ChipSetType, k: u8) -> u8
     requires { ⌜ Readable s «set_type» ⌝ }
-    ensures { λ r. ⌜ r ≡ cond (ltb k 3) (pickPosition s «set_type» k) 0 ⌝ }
+    ensures { λ r. ⌜ r ≡ cond (ltb k 3) (storedPickPosition s «set_type» k) 0 ⌝ }
 {
     if k < 3 {
         return pick_position(s, set_type, k);
@@ -97,7 +97,7 @@ fn pick_entry(s: StoredSlot, set_type: ChipSetType, k: u8) -> u8
 
 fn pick_positions(s: StoredSlot, set_type: ChipSetType) -> [u8; 32]
     requires { ⌜ Readable s «set_type» ⌝ }
-    ensures { λ r. ⌜ r ≡ tab 32 (λ k. cond (ltb k 3) (pickPosition s «set_type» k) 0) ⌝ }
+    ensures { λ r. ⌜ r ≡ tab 32 (λ k. cond (ltb k 3) (storedPickPosition s «set_type» k) 0) ⌝ }
 {
     let mut out = [0u8; 32];
     let mut k: usize = 0;
@@ -133,7 +133,7 @@ fn address_maps(s: StoredSlot, set_type: ChipSetType) -> [Map; 5]
 }
 
 fn data_maps(s: StoredSlot) -> [Map; 5]
-    requires { ⌜ dataBase s ≤ 255 ⌝ }
+    requires { ⌜ storedDataBase s ≤ 255 ⌝ }
     ensures { λ r. ⌜ r ≡ tab 5 (dataMap s) ⌝ }
 {
     [
@@ -147,7 +147,7 @@ fn data_maps(s: StoredSlot) -> [Map; 5]
 
 // The place of a ROM; the fifth for none.
 fn place_of(picked: Picked) -> u8
-    ensures { λ r. ⌜ r ≡ placeOf picked ⌝ }
+    ensures { λ r. ⌜ r ≡ romPlace picked ⌝ }
 {
     match picked {
         Picked::NoChip => 4,
@@ -156,7 +156,7 @@ fn place_of(picked: Picked) -> u8
 }
 
 fn places(set_type: ChipSetType, roms: u8) -> [u8; 8]
-    ensures { λ r. ⌜ r ≡ tab 8 (λ bits. placeOf (pickedBy «set_type» roms bits)) ⌝ }
+    ensures { λ r. ⌜ r ≡ tab 8 (λ bits. romPlace (pickedBy «set_type» roms bits)) ⌝ }
 {
     let mut out = [0u8; 8];
     let mut bits: u8 = 0;

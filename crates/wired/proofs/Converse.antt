@@ -32,12 +32,12 @@ use Rattle.wired.specs.Wired.{
   apart,
   noneOn,
   selectApart,
-  dataLines,
+  dataLinesWhole,
   selectOne,
-  noQualifiers,
-  inWindow,
+  unqualified,
+  inAddrWindow,
   oneOf,
-  oneInside,
+  oneInAddrWindow,
   wired,
 }
 use Rattle.wired.proofs.Law.{clash, window-is, window-of}
@@ -120,20 +120,20 @@ one-of true true s h k = k refl refl
 one-of true false s h k = refl
 one-of false u s h k = rw (h refl)
 
-inside-at : (a : AddrLayout) (x g : ℕ) → x ≡ g → InWindow a x → inWindow a g ≡ true
+inside-at : (a : AddrLayout) (x g : ℕ) → x ≡ g → InWindow a x → inAddrWindow a g ≡ true
 inside-at a x g q w = window-of a g (subst (λ (y : ℕ). InWindow a y) q w)
 
-other-inside : (a : AddrLayout) (g h : ℕ) → OneInside a (Two g h) → inWindow a g ≡ false → inWindow a h ≡ true
+other-inside : (a : AddrLayout) (g h : ℕ) → OneInside a (Two g h) → inAddrWindow a g ≡ false → inAddrWindow a h ≡ true
 other-inside a g h o e = elim (o .candidate) [
-  | inl q ↦ absurd (clash (inWindow a g) (inside-at a (o .gpio) g q (o .inside)) e)
+  | inl q ↦ absurd (clash (inAddrWindow a g) (inside-at a (o .gpio) g q (o .inside)) e)
   | inr q ↦ inside-at a (o .gpio) h q (o .inside)
 ]
 
-inside-if : (a : AddrLayout) (c : Candidates) → OneInside a c → oneInside a c ≡ true
+inside-if : (a : AddrLayout) (c : Candidates) → OneInside a c → oneInAddrWindow a c ≡ true
 inside-if a Absent o = absurd (o .candidate)
 inside-if a (One g) o = inside-at a (o .gpio) g (o .candidate) (o .inside)
 inside-if a (Two g h) o =
-    one-of (inWindow a g) (inWindow a h) (eqb g h) (other-inside a g h o)
+    one-of (inAddrWindow a g) (inAddrWindow a h) (eqb g h) (other-inside a g h o)
     (λ e f. eq-eqb g h (o .only g (inl refl) (window-is a g e) ∙ sym (o .only h (inr refl) (window-is a h f))))
 
 -- a rule that is asked only where t holds, or only where it does not
@@ -151,16 +151,16 @@ wired-if d a w =
     let single = isSingle (d .«set_type») in
     let multi = isMulti (d .«set_type») in
     let third = leb 3 (d .«num_chips») in
-    let in1 = oneInside a (d .board .x1) in
-    let in2 = oneInside a (d .board .x2) in
+    let in1 = oneInAddrWindow a (d .board .x1) in
+    let in2 = oneInAddrWindow a (d .board .x2) in
     let e0 = unshared-if (d .board) (w .unshared) in
     let e1 = apart-if (inRange d) (λ n. addressPin d n) (w .lines-apart) in
     let e2 = asked-if multi (selectApart d) (λ m. none-if (inRange d) (λ n. addressPin d n) (selectPin d) (w .select-apart m)) in
     let e3 = apart-if (numData d) (λ n. dataPin d n) (w .data-apart) in
-    let e4 : dataLines d ≡ true = eq-eqb _ _ (w .data-lines) in
+    let e4 : dataLinesWhole d ≡ true = eq-eqb _ _ (w .data-lines) in
     let one : multi ≡ true → selectOne d ≡ true = λ m. rw (w .select-one m) in
     let e5 = asked-if multi (selectOne d) one in
-    let e6 = asked-if multi (noQualifiers d) (λ m. eq-eqb _ _ (w .no-qualifiers m)) in
+    let e6 = asked-if multi (unqualified d) (λ m. eq-eqb _ _ (w .no-qualifiers m)) in
     let e7 = unless-if single in1 (λ s. inside-if a (d .board .x1) (w .x1-inside s)) in
     let x2-in : single ≡ false → third ≡ true → in2 ≡ true =
     λ s t. inside-if a (d .board .x2) (w .x2-inside s (leb-true 3 _ t)) in

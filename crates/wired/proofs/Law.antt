@@ -36,12 +36,12 @@ use Rattle.wired.specs.Wired.{
   linesApart,
   selectApart,
   dataApart,
-  dataLines,
+  dataLinesWhole,
   selectOne,
-  noQualifiers,
-  inWindow,
+  unqualified,
+  inAddrWindow,
   oneOf,
-  oneInside,
+  oneInAddrWindow,
   wired,
 }
 
@@ -131,20 +131,20 @@ unfolding noneOn
 none-is n pin p e k l q = eqb-false (pin k) p (not-true _ (each-at _ n e k l)) q
 
 -- the window's test
-pub window-is : (a : AddrLayout) (g : ℕ) → inWindow a g ≡ true → InWindow a g
+pub window-is : (a : AddrLayout) (g : ℕ) → inAddrWindow a g ≡ true → InWindow a g
 window-is a g e =
     let low = leb (a .«gpio_base») g in
     let high = ltb g (a .«gpio_base» + a .«num_addr_pins») in
     (leb-true _ _ (and-left low high e), ltb-true _ _ (and-right low high e))
 
-pub window-of : (a : AddrLayout) (g : ℕ) → InWindow a g → inWindow a g ≡ true
+pub window-of : (a : AddrLayout) (g : ℕ) → InWindow a g → inAddrWindow a g ≡ true
 window-of a g w = rw (le-leb _ _ (w .0), lt-ltb _ _ (w .1))
 
 -- a GPIO in the window is not the candidate outside
-outside : (a : AddrLayout) (g x : ℕ) → inWindow a g ≡ false → x ≡ g → InWindow a x → ⊥
-outside a g x e q w = clash (inWindow a g) (window-of a g (subst (λ (y : ℕ). InWindow a y) q w)) e
+outside : (a : AddrLayout) (g x : ℕ) → inAddrWindow a g ≡ false → x ≡ g → InWindow a x → ⊥
+outside a g x e q w = clash (inAddrWindow a g) (window-of a g (subst (λ (y : ℕ). InWindow a y) q w)) e
 
-two-inside : (a : AddrLayout) (g h : ℕ) (t u : Bool) → inWindow a g ≡ t → inWindow a h ≡ u → oneOf t u (eqb g h) ≡ true → OneInside a (Two g h)
+two-inside : (a : AddrLayout) (g h : ℕ) (t u : Bool) → inAddrWindow a g ≡ t → inAddrWindow a h ≡ u → oneOf t u (eqb g h) ≡ true → OneInside a (Two g h)
 two-inside a g h true true e f o = record {
   gpio = g;
   candidate = inl refl;
@@ -165,10 +165,10 @@ two-inside a g h false true e f o = record {
 }
 two-inside a g h false false e f o = absurd (clash false o refl)
 
-one-inside : (a : AddrLayout) (c : Candidates) → oneInside a c ≡ true → OneInside a c
+one-inside : (a : AddrLayout) (c : Candidates) → oneInAddrWindow a c ≡ true → OneInside a c
 one-inside a Absent e = absurd (clash false e refl)
 one-inside a (One g) e = record { gpio = g; candidate = refl; inside = window-is a g e; only = λ x k w. k }
-one-inside a (Two g h) e = two-inside a g h (inWindow a g) (inWindow a h) refl refl e
+one-inside a (Two g h) e = two-inside a g h (inAddrWindow a g) (inAddrWindow a h) refl refl e
 
 -- a rule that is asked only where t does not hold
 unless : (t b : Bool) → t || b ≡ true → t ≡ false → b ≡ true
@@ -183,13 +183,13 @@ wired-is d a e =
     let third = leb 3 (d .«num_chips») in
     let select = not multi || selectApart d in
     let one = not multi || selectOne d in
-    let none = not multi || noQualifiers d in
-    let in1 = oneInside a (d .board .x1) in
-    let in2 = oneInside a (d .board .x2) in
+    let none = not multi || unqualified d in
+    let in1 = oneInAddrWindow a (d .board .x1) in
+    let in2 = oneInAddrWindow a (d .board .x2) in
     let upTo1 = unshared (d .board) && linesApart d in
     let upTo2 = upTo1 && select in
     let upTo3 = upTo2 && dataApart d in
-    let upTo4 = upTo3 && dataLines d in
+    let upTo4 = upTo3 && dataLinesWhole d in
     let upTo5 = upTo4 && one in
     let upTo6 = upTo5 && none in
     let upTo7 = upTo6 && (single || in1) in
@@ -197,7 +197,7 @@ wired-is d a e =
     let e6 = and-left upTo6 (single || in1) e7 in
     let e5 = and-left upTo5 none e6 in
     let e4 = and-left upTo4 one e5 in
-    let e3 = and-left upTo3 (dataLines d) e4 in
+    let e3 = and-left upTo3 (dataLinesWhole d) e4 in
     let e2 = and-left upTo2 (dataApart d) e3 in
     let e1 = and-left upTo1 select e2 in
     let last = and-right upTo7 (single || (not third || in2)) e in
@@ -207,9 +207,9 @@ wired-is d a e =
       select-apart = λ m.
           none-is (inRange d) (λ n. addressPin d n) (selectPin d) (asked multi (selectApart d) (and-right upTo1 select e2) m);
       data-apart = apart-is (numData d) (λ n. dataPin d n) (and-right upTo2 (dataApart d) e3);
-      data-lines = eqb-true _ _ (and-right upTo3 (dataLines d) e4);
+      data-lines = eqb-true _ _ (and-right upTo3 (dataLinesWhole d) e4);
       select-one = λ m. not-true _ (asked multi (selectOne d) (and-right upTo4 one e5) m);
-      no-qualifiers = λ m. eqb-true _ _ (asked multi (noQualifiers d) (and-right upTo5 none e6) m);
+      no-qualifiers = λ m. eqb-true _ _ (asked multi (unqualified d) (and-right upTo5 none e6) m);
       x1-inside = λ s. one-inside a (d .board .x1) (unless single in1 (and-right upTo6 (single || in1) e7) s);
       x2-inside = λ s l. one-inside a (d .board .x2) (asked third in2 (unless single (not third || in2) last s) (le-leb 3 _ l));
     }

@@ -74,48 +74,48 @@ abbrev pub dataApart : Description → Bool
 dataApart d = apart (numData d) (λ n. dataPin d n)
 
 -- 01 Well wired 4: the chip has 8w data lines
-abbrev pub dataLines : Description → Bool
+abbrev pub dataLinesWhole : Description → Bool
 -- 01 Well wired 4: the chip has 8w data lines
-dataLines d = eqb (numData d) (8 * d .«word_bytes»)
+dataLinesWhole d = eqb (numData d) (8 * d .«word_bytes»)
 
 -- 01 Well wired 5: the pin of the select does not have two candidates
 abbrev pub selectOne : Description → Bool
 selectOne d = not (two (pinCandidates d (selectPin d)))
 
 -- 01 Well wired 6: the list of qualifiers is empty
-abbrev pub noQualifiers : Description → Bool
+abbrev pub unqualified : Description → Bool
 -- 01 Well wired 6: the list of qualifiers is empty
-noQualifiers d = eqb (d .«num_qualifiers») 0
+unqualified d = eqb (d .«num_qualifiers») 0
 
 -- the window of the address layout
-abbrev pub inWindow : AddrLayout → ℕ → Bool
-inWindow a g = leb (a .«gpio_base») g && ltb g (a .«gpio_base» + a .«num_addr_pins»)
+abbrev pub inAddrWindow : AddrLayout → ℕ → Bool
+inAddrWindow a g = leb (a .«gpio_base») g && ltb g (a .«gpio_base» + a .«num_addr_pins»)
 
 abbrev pub oneOf : Bool → Bool → Bool → Bool
 oneOf first second same = (first || second) && (not first || not second || same)
 
 -- 01 Well wired 7: a candidate of the pin is in the window, and no other is
-abbrev pub oneInside : AddrLayout → Candidates → Bool
+abbrev pub oneInAddrWindow : AddrLayout → Candidates → Bool
 -- 01 Well wired 7: a candidate of the pin is in the window, and no other is
-oneInside a Absent = false
+oneInAddrWindow a Absent = false
 -- 01 Well wired 7: a candidate of the pin is in the window, and no other is
-oneInside a (One g) = inWindow a g
+oneInAddrWindow a (One g) = inAddrWindow a g
 -- 01 Well wired 7: a candidate of the pin is in the window, and no other is
-oneInside a (Two g h) = oneOf (inWindow a g) (inWindow a h) (eqb g h)
+oneInAddrWindow a (Two g h) = oneOf (inAddrWindow a g) (inAddrWindow a h) (eqb g h)
 
 -- the sentences in their order
 -- 01 Well wired 3: selectApart is asked for in Multi only
 -- 01 Well wired 5: selectOne is asked for in Multi only
--- 01 Well wired 6: noQualifiers is asked for in Multi only
--- 01 Well wired 7: oneInside is asked for of X1 outside of Single, and of X2 there from three chips on
+-- 01 Well wired 6: unqualified is asked for in Multi only
+-- 01 Well wired 7: oneInAddrWindow is asked for of X1 outside of Single, and of X2 there from three chips on
 unfoldable pub wired : Description → AddrLayout → Bool
 wired d a =
     unshared (d .board)
     && linesApart d
     && (not (isMulti (d .«set_type»)) || selectApart d)
     && dataApart d
-    && dataLines d
+    && dataLinesWhole d
     && (not (isMulti (d .«set_type»)) || selectOne d)
-    && (not (isMulti (d .«set_type»)) || noQualifiers d)
-    && (isSingle (d .«set_type») || oneInside a (d .board .x1))
-    && (isSingle (d .«set_type») || (not (leb 3 (d .«num_chips»)) || oneInside a (d .board .x2)))
+    && (not (isMulti (d .«set_type»)) || unqualified d)
+    && (isSingle (d .«set_type») || oneInAddrWindow a (d .board .x1))
+    && (isSingle (d .«set_type») || (not (leb 3 (d .«num_chips»)) || oneInAddrWindow a (d .board .x2)))

@@ -15,7 +15,7 @@ use listing::lines::pin_candidates;
 use slot::description::Description;
 ghost use mathlib.Core.Path.{_≡_};
 ghost use Rattle.round_trip.specs.WellWired.{selectPin};
-ghost use Rattle.wired.specs.Wired.{linesApart, selectApart, dataApart, dataLines, selectOne, inWindow, oneInside, wired};
+ghost use Rattle.wired.specs.Wired.{linesApart, selectApart, dataApart, dataLinesWhole, selectOne, inAddrWindow, oneInAddrWindow, wired};
 
 // The chip pin of the line that tells a Multi set's chips apart.
 fn select_pin(d: Description) -> u8
@@ -50,7 +50,7 @@ fn data_apart(d: Description) -> bool
 }
 
 fn data_lines(d: Description) -> bool
-    ensures { λ r. ⌜ r ≡ dataLines d ⌝ }
+    ensures { λ r. ⌜ r ≡ dataLinesWhole d ⌝ }
 {
     let chip = d.chip0();
     chip.num_data_pins as u32 == 8 * (d.word_bytes as u32)
@@ -64,7 +64,7 @@ fn select_one(d: Description) -> bool
 }
 
 fn in_window(a: AddrLayout, gpio: u8) -> bool
-    ensures { λ r. ⌜ r ≡ inWindow a gpio ⌝ }
+    ensures { λ r. ⌜ r ≡ inAddrWindow a gpio ⌝ }
 {
     let end = a.gpio_base as u32 + a.num_addr_pins as u32;
     (a.gpio_base <= gpio) & ((gpio as u32) < end)
@@ -72,7 +72,7 @@ fn in_window(a: AddrLayout, gpio: u8) -> bool
 
 // Whether one of a pin's candidates, and no other, is in the window.
 fn one_inside(a: AddrLayout, gpios: Candidates) -> bool
-    ensures { λ r. ⌜ r ≡ oneInside a gpios ⌝ }
+    ensures { λ r. ⌜ r ≡ oneInAddrWindow a gpios ⌝ }
 {
     match gpios {
         Candidates::Absent => false,

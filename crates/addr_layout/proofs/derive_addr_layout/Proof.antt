@@ -20,9 +20,9 @@ use Rattle.search.specs.declared.Trial.{Trial}
 use Rattle.search.specs.declared.Found.{Found}
 use Rattle.search.proofs.Law.{found-best}
 use Rattle.addr_layout.specs.Lines.{lines, addrListed}
-use Rattle.addr_layout.specs.Layout.{refusedFor}
-use Rattle.addr_layout.specs.Choices.{inRange, fixedSpan, choiceSpan, trialOf, layoutOf}
-use Rattle.addr_layout.specs.Search.{addrBest, answerOf, afterFaults, addrAnswer}
+use Rattle.addr_layout.specs.Layout.{addrRefused}
+use Rattle.addr_layout.specs.Choices.{inRange, fixedSpan, choiceSpan, spanTrial, addrLayoutOf}
+use Rattle.addr_layout.specs.Search.{addrBest, addrAnswerOf, afterFaults, addrAnswer}
 use Rattle.addr_layout.specs.declared.layout.AddrOutcome.the-variants.{LaidOut}
 use Rattle.addr_layout.specs.declared.layout.AddrAnswer.{AddrAnswer}
 use borrow.Author.Needs.{needs}
@@ -34,27 +34,27 @@ few-lines d e = omega (arith, address-pins (chip0 d) (d .«word_bytes») (chip0-
 
 -- a choice's trial, of the pins as the code listed them
 abbrev trial : Description → List Listed → ℕ → Trial
-trial d ls c = trialOf (choiceSpan ls (inRange d) (lines d) (fixedSpan d) c)
+trial d ls c = spanTrial (choiceSpan ls (inRange d) (lines d) (fixedSpan d) c)
 
-outside : (d : Description) → descriptionIn d ≡ false → refusedFor OutOfDomain ≡ addrAnswer d
+outside : (d : Description) → descriptionIn d ≡ false → addrRefused OutOfDomain ≡ addrAnswer d
 outside d e = rw e
 
 module _ (d : Description) (ls : List Listed) (bits : ℕ) (din : descriptionIn d ≡ true) (el : ls ≡ addrListed d) (eb : bits ≡ twos ls) where
-  too-many : 16 < bits → refusedFor OutOfDomain ≡ addrAnswer d
+  too-many : 16 < bits → addrRefused OutOfDomain ≡ addrAnswer d
   too-many h = rw (din, ← el, ← eb, lt-leb bits 16 h)
 
   past-domain : bits ≤ 16 → afterFaults d (firstFault ls) ≡ addrAnswer d
   past-domain h = rw (din, ← el, ← eb, le-leb bits 16 h)
 
-  faulty : (f : FirstFault) (why : Refusal) → bits ≤ 16 → f ≡ firstFault ls → f ≡ Of why → refusedFor why ≡ addrAnswer d
+  faulty : (f : FirstFault) (why : Refusal) → bits ≤ 16 → f ≡ firstFault ls → f ≡ Of why → addrRefused why ≡ addrAnswer d
   faulty f why h e i = (rw (← e, i) refl) ∙ past-domain h
 
-  searched : (f : FirstFault) (found : Found) → bits ≤ 16 → f ≡ firstFault ls → f ≡ None → found ≡ best (trial d ls) (2 ^ bits) → answerOf d found ≡ addrAnswer d
+  searched : (f : FirstFault) (found : Found) → bits ≤ 16 → f ≡ firstFault ls → f ≡ None → found ≡ best (trial d ls) (2 ^ bits) → addrAnswerOf d found ≡ addrAnswer d
   unfolding addrBest
   searched f found h e i j = (rw (← e, i, j, eb, el) refl) ∙ past-domain h
 
 abbrev laid : Description → List Listed → ℕ → AddrAnswer
-laid d ls c = record { outcome = LaidOut; layout = layoutOf d ls c }
+laid d ls c = record { outcome = LaidOut; layout = addrLayoutOf d ls c }
 
 returns : tie.Need-returns
 returns c = c .refused .ensures ∙ outside (c .before .before .before .args .d) (sym (c .before .before .description-in .ensures) ∙ not-true _ (c .before .if1 .taken))
@@ -87,14 +87,14 @@ returns-3 c =
 returns-4 : tie.Need-returns-4
 returns-4 c =
     let d = c .before .before .before .before .before .before .before .before .before .before .before .before .args .d in
-    c .refused4 .ensures ∙ ap (answerOf d) (sym (c .before .enum-told2 .given .1))
+    c .refused4 .ensures ∙ ap (addrAnswerOf d) (sym (c .before .enum-told2 .given .1))
     ∙ searched d _ _ (sym (c .before .before .before .before .before .before .before .before .before .before .before .description-in .ensures) ∙ not-false _ (c .before .before .before .before .before .before .before .before .before .before .if1 .left)) (c .before .before .before .before .before .before .before .before .before .list .ensures .0)
     (c .before .before .before .before .before .before .before .before .choice-bits .ensures .0) _ _ (c .before .before .before .before .before .before .before .if2 .left) (c .before .before .before .before .before .before .first-fault .ensures) (c .before .before .before .before .enum-told .given .1) (c .before .before .before .best .ensures)
 
 returns-5 : tie.Need-returns-5
 returns-5 c =
     let d = c .before .before .before .before .before .before .before .before .before .before .before .before .before .args .d in
-    c .laid-out .ensures ∙ ap (λ (ls : List Listed). laid d ls (c .before .before .choice .given .0 .0)) (c .before .before .before .before .before .before .before .before .before .before .list .ensures .0) ∙ ap (answerOf d) (sym (c .before .before .choice .given .1))
+    c .laid-out .ensures ∙ ap (λ (ls : List Listed). laid d ls (c .before .before .choice .given .0 .0)) (c .before .before .before .before .before .before .before .before .before .before .list .ensures .0) ∙ ap (addrAnswerOf d) (sym (c .before .before .choice .given .1))
     ∙ searched d _ _ (sym (c .before .before .before .before .before .before .before .before .before .before .before .before .description-in .ensures) ∙ not-false _ (c .before .before .before .before .before .before .before .before .before .before .before .if1 .left)) (c .before .before .before .before .before .before .before .before .before .before .list .ensures .0)
     (c .before .before .before .before .before .before .before .before .before .choice-bits .ensures .0) _ _ (c .before .before .before .before .before .before .before .before .if2 .left) (c .before .before .before .before .before .before .before .first-fault .ensures) (c .before .before .before .before .before .enum-told .given .1) (c .before .before .before .before .best .ensures)
 

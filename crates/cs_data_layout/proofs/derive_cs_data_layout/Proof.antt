@@ -9,9 +9,9 @@ use Rattle.refusal.specs.declared.Refusal.the-variants.{OutOfDomain}
 use Rattle.refusal.specs.declared.first.FirstFault.{FirstFault}
 use Rattle.refusal.specs.declared.first.FirstFault.the-variants.{None, Of}
 use Rattle.addr_layout.specs.declared.layout.AddrLayout.{AddrLayout}
-use Rattle.cs_pins.specs.Pins.{inDomain}
-use Rattle.cs_data_layout.specs.Layout.{refusedFor, handed}
-use Rattle.cs_data_layout.specs.Search.{givenIn, earlier, csBest, answerOf, csDataAnswer}
+use Rattle.cs_pins.specs.Pins.{csSearchIn}
+use Rattle.cs_data_layout.specs.Layout.{csDataRefused, handed}
+use Rattle.cs_data_layout.specs.Search.{givenIn, earlier, csBest, csDataAnswerOf, csDataAnswer}
 use Rattle.cs_data_layout.specs.declared.layout.GivenLayout.{GivenLayout}
 use Rattle.cs_data_layout.specs.declared.layout.CsDataAnswer.{CsDataAnswer}
 use Rattle.cs_data_layout.proofs.Searched.{handed-in, qualifiers-in}
@@ -19,18 +19,18 @@ use borrow.Author.Needs.{needs}
 use Rattle.cs_data_layout.proofs.derive_cs_data_layout.Statement.{statement}
 use Rattle.cs_data_layout.proofs.derive_cs_data_layout.Tie as tie
 
-module _ (d : Description) (a : GivenLayout) (p q : Bool) (ep : p ≡ inDomain d) (eq : q ≡ givenIn d a) where
-  outside : p && q ≡ false → refusedFor OutOfDomain ≡ csDataAnswer d a
+module _ (d : Description) (a : GivenLayout) (p q : Bool) (ep : p ≡ csSearchIn d) (eq : q ≡ givenIn d a) where
+  outside : p && q ≡ false → csDataRefused OutOfDomain ≡ csDataAnswer d a
   outside e = rw (← ep, ← eq, e)
 
   module _ (e : p && q ≡ true) (f : FirstFault) (ef : f ≡ earlier d a) where
-    within : (inDomain d ≡ true) × (givenIn d a ≡ true)
+    within : (csSearchIn d ≡ true) × (givenIn d a ≡ true)
     within = (sym ep ∙ and-left p q e, sym eq ∙ and-right p q e)
 
-    refused-early : (why : Refusal) → f ≡ Of why → refusedFor why ≡ csDataAnswer d a
+    refused-early : (why : Refusal) → f ≡ Of why → csDataRefused why ≡ csDataAnswer d a
     refused-early why h = rw (← ep, ← eq, e, ← ef, h)
 
-    searched : (r : CsDataAnswer) (l : AddrLayout) → f ≡ None → l ≡ handed a → r ≡ answerOf d l (csBest d l) → r ≡ csDataAnswer d a
+    searched : (r : CsDataAnswer) (l : AddrLayout) → f ≡ None → l ≡ handed a → r ≡ csDataAnswerOf d l (csBest d l) → r ≡ csDataAnswer d a
     searched r l h i j = rw (← ep, ← eq, e, ← ef, h, ← i) j
 
 returns : tie.Need-returns

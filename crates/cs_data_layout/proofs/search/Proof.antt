@@ -16,10 +16,10 @@ use Rattle.listing.specs.declared.Listing.{Listing}
 use Rattle.search.specs.declared.Found.{Found}
 use Rattle.search.specs.declared.Found.the-variants.{Nothing, At}
 use Rattle.addr_layout.specs.declared.layout.AddrLayout.{AddrLayout}
-use Rattle.cs_pins.specs.Pins.{numbered, inDomain}
+use Rattle.cs_pins.specs.Pins.{numbered, csSearchIn}
 use Rattle.cs_pins.proofs.InDomain.{numbered-in}
-use Rattle.cs_data_layout.specs.Choices.{numData, layoutOf}
-use Rattle.cs_data_layout.specs.Search.{csBest, noneFits, answerOf}
+use Rattle.cs_data_layout.specs.Choices.{numData, csDataLayoutOf}
+use Rattle.cs_data_layout.specs.Search.{csBest, noneFits, csDataAnswerOf}
 use Rattle.cs_data_layout.specs.declared.layout.CsDataOutcome.the-variants.{LaidOut}
 use Rattle.cs_data_layout.specs.declared.layout.CsDataAnswer.{CsDataAnswer}
 use Rattle.cs_data_layout.proofs.Bounds.{described, few-twos, few-lines}
@@ -36,20 +36,20 @@ list-requires c κs =
     (data-pins (chip0 d) (d .«word_bytes») chip .1, control-lines (chip0 d) (d .«word_bytes») chip, commoned-lines d e)
 
 -- the listing has the data pins, and its candidates are GPIOs
-listed : (d : Description) (l : Listing) (n : ℕ) → inDomain d ≡ true → length (l .pins) ≡ 30 → listOf l ≡ numbered d → l .count ≤ 30 → n ≡ numData d → (n ≤ l .count) × GpiosIn (listOf l)
+listed : (d : Description) (l : Listing) (n : ℕ) → csSearchIn d ≡ true → length (l .pins) ≡ 30 → listOf l ≡ numbered d → l .count ≤ 30 → n ≡ numData d → (n ≤ l .count) × GpiosIn (listOf l)
 listed d l n e long h s i =
     let m : l .count ≡ length (listOf l) = simp length-take (omega arith) in
     let k : numData d ≤ length (listOf l) = rw h (data-numbered d) in
     (omega (arith, m, k, i), rw h (numbered-in d (described d e)))
 
-few : (d : Description) (l : Listing) (bits : ℕ) → inDomain d ≡ true → listOf l ≡ numbered d → bits ≡ twos (listOf l) → bits ≤ 16
+few : (d : Description) (l : Listing) (bits : ℕ) → csSearchIn d ≡ true → listOf l ≡ numbered d → bits ≡ twos (listOf l) → bits ≤ 16
 few d l bits e h i = let m : bits ≡ twos (numbered d) = i ∙ ap twos h in omega (arith, few-twos d e, m)
 
-nothing : (d : Description) (h : AddrLayout) (g : Found) (r : CsDataAnswer) → g ≡ csBest d h → g ≡ Nothing → r ≡ noneFits d h → r ≡ answerOf d h (csBest d h)
+nothing : (d : Description) (h : AddrLayout) (g : Found) (r : CsDataAnswer) → g ≡ csBest d h → g ≡ Nothing → r ≡ noneFits d h → r ≡ csDataAnswerOf d h (csBest d h)
 nothing d h g r e i j = rw (← e, i) j
 
 found : (d : Description) (h : AddrLayout) (l : Listing) (g : Found) (c s : ℕ) (r : CsDataAnswer) → g ≡ csBest d h → g ≡ At c s → listOf l ≡ numbered d
-    → r ≡ record { outcome = LaidOut; layout = layoutOf d h (listOf l) c } → r ≡ answerOf d h (csBest d h)
+    → r ≡ record { outcome = LaidOut; layout = csDataLayoutOf d h (listOf l) c } → r ≡ csDataAnswerOf d h (csBest d h)
 found d h l g c s r e i j k = rw (← e, i, ← j) k
 
 num-data : (c : tie.After-chip0) → c .chip0 .result .«num_data_pins» ≡ numData (c .before .args .d)

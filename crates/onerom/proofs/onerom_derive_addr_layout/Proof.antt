@@ -8,7 +8,7 @@ use Rattle.description_record.specs.declared.Answer.the-variants.{Described}
 use Rattle.description_record.specs.declared.Decoded.{Decoded}
 use Rattle.addr_layout.specs.Search.{addrAnswer}
 use Rattle.addr_layout.specs.declared.layout.AddrAnswer.{AddrAnswer}
-use Rattle.onerom.specs.Calls.{answer, refused, addrFound, addrCall}
+use Rattle.onerom.specs.Calls.{answer, callRefused, addrFound, addrCall}
 use Rattle.onerom.proofs.Records.{taken, no-record}
 use Rattle.onerom.proofs.onerom_derive_addr_layout.Statement.{statement}
 use Rattle.onerom.proofs.onerom_derive_addr_layout.Tie as tie
@@ -17,7 +17,7 @@ searched : (b buffer : List ℕ) (dec : Decoded) → dec ≡ decodedOf b → (a 
     → a ≡ addrAnswer (dec .description) → addrFound a buffer ≡ addrCall b buffer
 unfolding addrCall
 searched b buffer dec e a t q =
-    ap (λ (x : AddrAnswer). addrFound x buffer) q ∙ taken (λ d. addrFound (addrAnswer d) buffer) (λ why. refused why buffer) b dec e t
+    ap (λ (x : AddrAnswer). addrFound x buffer) q ∙ taken (λ d. addrFound (addrAnswer d) buffer) (λ why. callRefused why buffer) b dec e t
 
 returns : tie.Need-returns
 returns c =
@@ -31,7 +31,7 @@ unfolding addrCall
 returns-2 c =
     let s = c .before .before .before .before .before .before .before in
     ap (λ (r : ℕ). answer r (s .args .layout .now)) (c .packed .ensures)
-    ∙ no-record _ (λ why. refused why (s .args .layout .now)) (s .args .description .now) _ (c .before .before .before .before .decode .ensures) _ (c .before .before .outcome .given .1)
+    ∙ no-record _ (λ why. callRefused why (s .args .layout .now)) (s .args .description .now) _ (c .before .before .before .before .decode .ensures) _ (c .before .before .outcome .given .1)
 
 pub onerom-derive-addr-layout-spec : {M : Type 1} → statement M
 onerom-derive-addr-layout-spec =

@@ -10,15 +10,15 @@ use Rattle.cs_data_layout.specs.Search.{csDataAnswer}
 use Rattle.cs_data_layout.specs.declared.layout.CsDataAnswer.{CsDataAnswer}
 use Rattle.cs_data_layout.specs.declared.layout.GivenLayout.{GivenLayout}
 use Rattle.layout_record.specs.AddrRecord.{givenAt}
-use Rattle.onerom.specs.Calls.{answer, refused, described, csDataFound, csDataCall}
+use Rattle.onerom.specs.Calls.{answer, callRefused, ifRecord, csDataFound, csDataCall}
 use Rattle.onerom.proofs.Records.{taken, no-record, formed, not-formed}
 use Rattle.onerom.proofs.onerom_derive_cs_data_layout.Statement.{statement}
 use Rattle.onerom.proofs.onerom_derive_cs_data_layout.Tie as tie
 
 searched : (b l buffer : List ℕ) (dec : Decoded) → dec ≡ decodedOf b → (g : GivenLayout) (a : CsDataAnswer) → g ≡ givenAt l
     → dec .answer ≡ Described → a ≡ csDataAnswer (dec .description) g
-    → csDataFound a buffer ≡ described (λ d. csDataFound (csDataAnswer d (givenAt l)) buffer) (λ why. refused why buffer) (decodedOf b)
-searched b l buffer dec e g a eg t q = rw (q, eg) (taken (λ d. csDataFound (csDataAnswer d (givenAt l)) buffer) (λ why. refused why buffer) b dec e t)
+    → csDataFound a buffer ≡ ifRecord (λ d. csDataFound (csDataAnswer d (givenAt l)) buffer) (λ why. callRefused why buffer) (decodedOf b)
+searched b l buffer dec e g a eg t q = rw (q, eg) (taken (λ d. csDataFound (csDataAnswer d (givenAt l)) buffer) (λ why. callRefused why buffer) b dec e t)
 
 returns : tie.Need-returns
 unfolding csDataCall
@@ -44,7 +44,7 @@ unfolding csDataCall
 returns-3 c =
     let s = c .before .before .before .before .before .before .before .before .before .before in
     ap (λ (r : ℕ). answer r (s .args .layout .now)) (c .packed2 .ensures)
-    ∙ no-record _ (λ why. refused why (s .args .layout .now)) (s .args .description .now) _ (c .before .before .before .before .decode .ensures) _ (c .before .before .outcome .given .1)
+    ∙ no-record _ (λ why. callRefused why (s .args .layout .now)) (s .args .description .now) _ (c .before .before .before .before .decode .ensures) _ (c .before .before .outcome .given .1)
     ∙ formed _ _ _ _ (c .before .before .before .before .before .before .given-formed .ensures)
     (c .before .before .before .before .before .if1 .left)
 

@@ -12,11 +12,11 @@ use Rattle.refusal.specs.declared.first.FirstFault.{FirstFault}
 use Rattle.refusal.specs.declared.first.FirstFault.the-variants.{None, Of}
 use Rattle.addr_layout.specs.declared.layout.AddrLayout.{AddrLayout}
 use Rattle.cs_data_layout.specs.declared.layout.CsDataLayout.{CsDataLayout}
-use Rattle.build_args.specs.Domain.{inDomain}
+use Rattle.build_args.specs.Domain.{buildIn}
 use Rattle.build_args.specs.Faults.{tableSize, buildFault}
 use Rattle.build_args.specs.declared.images.ImageSpan.{ImageSpan}
 use Rattle.rom_image.specs.Entry.{tableOf}
-use Rattle.rom_image.specs.Build.{Built, built, afterFault, buildOf}
+use Rattle.rom_image.specs.Build.{Built, built, buildAfter, buildOf}
 use Rattle.rom_image.specs.declared.BuildAnswer.{BuildAnswer}
 use Rattle.rom_image.proofs.build_rom_image.Statement.{statement}
 use Rattle.rom_image.proofs.build_rom_image.Tie as tie
@@ -27,9 +27,9 @@ was true false n = refl
 was false true n = refl
 was false false n = sym n
 
-module _ (d : Description) (a : AddrLayout) (l : CsDataLayout) (images : List ℕ) (spans : List ImageSpan) (lent : List ℕ) (ok : Bool) (e : ok ≡ inDomain d a l) where
+module _ (d : Description) (a : AddrLayout) (l : CsDataLayout) (images : List ℕ) (spans : List ImageSpan) (lent : List ℕ) (ok : Bool) (e : ok ≡ buildIn d a l) where
   abbrev past : FirstFault → Built
-  past f = afterFault d a l images spans lent f
+  past f = buildAfter d a l images spans lent f
 
   abbrev tested : Bool → Built
   tested b = cond b (past (buildFault d a l images spans (length lent))) (built (BuildAnswer.Refused OutOfDomain) lent)
@@ -41,7 +41,7 @@ module _ (d : Description) (a : AddrLayout) (l : CsDataLayout) (images : List �
   outside : not ok ≡ true → built (BuildAnswer.Refused OutOfDomain) lent ≡ buildOf d a l images spans lent
   outside n = ap tested (sym (was ok true n)) ∙ whole
 
-  inside : not ok ≡ false → inDomain d a l ≡ true
+  inside : not ok ≡ false → buildIn d a l ≡ true
   inside n = sym e ∙ was ok false n
 
   refused-for : (f : FirstFault) (why : Refusal) → not ok ≡ false → f ≡ buildFault d a l images spans (length lent) → f ≡ Of why

@@ -2,7 +2,7 @@
 use mathlib.Core.List.{List}
 use Prim.Native.Nat.{ℕ}
 use borrow.Author.Needs.{needs}
-use Rattle.table_read.specs.Reading.{wordBy, valueBy}
+use Rattle.table_read.specs.design.Reading.{wordBy, valueBy}
 use Rattle.table_read.specs.declared.reading.Reading.{Reading}
 use Rattle.table_read.proofs.Held.{Held, own, marks-own}
 use Rattle.table_read.proofs.Cleared.{held-none}

@@ -1,6 +1,6 @@
 -- `read_entries` meets its contract. Assumes nothing.
 use lib.ListN.{length}
-use Rattle.unscramble.specs.Reading.{Readable}
+use Rattle.unscramble.specs.design.Reading.{Readable}
 use Rattle.unscramble.proofs.Unrefused.{readable}
 use Rattle.unscramble.proofs.Finished.{collectable, finishes}
 use borrow.Author.Needs.{needs}

@@ -8,7 +8,7 @@ use borrow.Author.Tests.{not-true, not-false, eq-eqb, ne-eqb}
 use Rattle.refusal.specs.declared.Refusal.the-variants.{OutOfDomain, WrongSize}
 use Rattle.stored_slot.specs.Stored.{storedIn}
 use Rattle.stored_slot.specs.Faults.{wrongSize}
-use Rattle.unscramble.specs.Recovered.{ReadBack, refused, ofType, unscrambled}
+use Rattle.unscramble.specs.Recovered.{ReadBack, readRefused, ofType, unscrambled}
 use Rattle.stored_slot.specs.declared.stored.SlotType.{SlotType}
 use Rattle.stored_slot.specs.declared.stored.StoredSlot.{StoredSlot}
 use borrow.Author.Needs.{needs}
@@ -17,16 +17,16 @@ use Rattle.unscramble.proofs.unscramble_slot.Tie as tie
 
 module _ (s : StoredSlot) (stored output marks : List ℕ) (ok : Bool) (e : ok ≡ storedIn s) where
   abbrev sized : Bool → ReadBack
-  sized wrong = cond wrong (refused WrongSize output marks) (ofType s stored output marks (s .«slot_type»))
+  sized wrong = cond wrong (readRefused WrongSize output marks) (ofType s stored output marks (s .«slot_type»))
 
   abbrev tested : Bool → ReadBack
-  tested b = cond b (sized (wrongSize s stored)) (refused OutOfDomain output marks)
+  tested b = cond b (sized (wrongSize s stored)) (readRefused OutOfDomain output marks)
 
   whole : tested ok ≡ unscrambled s stored output marks
   unfolding unscrambled
   whole = ap tested e
 
-  outside : not ok ≡ true → refused OutOfDomain output marks ≡ unscrambled s stored output marks
+  outside : not ok ≡ true → readRefused OutOfDomain output marks ≡ unscrambled s stored output marks
   outside n = ap tested (sym (not-true ok n)) ∙ whole
 
   module _ (n : not ok ≡ false) where
@@ -36,7 +36,7 @@ module _ (s : StoredSlot) (stored output marks : List ℕ) (ok : Bool) (e : ok �
     past : sized (wrongSize s stored) ≡ unscrambled s stored output marks
     past = ap tested (sym (not-false ok n)) ∙ whole
 
-    wrong : (length stored ≡ s .size → ⊥) → refused WrongSize output marks ≡ unscrambled s stored output marks
+    wrong : (length stored ≡ s .size → ⊥) → readRefused WrongSize output marks ≡ unscrambled s stored output marks
     wrong h = let t : wrongSize s stored ≡ true = rw (ne-eqb (length stored) (s .size) h) in ap sized (sym t) ∙ past
 
     of-type : length stored ≡ s .size → (t : SlotType) → s .«slot_type» ≡ t → ofType s stored output marks t ≡ unscrambled s stored output marks

@@ -6,7 +6,7 @@ use Prim.Native.Nat.{ℕ, _+_, _*_, _^_, _≤_, _<_, _-_}
 use native.Mathlib.Omega.{arith}
 use native.Mathlib.Nat.{zero-mul}
 use lib.ListN.{length, getD, take}
-use Rattle.gpio.specs.Span.{joined}
+use Rattle.gpio.specs.design.Span.{spansJoined}
 use Rattle.lists.specs.Tab.{tab}
 use Rattle.gpio.specs.declared.span.Span.{Span}
 use Rattle.lists.proofs.Shifts.{shifted-one}
@@ -19,8 +19,8 @@ use Rattle.search.specs.declared.Found.{Found}
 use Rattle.search.specs.declared.Trial.{Trial}
 use Rattle.search.proofs.Rows.{row-first, row-fits, rows-turn, rows-done}
 use Rattle.addr_layout.specs.Lines.{lines}
-use Rattle.addr_layout.specs.Choices.{inRange, fixedSpan, choiceSpan, trialOf}
-use Rattle.addr_layout.specs.Parts.{partSpan, noSpan}
+use Rattle.addr_layout.specs.Choices.{inRange, fixedSpan, choiceSpan, spanTrial}
+use Rattle.addr_layout.specs.design.Parts.{partSpan, pastSpans}
 use Rattle.addr_layout.proofs.Parts.{parts-join}
 use borrow.Author.Needs.{needs}
 use Rattle.addr_layout.proofs.choices.best.Statement.{statement}
@@ -32,16 +32,16 @@ module _ (ls : List Listed) (r n : ℕ) (fixed : Span) (s : ℕ) where
   Lows lows = take (2 ^ s) lows ≡ tab (2 ^ s) (λ q. partSpan ls r n fixed true s q)
 
   abbrev trials : ℕ → Trial
-  trials c = trialOf (choiceSpan ls r n fixed c)
+  trials c = spanTrial (choiceSpan ls r n fixed c)
 
   -- a choice of a row spans what its two parts span
   row-trial : (lows : List Span) (high : Span) (row q : ℕ) → Lows lows → high ≡ partSpan ls r n fixed false s (row * 2 ^ s) → q < 2 ^ s
-      → trialOf (joined (getD lows q noSpan) high) ≡ trials (row * 2 ^ s + q)
-  row-trial lows high row q t e l = ap trialOf (rw (getD-begins (partSpan ls r n fixed true s) lows (2 ^ s) q noSpan t l, e) (sym (parts-join ls r n fixed row s q l (length ls))))
+      → spanTrial (spansJoined (getD lows q pastSpans) high) ≡ trials (row * 2 ^ s + q)
+  row-trial lows high row q t e l = ap spanTrial (rw (getD-begins (partSpan ls r n fixed true s) lows (2 ^ s) q pastSpans t l, e) (sym (parts-join ls r n fixed row s q l (length ls))))
 
 done : (ls : List Listed) (d : Description) (u n row rows s bits : ℕ) (fixed : Span) (found : Found) → u ≡ inRange d → n ≡ lines d → fixed ≡ fixedSpan d → row ≡ rows
     → rows ≡ 2 ^ (bits - s) → s ≤ bits → found ≡ best (trials ls u n fixed s) (row * 2 ^ s)
-    → found ≡ best (λ c. trialOf (choiceSpan ls (inRange d) (lines d) (fixedSpan d) c)) (2 ^ bits)
+    → found ≡ best (λ c. spanTrial (choiceSpan ls (inRange d) (lines d) (fixedSpan d) c)) (2 ^ bits)
 done ls d u n row rows s bits fixed found eu en ef er eb h f = rw (eu, en, ef) at (rows-done (best (trials ls u n fixed s)) row rows bits s found er eb h f)
 
 abbrev Inv-loop : tie.InvT-loop

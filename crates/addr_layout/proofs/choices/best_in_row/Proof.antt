@@ -3,18 +3,18 @@ use mathlib.Core.Path.{_≡_, refl, _∙_}
 use Prim.Native.Nat.{_≤_, _-_}
 use native.Mathlib.Omega.{arith}
 use lib.ListN.{length, getD}
-use Rattle.gpio.specs.Span.{joined}
-use Rattle.search.specs.Search.{bestOnward}
+use Rattle.gpio.specs.design.Span.{spansJoined}
+use Rattle.search.specs.design.Rows.{bestOnward}
 use Rattle.search.proofs.Rows.{onward-turn, onward-done}
-use Rattle.addr_layout.specs.Choices.{trialOf}
-use Rattle.addr_layout.specs.Parts.{noSpan}
+use Rattle.addr_layout.specs.Choices.{spanTrial}
+use Rattle.addr_layout.specs.design.Parts.{pastSpans}
 use borrow.Author.Needs.{needs}
 use Rattle.addr_layout.proofs.choices.best_in_row.Statement.{statement}
 use Rattle.addr_layout.proofs.choices.best_in_row.Tie as tie
 
 abbrev Inv-loop : tie.InvT-loop
 Inv-loop high first len lows found₀ q₀ found q =
-    (q ≤ len) × (length lows ≡ 64) × (found ≡ bestOnward found₀ (λ j. trialOf (joined (getD lows j noSpan) high)) first q)
+    (q ≤ len) × (length lows ≡ 64) × (found ≡ bestOnward found₀ (λ j. spanTrial (spansJoined (getD lows j pastSpans) high)) first q)
 
 abbrev μ-loop : tie.MeasureT-loop
 μ-loop high first len lows found₀ q₀ found q = len - q

@@ -13,7 +13,7 @@ use Rattle.gpio.specs.declared.span.Span.{Span}
 use Rattle.gpio.proofs.Fits.{fits-within}
 use Rattle.lists.proofs.Tab.{getD-tab, tab-cong}
 use Rattle.search.specs.declared.Trial.the-variants.{Misfit, Score}
-use Rattle.addr_layout.specs.Choices.{reach, inRange, fixedSpan, choiceSpan, pinsOf, trialOf, layoutFrom, layoutOf}
+use Rattle.addr_layout.specs.Choices.{reach, inRange, fixedSpan, choiceSpan, paddedPins, spanTrial, addrLayoutFrom, addrLayoutOf}
 use Rattle.slot.specs.Description.{isSingle}
 use Rattle.listing.specs.Choice.{gpioAt}
 use Rattle.addr_layout.specs.declared.layout.AddrOutcome.the-variants.{LaidOut}
@@ -31,9 +31,9 @@ few : (base n s : ℕ) (f : Bool) → fits base n ≡ f → cond f (Score (n * 1
 few base n s true e h = omega (arith, fits-within base n e)
 few base n s false e h = let z : _≡_ {A = ℕ} 0 1 = cc in omega arith
 
-pins-fit : (s : Span) (score : ℕ) → trialOf s ≡ Score score → pinsOf s ≤ 48
-unfolding trialOf
-pins-fit s score e = few (s .low) (pinsOf s) score (fits (s .low) (pinsOf s)) refl e
+pins-fit : (s : Span) (score : ℕ) → spanTrial s ≡ Score score → paddedPins s ≤ 48
+unfolding spanTrial
+pins-fit s score e = few (s .low) (paddedPins s) score (fits (s .low) (paddedPins s)) refl e
 
 smaller : (a b : ℕ) (t : Bool) → ltb a b ≡ t → cond t a b ≤ a
 smaller a b true e = omega arith
@@ -41,7 +41,7 @@ smaller a b false e = ltb-false a b e
 
 -- GPIOs read from the filled array are those that it was filled with
 from-tab : (s : Span) (f : ℕ → ℕ) (one both : Bool) (n u : ℕ) → n ≤ 24
-    → layoutFrom s (λ k. getD (tab 30 f) k 0) one both n u ≡ layoutFrom s f one both n u
+    → addrLayoutFrom s (λ k. getD (tab 30 f) k 0) one both n u ≡ addrLayoutFrom s f one both n u
 from-tab s f one both n u h =
     rw (
       getD-tab f 30 n 0 (omega arith),
@@ -62,17 +62,17 @@ layout-requires c κs =
     let a = c .before .before .before .before .before .before .before .args in
     let s = span-is (a .d) (a .l) (a .choice) _ _ _ _ (c .before .before .before .before .before .before .in-range .ensures) (c .before .before .before .before .before .num-lines .ensures) (c .before .before .before .before .fixed-span .ensures)
     (c .before .before .before .span-of .ensures) in
-    let p : pinsOf (c .before .before .before .span-of .result) ≤ 48 = rw s (pins-fit _ (a .score) (c .before .before .before .before .before .before .before .pre .2)) in
+    let p : paddedPins (c .before .before .before .span-of .result) ≤ 48 = rw s (pins-fit _ (a .score) (c .before .before .before .before .before .before .before .pre .2)) in
     let u = used-some (a .d) _ _ (c .before .before .before .before .before .before .in-range .ensures) (c .before .before .before .before .before .num-lines .ensures) in
     (omega arith, u, omega (arith, c .before .before .before .before .before .num-lines .ensures, c .before .before .before .before .before .before .before .pre .1))
 
 laid : (d : Description) (l : Listing) (choice u n : ℕ) (s : Span) (gs : List ℕ) (single : Bool) (r : AddrLayout) → n ≤ 24 → u ≡ inRange d → n ≡ lines d
     → s ≡ choiceSpan (listOf l) (inRange d) (lines d) (fixedSpan d) choice → gs ≡ tab 30 (λ k. gpioAt (listOf l) choice k)
-    → single ≡ isSingle (d .«set_type») → r ≡ layoutFrom s (λ k. getD gs k 0) (not single) (not single && leb 3 (d .«num_chips»)) n u
-    → r ≡ layoutOf d (listOf l) choice
+    → single ≡ isSingle (d .«set_type») → r ≡ addrLayoutFrom s (λ k. getD gs k 0) (not single) (not single && leb 3 (d .«num_chips»)) n u
+    → r ≡ addrLayoutOf d (listOf l) choice
 laid d l choice u n s gs single r few eu en es eg ei e =
     let f : ℕ → ℕ = λ k. gpioAt (listOf l) choice k in
-    let filled : r ≡ layoutFrom s f (not single) (not single && leb 3 (d .«num_chips»)) n u =
+    let filled : r ≡ addrLayoutFrom s f (not single) (not single && leb 3 (d .«num_chips»)) n u =
     e ∙ rw eg (from-tab s f (not single) (not single && leb 3 (d .«num_chips»)) n u few) in
     rw (es, ei, en, eu) at filled
 

@@ -9,7 +9,7 @@ use Rattle.lists.specs.Tab.{tab}
 use Rattle.gpio.specs.declared.span.Span.{Span}
 use Rattle.lists.proofs.Tab.{Filled, filled-none, filled-turn}
 use Rattle.listing.specs.Listing.{listOf}
-use Rattle.addr_layout.specs.Parts.{partSpan}
+use Rattle.addr_layout.specs.design.Parts.{partSpan}
 use Rattle.lists.proofs.Shifts.{shifted-one}
 use Rattle.search.proofs.Rows.{row-short}
 use borrow.Author.Needs.{needs}

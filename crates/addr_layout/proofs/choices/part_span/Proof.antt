@@ -11,36 +11,37 @@ use Rattle.gpio.specs.declared.candidates.Candidates.{Candidates}
 use Rattle.gpio.specs.declared.span.Span.{Span}
 use Rattle.lists.proofs.Lists.{mapped-length}
 use Rattle.listing.specs.Listing.{listOf}
-use Rattle.listing.specs.Choice.{chosen, leftBy, pinAt, restAt, gpioAt, bitOf, inPart}
+use Rattle.listing.specs.Choice.{chosen, leftBy, pinAt, restAt, gpioAt, bitOf}
+use Rattle.listing.specs.design.Parts.{inPart}
 use Rattle.lists.proofs.Each.{tally-none}
 use Rattle.listing.proofs.Walked.{pin-taken, rest-left, bit-served}
 use Rattle.listing.specs.declared.Listed.{Listed}
 use Rattle.listing.specs.declared.choice.Picked.{Picked}
 use Rattle.addr_layout.specs.Choices.{spanned}
-use Rattle.addr_layout.specs.Parts.{partAt}
+use Rattle.addr_layout.specs.design.Parts.{spanPartAt}
 use borrow.Author.Needs.{needs}
 use Rattle.addr_layout.proofs.choices.part_span.Statement.{statement}
 use Rattle.addr_layout.proofs.choices.part_span.Tie as tie
 
 wider : (ls : List Listed) (u n split c k r t : ℕ) (low : Bool) (fixed s s' : Span) (g : Candidates) (p : Picked) (b : Bool) → r ≡ restAt ls c k → t ≡ bitOf ls k → g ≡ pinAt ls k
-    → p ≡ record { gpio = chosen g r; rest = leftBy g r } → b ≡ inPart low split t → s ≡ partAt ls u n fixed low split c k → s' ≡ cond (spanned u n k && b) (widened s (p .gpio)) s
-    → s' ≡ partAt ls u n fixed low split c (k + 1)
-unfolding partAt gpioAt
+    → p ≡ record { gpio = chosen g r; rest = leftBy g r } → b ≡ inPart low split t → s ≡ spanPartAt ls u n fixed low split c k → s' ≡ cond (spanned u n k && b) (widened s (p .gpio)) s
+    → s' ≡ spanPartAt ls u n fixed low split c (k + 1)
+unfolding spanPartAt gpioAt
 wider ls u n split c k r t low fixed s s' g p b e f h i j m o = rw (o, j, i, h, e, f, m, add-one)
 
-done : (ls : List Listed) (u n split c k m : ℕ) (low : Bool) (fixed s : Span) → k ≡ m → s ≡ partAt ls u n fixed low split c k → s ≡ partAt ls u n fixed low split c m
+done : (ls : List Listed) (u n split c k m : ℕ) (low : Bool) (fixed s : Span) → k ≡ m → s ≡ spanPartAt ls u n fixed low split c k → s ≡ spanPartAt ls u n fixed low split c m
 done ls u n split c k m low fixed s e h = rw e at h
 
 abbrev Inv-loop : tie.InvT-loop
 Inv-loop in-range lines low split choice pins count s₀ rest₀ bit₀ k₀ s rest bit k =
     (k ≤ count) × (count ≤ 30) × (bit ≤ k) × (length pins ≡ 30) × (rest ≡ restAt (take count pins) choice k)
-    × (bit ≡ bitOf (take count pins) k) × (s ≡ partAt (take count pins) in-range lines s₀ low split choice k)
+    × (bit ≡ bitOf (take count pins) k) × (s ≡ spanPartAt (take count pins) in-range lines s₀ low split choice k)
 
 abbrev μ-loop : tie.MeasureT-loop
 μ-loop in-range lines low split choice pins count s₀ rest₀ bit₀ k₀ s rest bit k = count - k
 
 loop-holds : tie.Need-loop-holds Inv-loop μ-loop
-unfolding restAt partAt
+unfolding restAt spanPartAt
 loop-holds c = (omega arith, omega arith, omega arith, search (mapped-length, needs), refl, tally-none _, refl)
 
 loop-again : tie.Need-loop-again Inv-loop μ-loop

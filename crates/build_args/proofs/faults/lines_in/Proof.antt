@@ -1,11 +1,11 @@
 -- `lines_in` meets its contract. Assumes nothing.
 use borrow.Author.Needs.{needs}
-use Rattle.build_args.specs.Faults.{linesIn}
+use Rattle.build_args.specs.Faults.{dataPositionsIn}
 use Rattle.build_args.proofs.faults.lines_in.Statement.{statement}
 use Rattle.build_args.proofs.faults.lines_in.Tie as tie
 
 returns : tie.Need-returns
-unfolding linesIn
+unfolding dataPositionsIn
 returns c = rw (c .before .data-base .ensures) at (c .positions-in .ensures)
 
 pub lines-in-spec : {M : Type 1} → statement M

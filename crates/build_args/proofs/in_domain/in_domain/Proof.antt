@@ -1,11 +1,11 @@
 -- `in_domain` meets its contract. Assumes nothing.
 use borrow.Author.Needs.{needs}
-use Rattle.build_args.specs.Domain.{inDomain}
+use Rattle.build_args.specs.Domain.{buildIn}
 use Rattle.build_args.proofs.in_domain.in_domain.Statement.{statement}
 use Rattle.build_args.proofs.in_domain.in_domain.Tie as tie
 
 returns : tie.Need-returns
-unfolding inDomain
+unfolding buildIn
 returns c = rw (c .cs-data-in .ensures, c .before .layout-in .ensures, c .before .before .description-in .ensures, c .before .before .before .qualifiers-in .ensures)
 
 pub in-domain-spec : {M : Type 1} → statement M

@@ -5,12 +5,12 @@ use native.Mathlib.Omega.{arith}
 use borrow.Author.Needs.{needs}
 use Rattle.lists.specs.Each.{each}
 use Rattle.lists.proofs.Each.{each-none, each-turn, each-done}
-use Rattle.build_args.specs.Domain.{lineOf, selectLineIn, selectLinesIn}
+use Rattle.build_args.specs.Domain.{selectLineOf, selectLineIn, selectLinesIn}
 use Rattle.build_args.proofs.in_domain.select_lines_in.Statement.{statement}
 use Rattle.build_args.proofs.in_domain.select_lines_in.Tie as tie
 
 abbrev Inv-loop : tie.InvT-loop
-Inv-loop l commoned count n ok₀ k₀ ok k = (k ≤ n) × (ok ≡ each k (λ j. selectLineIn (lineOf l commoned j)))
+Inv-loop l commoned count n ok₀ k₀ ok k = (k ≤ n) × (ok ≡ each k (λ j. selectLineIn (selectLineOf l commoned j)))
 
 abbrev μ-loop : tie.MeasureT-loop
 μ-loop l commoned count n ok₀ k₀ ok k = n - k

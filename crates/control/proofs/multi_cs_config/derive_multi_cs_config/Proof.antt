@@ -1,7 +1,7 @@
 -- `derive_multi_cs_config` meets its contract: lines in the domain are at most 8, as `sort` asks. Assumes nothing.
 use mathlib.Core.Path.{_≡_, sym, _∙_}
 use Rattle.lists.proofs.Bools.{and-left}
-use Rattle.control.specs.MultiCsConfig.{answerOf, multiAnswer}
+use Rattle.control.specs.MultiCsConfig.{multiAnswerOf, multiAnswer}
 use borrow.Author.Needs.{needs}
 use borrow.Author.Tests.{leb-true}
 use Rattle.control.proofs.multi_cs_config.derive_multi_cs_config.Statement.{statement}
@@ -13,7 +13,7 @@ sort-requires c κs = leb-true _ _ (and-left _ _ (sym (c .before .control-in .en
 -- in the domain, the sorted lines answer
 sorted-answers : (c : tie.After-sort) →
     let a = c .before .before .before .args in
-    multiAnswer (a .lines) (a .chip0) (a .secondary) ≡ answerOf (c .sort .result)
+    multiAnswer (a .lines) (a .chip0) (a .secondary) ≡ multiAnswerOf (c .sort .result)
 sorted-answers c = rw (sym (c .before .before .control-in .ensures) ∙ c .before .if1 .taken, ← c .sort .ensures)
 
 returns : tie.Need-returns

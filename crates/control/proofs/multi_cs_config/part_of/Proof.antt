@@ -2,7 +2,7 @@
 use mathlib.Core.Path.{_≡_}
 use mathlib.Core.Bool.{cond}
 use Rattle.control.specs.declared.multi_cs_config.Part.the-variants.{Ignored, Commoned}
-use Rattle.control.specs.MultiCsConfig.{partOf}
+use Rattle.control.specs.MultiCsConfig.{linePart}
 use borrow.Author.Needs.{needs}
 use borrow.Author.Tests.{le-leb, lt-leb}
 use Rattle.control.proofs.multi_cs_config.part_of.Statement.{statement}
@@ -19,7 +19,7 @@ returns-2 c =
 -- a named line that is not the select: chip 0 decides
 left : (c : tie.After-line-ignored2) →
     let a = c .before .before .before .before .args in
-    partOf (a .single) (a .chip0) (a .secondary) (a .kind) ≡ cond (c .line-ignored2 .result) Ignored Commoned
+    linePart (a .single) (a .chip0) (a .secondary) (a .kind) ≡ cond (c .line-ignored2 .result) Ignored Commoned
 left c =
     let i = c .before .before in
     rw (le-leb _ _ (i .before .if1 .left), ← i .line-ignored .ensures, c .before .if2 .left, ← c .line-ignored2 .ensures)

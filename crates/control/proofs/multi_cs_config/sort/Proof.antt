@@ -11,7 +11,7 @@ use Rattle.slot.specs.Description.{kindAt}
 use Rattle.control.specs.declared.multi_cs_config.Part.{Part}
 use Rattle.control.specs.declared.multi_cs_config.Part.the-variants.{Dropped, Select, Commoned, Ignored}
 use Rattle.control.specs.declared.multi_cs_config.Sorted.{Sorted}
-use Rattle.control.specs.MultiCsConfig.{namedCount, partOf, placed, sorted}
+use Rattle.control.specs.MultiCsConfig.{namedCount, linePart, sortedWith, sorted}
 use borrow.Author.Needs.{needs}
 use Rattle.control.proofs.multi_cs_config.sort.Statement.{statement}
 use Rattle.control.proofs.multi_cs_config.sort.Tie as tie
@@ -20,14 +20,14 @@ use Rattle.control.proofs.multi_cs_config.sort.Tie as tie
 abbrev Few : ℕ → Sorted → Type 0
 Few n s = (s .config .«num_commoned» ≤ n) × (s .config .«num_ignored» ≤ n)
 
-placed-few : (part : Part) (kind n : ℕ) (s : Sorted) → Few n s → Few (suc n) (placed part kind s)
+placed-few : (part : Part) (kind n : ℕ) (s : Sorted) → Few n s → Few (suc n) (sortedWith part kind s)
 placed-few Dropped kind n s h = (omega arith, omega arith)
 placed-few Select kind n s h = (omega arith, omega arith)
 placed-few Commoned kind n s h = (omega arith, omega arith)
 placed-few Ignored kind n s h = (omega arith, omega arith)
 
 abbrev partAt : ControlLines → CsConfig → CsConfig → ℕ → Part
-partAt lines chip0 secondary k = partOf (eqb (namedCount lines) 1) chip0 secondary (kindAt lines k)
+partAt lines chip0 secondary k = linePart (eqb (namedCount lines) 1) chip0 secondary (kindAt lines k)
 
 module _ (lines : ControlLines) (chip0 secondary : CsConfig) where
   sorted-few : (k : ℕ) → Few k (sorted lines chip0 secondary k)
@@ -42,7 +42,7 @@ module _ (lines : ControlLines) (chip0 secondary : CsConfig) where
   -- one turn: the lines so far, and line k
   turn : (k : ℕ) (s r : Sorted)
       → s ≡ sorted lines chip0 secondary k
-      → r ≡ placed (partAt lines chip0 secondary k) (kindAt lines k) s
+      → r ≡ sortedWith (partAt lines chip0 secondary k) (kindAt lines k) s
       → r ≡ sorted lines chip0 secondary (k + 1)
   unfolding sorted
   turn k s r e h = rw (h, e, add-one)

@@ -9,7 +9,7 @@ use Rattle.listing.specs.Listing.{listOf}
 use Rattle.search.specs.Search.{best}
 use Rattle.search.proofs.Rows.{rows-turn, rows-done}
 use Rattle.cs_choices.specs.Sets.{verdictOn}
-use Rattle.cs_choices.specs.Verdict.{trialOf}
+use Rattle.cs_choices.specs.Verdict.{verdictTrial}
 use Rattle.cs_choices.proofs.Rows.{AtRow, rows-begun, row-passed, first-is, count-is, choices-fit, row-judged}
 use borrow.Author.Needs.{needs}
 use Rattle.cs_choices.proofs.choices.best.Statement.{statement}
@@ -17,7 +17,7 @@ use Rattle.cs_choices.proofs.choices.best.Tie as tie
 
 abbrev Inv-loop : tie.InvT-loop
 Inv-loop l fixed bits split lows rows found₀ row₀ found row =
-    AtRow l fixed bits split lows rows row × (found ≡ best (λ c. trialOf (verdictOn (listOf l) fixed c)) (row * 2 ^ split))
+    AtRow l fixed bits split lows rows row × (found ≡ best (λ c. verdictTrial (verdictOn (listOf l) fixed c)) (row * 2 ^ split))
 
 abbrev μ-loop : tie.MeasureT-loop
 μ-loop l fixed bits split lows rows found₀ row₀ found row = rows - row
@@ -36,7 +36,7 @@ loop-again c =
     let i = c .before .before .before .loop .inv in
     let t = c .before .before .loop-test .taken in (
       row-passed (i .0) t,
-      rows-turn _ _ _ _ _ _ _ _ (first-is (i .0) t) (count-is (i .0) t) (λ q h. ap trialOf (row-judged (i .0) t (c .before .parts .ensures) q h)) (i .1) (c .best-in-row .ensures),
+      rows-turn _ _ _ _ _ _ _ _ (first-is (i .0) t) (count-is (i .0) t) (λ q h. ap verdictTrial (row-judged (i .0) t (c .before .parts .ensures) q h)) (i .1) (c .best-in-row .ensures),
     )
 
 returns : tie.Need-returns Inv-loop μ-loop

@@ -3,17 +3,17 @@ use mathlib.Core.Path.{_≡_, refl, _∙_}
 use Prim.Native.Nat.{_≤_, _-_}
 use native.Mathlib.Omega.{arith}
 use lib.ListN.{length, getD}
-use Rattle.search.specs.Search.{bestOnward}
+use Rattle.search.specs.design.Rows.{bestOnward}
 use Rattle.search.proofs.Rows.{onward-turn, onward-done}
-use Rattle.cs_choices.specs.Verdict.{trialOf}
-use Rattle.cs_choices.specs.Parts.{noSets, inRow}
+use Rattle.cs_choices.specs.Verdict.{verdictTrial}
+use Rattle.cs_choices.specs.design.Parts.{noSets, inRow}
 use borrow.Author.Needs.{needs}
 use Rattle.cs_choices.proofs.choices.best_in_row.Statement.{statement}
 use Rattle.cs_choices.proofs.choices.best_in_row.Tie as tie
 
 abbrev Inv-loop : tie.InvT-loop
 Inv-loop fixed high first len lows found₀ q₀ found q =
-    (q ≤ len) × (length lows ≡ 64) × (found ≡ bestOnward found₀ (λ j. trialOf (inRow fixed (getD lows j noSets) high)) first q)
+    (q ≤ len) × (length lows ≡ 64) × (found ≡ bestOnward found₀ (λ j. verdictTrial (inRow fixed (getD lows j noSets) high)) first q)
 
 abbrev μ-loop : tie.MeasureT-loop
 μ-loop fixed high first len lows found₀ q₀ found q = len - q

@@ -11,7 +11,7 @@ use Rattle.lists.proofs.Tab.{Filled, filled-none, filled-turn}
 use Rattle.listing.specs.Listing.{listOf}
 use Rattle.listing.specs.Choice.{GpiosIn}
 use Rattle.search.proofs.Rows.{row-short}
-use Rattle.cs_choices.specs.Parts.{partsOf}
+use Rattle.cs_choices.specs.design.Parts.{partsOf}
 use Rattle.cs_choices.specs.declared.choices.Sets.{Sets}
 use borrow.Author.Needs.{needs}
 use Rattle.cs_choices.proofs.choices.low_parts.Statement.{statement}

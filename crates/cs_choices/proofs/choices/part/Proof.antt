@@ -11,21 +11,22 @@ use Rattle.gpio.specs.Set.{with}
 use Rattle.lists.proofs.Each.{tally-none}
 use Rattle.lists.proofs.Lists.{mapped-length}
 use Rattle.listing.specs.Listing.{listOf}
-use Rattle.listing.specs.Choice.{restAt, gpioAt, bitOf, inPart, GpiosIn}
+use Rattle.listing.specs.Choice.{restAt, gpioAt, bitOf, GpiosIn}
+use Rattle.listing.specs.design.Parts.{inPart}
 use Rattle.listing.specs.declared.Listed.{Listed}
 use Rattle.listing.proofs.InDomain.{gpio-in}
 use Rattle.listing.proofs.Walked.{pin-taken, gpio-taken, rest-left, bit-served}
-use Rattle.cs_choices.specs.Parts.{partAt}
+use Rattle.cs_choices.specs.design.Parts.{setPartAt}
 use borrow.Author.Needs.{needs}
 use Rattle.cs_choices.proofs.choices.part.Statement.{statement}
 use Rattle.cs_choices.proofs.choices.part.Tie as tie
 
 more : (ls : List Listed) (from split c k t g : ℕ) (low b : Bool) (s s' : ℕ) → g ≡ gpioAt ls c k → t ≡ bitOf ls k → b ≡ inPart low split t
-    → s ≡ partAt ls from low split c k → s' ≡ cond (leb from k && b) (with s g) s → s' ≡ partAt ls from low split c (k + 1)
-unfolding partAt
+    → s ≡ setPartAt ls from low split c k → s' ≡ cond (leb from k && b) (with s g) s → s' ≡ setPartAt ls from low split c (k + 1)
+unfolding setPartAt
 more ls from split c k t g low b s s' e f h i j = rw (j, h, f, e, i, add-one)
 
-done : (ls : List Listed) (from split c k m : ℕ) (low : Bool) (s : ℕ) → k ≡ m → s ≡ partAt ls from low split c k → s ≡ partAt ls from low split c m
+done : (ls : List Listed) (from split c k m : ℕ) (low : Bool) (s : ℕ) → k ≡ m → s ≡ setPartAt ls from low split c k → s ≡ setPartAt ls from low split c m
 done ls from split c k m low s e h = rw e at h
 
 -- a GPIO has a bit of 64
@@ -35,13 +36,13 @@ gpio-small ls i c k g e = omega (arith, gpio-in ls i c k, e)
 abbrev Inv-loop : tie.InvT-loop
 Inv-loop from to low split choice l s₀ rest₀ bit₀ k₀ s rest bit k =
     (k ≤ to) × (to ≤ l .count) × (l .count ≤ 30) × (bit ≤ k) × (length (l .pins) ≡ 30) × GpiosIn (listOf l) × (rest ≡ restAt (listOf l) choice k)
-    × (bit ≡ bitOf (listOf l) k) × (s ≡ partAt (listOf l) from low split choice k)
+    × (bit ≡ bitOf (listOf l) k) × (s ≡ setPartAt (listOf l) from low split choice k)
 
 abbrev μ-loop : tie.MeasureT-loop
 μ-loop from to low split choice l s₀ rest₀ bit₀ k₀ s rest bit k = to - k
 
 loop-holds : tie.Need-loop-holds Inv-loop μ-loop
-unfolding restAt partAt
+unfolding restAt setPartAt
 loop-holds c = (omega arith, omega arith, omega arith, omega arith, search (mapped-length, needs), c .pre .2, refl, tally-none _, refl)
 
 with-if-requires : tie.Need-with-if-requires Inv-loop μ-loop

@@ -8,16 +8,16 @@ use lib.ListN.{length, length-take}
 use Rattle.lists.proofs.Lists.{mapped-length}
 use Rattle.listing.specs.Listing.{listOf}
 use Rattle.listing.specs.declared.Listed.{Listed}
-use Rattle.cs_choices.specs.Parts.{partAt, partsOf}
+use Rattle.cs_choices.specs.design.Parts.{setPartAt, partsOf}
 use Rattle.cs_choices.specs.declared.choices.Sets.{Sets}
 use borrow.Author.Needs.{needs}
 use Rattle.cs_choices.proofs.choices.parts.Statement.{statement}
 use Rattle.cs_choices.proofs.choices.parts.Tie as tie
 
-both : (ls : List Listed) (n m split c x y : ℕ) (low : Bool) → m ≡ length ls → x ≡ partAt ls 0 low split c n → y ≡ partAt ls n low split c m
+both : (ls : List Listed) (n m split c x y : ℕ) (low : Bool) → m ≡ length ls → x ≡ setPartAt ls 0 low split c n → y ≡ setPartAt ls n low split c m
     → _≡_ {A = Sets} (record { «data_gpios» = x; «select_gpios» = y }) (partsOf ls n low split c)
 both ls n m split c x y low e p q =
-    let r : y ≡ partAt ls n low split c (length ls) = q ∙ ap (λ (k : ℕ). partAt ls n low split c k) e in
+    let r : y ≡ setPartAt ls n low split c (length ls) = q ∙ ap (λ (k : ℕ). setPartAt ls n low split c k) e in
     rw (p, r)
 
 returns : tie.Need-returns

@@ -9,7 +9,7 @@ use mathlib.Core.Bool.{false}
 use Rattle.lists.proofs.Lists.{mapped-length}
 use Rattle.listing.specs.Listing.{listOf}
 use Rattle.listing.specs.declared.Listed.{Listed}
-use Rattle.cs_choices.specs.Parts.{partsOf, setsOf}
+use Rattle.cs_choices.specs.design.Parts.{partsOf, setsOf}
 use Rattle.cs_choices.specs.declared.choices.Sets.{Sets}
 use Rattle.cs_choices.proofs.Parts.{data-whole, select-whole}
 use borrow.Author.Needs.{needs}

@@ -4,8 +4,8 @@ use Prim.Native.Nat.{ℕ, _+_, _≤_, _-_}
 use native.Mathlib.Numerals.{add-one}
 use native.Mathlib.Omega.{arith}
 use lib.ListN.{length, getD}
-use Rattle.cs_choices.specs.Parts.{noSets, inRow}
-use Rattle.cs_choices.specs.Seen.{seenWith, seenOnward}
+use Rattle.cs_choices.specs.design.Parts.{noSets, inRow}
+use Rattle.cs_choices.specs.design.Seen.{seenWith, seenOnward}
 use Rattle.cs_choices.specs.declared.nothing.Seen.{Seen}
 use Rattle.cs_choices.specs.declared.verdict.Verdict.{Verdict}
 use borrow.Author.Needs.{needs}

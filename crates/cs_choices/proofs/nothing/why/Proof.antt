@@ -12,7 +12,7 @@ use Rattle.refusal.specs.declared.first.FirstFault.{FirstFault}
 use Rattle.listing.specs.declared.Listed.{Listed}
 use Rattle.search.proofs.Rows.{row-added, rows-done}
 use Rattle.cs_choices.specs.Nothing.{interiorIn, nothingFits}
-use Rattle.cs_choices.specs.Seen.{refusedIn, seenWith, seenOnward}
+use Rattle.cs_choices.specs.design.Seen.{refusedIn, seenWith, seenOnward}
 use Rattle.cs_choices.specs.Sets.{verdictOn}
 use Rattle.cs_choices.specs.declared.choices.Fixed.{Fixed}
 use Rattle.cs_choices.specs.declared.nothing.Seen.{Seen}

@@ -17,10 +17,10 @@ use Rattle.listing.specs.Listing.{listed, listOf}
 use Rattle.listing.specs.declared.Listed.{Listed}
 use Rattle.addr_layout.specs.declared.layout.AddrLayout.{AddrLayout}
 use Rattle.cs_pins.specs.Roles.{selectRoles}
-use Rattle.cs_choices.specs.Parts.{setsOf}
+use Rattle.cs_choices.specs.design.Parts.{setsOf}
 use Rattle.cs_choices.specs.Verdict.{allOf, baseOf}
 use Rattle.cs_choices.specs.declared.choices.Sets.{Sets}
-use Rattle.cs_data_layout.specs.Choices.{numData, excessSet, qualifierSet, selectLine, commonedLine, layoutFrom, layoutOf}
+use Rattle.cs_data_layout.specs.Choices.{numData, excessSet, qualifierSet, selectLine, commonedLine, csDataLayoutFrom, csDataLayoutOf}
 use Rattle.cs_data_layout.specs.declared.layout.CsDataLayout.{CsDataLayout}
 use Rattle.cs_data_layout.specs.declared.layout.CsDataOutcome.the-variants.{LaidOut}
 use borrow.Author.Needs.{needs}
@@ -42,7 +42,7 @@ module _ (ls : List Listed) (c : ℕ) where
 
 -- equal GPIOs make equal layouts
 layouts-agree : (d : Description) (h : AddrLayout) (f g : ℕ → ℕ) (x y base : ℕ) → ((k : ℕ) → f k ≡ g k)
-    → layoutFrom d h f x y base ≡ layoutFrom d h g x y base
+    → csDataLayoutFrom d h f x y base ≡ csDataLayoutFrom d h g x y base
 layouts-agree d h f g x y base e =
     rw (
       tab-cong (λ k. cond (ltb k (numData d)) (f k) 0) (λ k. cond (ltb k (numData d)) (g k) 0) 16 (λ k l. rw (e k)),
@@ -53,8 +53,8 @@ layouts-agree d h f g x y base e =
 
 laid : (d : Description) (h : AddrLayout) (ls : List Listed) (c n excess q : ℕ) (gs : List ℕ) (s : Sets) (r : CsDataLayout) → length ls ≤ 30 → n ≡ numData d → excess ≡ excessSet h
     → q ≡ qualifierSet d h → gs ≡ tab 30 (λ k. gpioAt ls c k) → s ≡ setsOf ls n excess c
-    → r ≡ layoutFrom d h (λ k. getD gs k 0) (s .«data_gpios») (s .«select_gpios») (baseOf (allOf (s .«data_gpios») (s .«select_gpios») q))
-    → r ≡ layoutOf d h ls c
+    → r ≡ csDataLayoutFrom d h (λ k. getD gs k 0) (s .«data_gpios») (s .«select_gpios») (baseOf (allOf (s .«data_gpios») (s .«select_gpios») q))
+    → r ≡ csDataLayoutOf d h ls c
 laid d h ls c n excess q gs s r few en ex eq eg es e =
     (rw (eg, es, eq, ex, en) at e) ∙ layouts-agree d h _ _ _ _ _ (λ k. gpio-read ls c k (ltb k 30) refl few)
 

@@ -17,7 +17,7 @@ use Rattle.cs_pins.specs.Roles.{rolesOf, selectRoles}
 use Rattle.cs_pins.specs.declared.roles.Roles.{Roles}
 use Rattle.cs_choices.specs.Verdict.{allOf, baseOf}
 use Rattle.cs_choices.specs.declared.choices.Sets.{Sets}
-use Rattle.cs_data_layout.specs.Choices.{numData, qualifierSet, ignoreIndex, qualifiersFrom, selectLine, numCommoned, commonedLine, layoutFrom}
+use Rattle.cs_data_layout.specs.Choices.{numData, qualifierSet, ignoreIndex, qualifiersFrom, selectLine, numCommoned, commonedLine, csDataLayoutFrom}
 use Rattle.cs_data_layout.specs.declared.layout.IgnoreIndex.{IgnoreIndex}
 use Rattle.cs_data_layout.specs.declared.layout.SelectLine.{SelectLine}
 use Rattle.cs_data_layout.specs.declared.layout.Qualifiers.{Qualifiers}
@@ -73,7 +73,7 @@ made : (d : Description) (h : AddrLayout) (gpios : List ℕ) (s : Sets) (q : ℕ
       «commoned_lines» = commoned;
       «num_commoned_lines» = n;
       qualifiers = quals;
-    }) (layoutFrom d h (λ k. getD gpios k 0) (s .«data_gpios») (s .«select_gpios») (baseOf (allOf (s .«data_gpios») (s .«select_gpios») q)))
+    }) (csDataLayoutFrom d h (λ k. getD gpios k 0) (s .«data_gpios») (s .«select_gpios») (baseOf (allOf (s .«data_gpios») (s .«select_gpios») q)))
 made d h gpios s q chip roles base low pin low2 pin2 w n lines ignored selects commoned quals e0 e1 e2 e3 e4 e5 e6 e7 e8 e9 e10 e11 e12 e13 e14 e15 =
     rw (e15, e14, e13, e12, e11, e10, e9, e8, e7, e6, e5, e4, e2, e3, e1, e0)
 

@@ -2,7 +2,7 @@
 use mathlib.Core.Path.{sym, _∙_}
 use Rattle.slot.specs.Description.{chip0}
 use Rattle.domain.proofs.Bounds.{chip0-in, data-pins, control-lines, commoned-lines}
-use Rattle.cs_pins.specs.Pins.{inDomain}
+use Rattle.cs_pins.specs.Pins.{csSearchIn}
 use borrow.Author.Needs.{needs}
 use Rattle.cs_pins.proofs.pins.in_domain.Statement.{statement}
 use Rattle.cs_pins.proofs.pins.in_domain.Tie as tie
@@ -15,12 +15,12 @@ list-requires c κs =
     (data-pins (chip0 d) (d .«word_bytes») chip .1, control-lines (chip0 d) (d .«word_bytes») chip, commoned-lines d e)
 
 returns : tie.Need-returns
-unfolding inDomain
+unfolding csSearchIn
 returns c =
     rw (sym (c .before .before .before .description-in .ensures) ∙ c .before .before .if1 .taken, c .choice-bits .ensures .0, c .before .list .ensures .0)
 
 returns-2 : tie.Need-returns-2
-unfolding inDomain
+unfolding csSearchIn
 returns-2 c = rw (sym (c .before .description-in .ensures) ∙ c .if1 .left)
 
 pub in-domain-spec : {M : Type 1} → statement M

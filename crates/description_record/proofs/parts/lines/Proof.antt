@@ -4,12 +4,12 @@ use Prim.Native.Nat.{_+_, _*_, _-_}
 use native.Mathlib.Omega.{arith}
 use borrow.Author.Needs.{needs}
 use Rattle.lists.proofs.Tab.{Filled, filled-none, filled-turn, filled}
-use Rattle.description_record.specs.Record.{lineAt}
+use Rattle.description_record.specs.Record.{controlLineAt}
 use Rattle.description_record.proofs.parts.lines.Statement.{statement}
 use Rattle.description_record.proofs.parts.lines.Tie as tie
 
 abbrev Inv-loop : tie.InvT-loop
-Inv-loop b p out₀ k₀ out k = Filled 8 (λ j. lineAt b (p + 48 + 3 * j)) out k
+Inv-loop b p out₀ k₀ out k = Filled 8 (λ j. controlLineAt b (p + 48 + 3 * j)) out k
 
 abbrev μ-loop : tie.MeasureT-loop
 μ-loop b p out₀ k₀ out k = 8 - k

@@ -6,13 +6,13 @@ use native.Mathlib.Omega.{arith}
 use lib.ListN.{length, drop}
 use borrow.Author.Needs.{needs}
 use Rattle.addr_layout.specs.declared.layout.AddrLayout.{AddrLayout}
-use Rattle.layout_record.specs.AddrRecord.{addrSize, headBytes, invertedBytes, layoutBytes}
+use Rattle.layout_record.specs.AddrRecord.{addrSize, addrHead, invertedBytes, layoutBytes}
 use Rattle.layout_record.proofs.Parts.{room, three-parts, array-is}
 use Rattle.layout_record.proofs.addr_record.store.Statement.{statement}
 use Rattle.layout_record.proofs.addr_record.store.Tie as tie
 
 stored : (l : AddrLayout) (old new : List ℕ) → length (l .gpios) ≡ 24
-    → new ≡ (headBytes l ++ l .gpios ++ invertedBytes) ++ drop addrSize old → new ≡ layoutBytes l ++ drop addrSize old
+    → new ≡ (addrHead l ++ l .gpios ++ invertedBytes) ++ drop addrSize old → new ≡ layoutBytes l ++ drop addrSize old
 unfolding layoutBytes
 stored l old new n e = rw (array-is 0 (l .gpios) 24 n) e
 
@@ -32,7 +32,7 @@ returns c =
     let k3 = c .before .before .copy3 in
     let head = c .before .before .before .before .before .before .before .before .before .before .before .before .before .before .before .before .head in
     stored (s .args .l) (s .args .out .now) _ (gpios-long s)
-    (three-parts (headBytes (s .args .l)) (s .args .l .gpios) invertedBytes (s .args .out .now) _ _ _ _ 8 24 4 refl (gpios-long s) refl (s .pre)
+    (three-parts (addrHead (s .args .l)) (s .args .l .gpios) invertedBytes (s .args .out .now) _ _ _ _ 8 24 4 refl (gpios-long s) refl (s .pre)
     (head .ensures) (k1 .ensures .1) (k2 .ensures .1) (k3 .ensures .1))
 
 pub store-spec : {M : Type 1} → statement M

@@ -4,12 +4,12 @@ use Prim.Native.Nat.{_-_, _/_, _%_}
 use native.Mathlib.Omega.{arith}
 use borrow.Author.Needs.{needs}
 use Rattle.lists.proofs.Tab.{Filled, filled-none, filled-turn, filled}
-use Rattle.layout_record.specs.CsDataRecord.{lineAt, lineByte, linesBytes}
+use Rattle.layout_record.specs.CsDataRecord.{selectLineAt, lineByte, linesBytes}
 use Rattle.layout_record.proofs.cs_data_record.lines_bytes.Statement.{statement}
 use Rattle.layout_record.proofs.cs_data_record.lines_bytes.Tie as tie
 
 abbrev Inv-loop : tie.InvT-loop
-Inv-loop l out₀ j₀ out j = Filled 72 (λ k. lineByte (lineAt l (k / 2)) (k % 2)) out j
+Inv-loop l out₀ j₀ out j = Filled 72 (λ k. lineByte (selectLineAt l (k / 2)) (k % 2)) out j
 
 abbrev μ-loop : tie.MeasureT-loop
 μ-loop l out₀ j₀ out j = 72 - j

@@ -5,7 +5,7 @@ use native.Mathlib.Omega.{arith}
 use borrow.Author.Needs.{needs}
 use Rattle.lists.proofs.Tab.{Filled, filled-none, filled-turn, filled}
 use Rattle.picks.specs.Picks.{pickedBy}
-use Rattle.rom_image.specs.Wiring.{sourceOf}
+use Rattle.rom_image.specs.design.Wiring.{sourceOf}
 use Rattle.rom_image.proofs.sources.sources.Statement.{statement}
 use Rattle.rom_image.proofs.sources.sources.Tie as tie
 

@@ -7,7 +7,7 @@ use borrow.Author.Needs.{needs}
 use lib.ListN.{drop}
 use Rattle.lists.proofs.Shifts.{shifted-one}
 use Rattle.words.proofs.Words.{pad-lt}
-use Rattle.table_fill.specs.Entries.{WiringIn, SourcesIn, tableBy}
+use Rattle.table_fill.specs.design.Entries.{WiringIn, SourcesIn, tableBy}
 use Rattle.table_fill.specs.declared.wiring.Wiring.{Wiring}
 use Rattle.table_fill.specs.declared.sources.Source.{Source}
 use Rattle.slot.specs.declared.description.Description.{Description}
@@ -17,7 +17,7 @@ use Rattle.build_args.proofs.Facts.{selected, data-base}
 use Rattle.build_args.specs.Faults.{entriesOf, tableSize}
 use Rattle.build_args.specs.declared.images.ImageSpan.{ImageSpan}
 use Rattle.rom_image.specs.Entry.{padByte, padOf, tableOf}
-use Rattle.rom_image.specs.Wiring.{wiringOf, sourcesOf}
+use Rattle.rom_image.specs.design.Wiring.{wiringOf, sourcesOf}
 use Rattle.rom_image.proofs.Buildable.{Buildable}
 use Rattle.rom_image.proofs.Entries.{wiring-in, sources-in, table-is}
 use Rattle.rom_image.proofs.Past.{entries-few, pins-few, table-fits, buildable}

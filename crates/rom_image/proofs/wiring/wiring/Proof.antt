@@ -1,6 +1,6 @@
 -- `wiring` meets its contract. Assumes nothing.
 use borrow.Author.Needs.{needs}
-use Rattle.rom_image.specs.Wiring.{wiringOf}
+use Rattle.rom_image.specs.design.Wiring.{wiringOf}
 use Rattle.rom_image.proofs.wiring.wiring.Statement.{statement}
 use Rattle.rom_image.proofs.wiring.wiring.Tie as tie
 

@@ -4,12 +4,12 @@ use Prim.Native.Nat.{_-_}
 use native.Mathlib.Omega.{arith}
 use borrow.Author.Needs.{needs}
 use Rattle.lists.proofs.Tab.{Filled, filled-none, filled-turn, filled}
-use Rattle.round_trip.specs.Stored.{romOf}
+use Rattle.round_trip.specs.Stored.{storedRom}
 use Rattle.round_trip.proofs.stored.roms.Statement.{statement}
 use Rattle.round_trip.proofs.stored.roms.Tie as tie
 
 abbrev Inv-loop : tie.InvT-loop
-Inv-loop d a c out₀ k₀ out k = Filled 4 (romOf d a c) out k
+Inv-loop d a c out₀ k₀ out k = Filled 4 (storedRom d a c) out k
 
 abbrev μ-loop : tie.MeasureT-loop
 μ-loop d a c out₀ k₀ out k = 4 - k

@@ -1,16 +1,16 @@
--- `listed` meets its contract. The invariant: `n` is how many of the entries passed are listed. Assumes nothing.
+-- `listed` meets its contract. The invariant: `n` is how many of the entries passed are mapLines. Assumes nothing.
 use mathlib.Core.Path.{_≡_}
 use Prim.Native.Nat.{_≤_, _-_}
 use native.Mathlib.Omega.{arith}
 use lib.ListN.{length}
 use borrow.Author.Needs.{needs}
-use Rattle.stored_slot.specs.Stored.{listed}
+use Rattle.stored_slot.specs.Stored.{mapLines}
 use Rattle.stored_slot.proofs.Listed.{getD-any, listed-none, listed-turn, listed-done, listed-most}
 use Rattle.stored_slot.proofs.roms.listed.Statement.{statement}
 use Rattle.stored_slot.proofs.roms.listed.Tie as tie
 
 abbrev Inv-loop : tie.InvT-loop
-Inv-loop map n₀ k₀ n k = (k ≤ 32) × (n ≡ listed k map)
+Inv-loop map n₀ k₀ n k = (k ≤ 32) × (n ≡ mapLines k map)
 
 abbrev μ-loop : tie.MeasureT-loop
 μ-loop map n₀ k₀ n k = 32 - k

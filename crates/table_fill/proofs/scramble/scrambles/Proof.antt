@@ -4,7 +4,7 @@ use Prim.Native.Nat.{_*_, _-_}
 use native.Mathlib.Nat.{mul-le-mul-right}
 use native.Mathlib.Omega.{arith}
 use Rattle.lists.proofs.Tab.{Filled, filled-none, filled-turn, filled}
-use Rattle.table_fill.specs.Entries.{scrambledBy}
+use Rattle.table_fill.specs.design.Entries.{scrambledBy}
 use borrow.Author.Needs.{needs}
 use Rattle.table_fill.proofs.scramble.scrambles.Statement.{statement}
 use Rattle.table_fill.proofs.scramble.scrambles.Tie as tie

@@ -7,7 +7,7 @@ use native.Mathlib.Omega.{arith}
 use lib.ListN.{length, getD}
 use lib.Pow.{pow-mono}
 use Rattle.words.proofs.Words.{word-short, words-room, words-none, words-turn, words-done}
-use Rattle.table_fill.specs.Entries.{partOf, tableBy}
+use Rattle.table_fill.specs.design.Entries.{partOf, tableBy}
 use Rattle.table_fill.specs.declared.wiring.Part.{Part}
 use Rattle.table_fill.proofs.Rows.{Parts, parts, address-lt, picks-lt, scrambled, entry-rows}
 use borrow.Author.Needs.{needs}

@@ -3,7 +3,7 @@ use mathlib.Core.Path.{refl}
 use Prim.Native.Nat.{_-_}
 use native.Mathlib.Omega.{arith}
 use Rattle.lists.proofs.Tab.{Filled, filled-none, filled-turn, filled}
-use Rattle.table_fill.specs.Entries.{partOf}
+use Rattle.table_fill.specs.design.Entries.{partOf}
 use borrow.Author.Needs.{needs}
 use Rattle.table_fill.proofs.wiring.low_parts.Statement.{statement}
 use Rattle.table_fill.proofs.wiring.low_parts.Tie as tie

@@ -11,7 +11,7 @@ use lib.Seq.{set-split}
 use borrow.Author.Needs.{needs}
 use borrow.Author.Tests.{eq-eqb, ne-eqb}
 use Rattle.words.specs.Words.{bytesOf, wordFrom}
-use Rattle.table_read.specs.Buffers.{kept, keepWord}
+use Rattle.table_read.specs.design.Buffers.{kept, keepWord}
 use Rattle.table_read.proofs.buffers.keep.Statement.{statement}
 use Rattle.table_read.proofs.buffers.keep.Tie as tie
 

@@ -4,7 +4,7 @@ use Prim.Native.Nat.{_*_, _/_, _%_, _-_, _≤_}
 use native.Mathlib.Nat.{mul-le-mul-right}
 use native.Mathlib.Omega.{arith}
 use Rattle.lists.proofs.Tab.{Filled, filled-none, filled-turn, filled}
-use Rattle.table_read.specs.Reading.{partBy}
+use Rattle.table_read.specs.design.Reading.{partBy}
 use borrow.Author.Needs.{needs}
 use Rattle.table_read.proofs.maps.parts.Statement.{statement}
 use Rattle.table_read.proofs.maps.parts.Tie as tie

@@ -5,7 +5,7 @@ use native.Mathlib.Nat.{le-trans, mul-le-mul-right}
 use native.Mathlib.Omega.{arith}
 use lib.ListN.{length}
 use Rattle.lists.specs.First.{firstWhere}
-use Rattle.table_read.specs.Reading.{MapsIn, ReadingIn, wordBy, valueBy}
+use Rattle.table_read.specs.design.Reading.{MapsIn, ReadingIn, wordBy, valueBy}
 use Rattle.table_read.specs.declared.reading.Reading.{Reading}
 use Rattle.table_read.proofs.Held.{Held, own, marks-own, held-done}
 use Rattle.table_read.proofs.RowRead.{row-through, row-bad}

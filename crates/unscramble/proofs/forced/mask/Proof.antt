@@ -3,7 +3,7 @@ use mathlib.Core.Path.{_≡_, _∙_, ap}
 use mathlib.Core.Bool.{Bool, cond}
 use Prim.Native.Nat.{ℕ, _-_, _^_, _≤_}
 use native.Mathlib.Omega.{arith}
-use Rattle.unscramble.specs.Reading.{maskOf, highAt, forcedAt}
+use Rattle.unscramble.specs.design.Reading.{maskOf, highAt, forcedAt}
 use Rattle.unscramble.proofs.Loops.{mask-none, mask-turn, mask-done, mask-fits}
 use borrow.Author.Needs.{needs}
 use Rattle.unscramble.proofs.forced.mask.Statement.{statement}

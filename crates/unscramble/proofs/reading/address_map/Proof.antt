@@ -2,7 +2,7 @@
 use mathlib.Core.Path.{_∙_, ap}
 use Prim.Native.Nat.{ℕ}
 use Rattle.stored_slot.specs.Stored.{addrBase}
-use Rattle.unscramble.specs.Reading.{mapOf}
+use Rattle.unscramble.specs.design.Reading.{readMap}
 use Rattle.stored_slot.specs.declared.stored.Rom.{Rom}
 use borrow.Author.Needs.{needs}
 use Rattle.unscramble.proofs.reading.address_map.Statement.{statement}
@@ -11,8 +11,8 @@ use Rattle.unscramble.proofs.reading.address_map.Tie as tie
 returns : tie.Need-returns
 returns c = let s = c .before .before .before .before .args .s in
     c .map-of .ensures
-    ∙ ap (λ (b : ℕ). mapOf (c .before .before .before .rom-at .result .addr) b) (c .before .addr-base .ensures)
-    ∙ ap (λ (x : Rom). mapOf (x .addr) (addrBase s)) (c .before .before .before .rom-at .ensures)
+    ∙ ap (λ (b : ℕ). readMap (c .before .before .before .rom-at .result .addr) b) (c .before .addr-base .ensures)
+    ∙ ap (λ (x : Rom). readMap (x .addr) (addrBase s)) (c .before .before .before .rom-at .ensures)
 
 pub address-map-spec : {M : Type 1} → statement M
 address-map-spec =

@@ -5,13 +5,13 @@ use Prim.Native.Nat.{_-_}
 use native.Mathlib.Omega.{arith}
 use lib.Dec.{ltb}
 use Rattle.lists.proofs.Tab.{Filled, filled-none, filled-turn, filled}
-use Rattle.stored_slot.specs.Words.{pickPosition}
+use Rattle.stored_slot.specs.Words.{storedPickPosition}
 use borrow.Author.Needs.{needs}
 use Rattle.unscramble.proofs.reading.pick_positions.Statement.{statement}
 use Rattle.unscramble.proofs.reading.pick_positions.Tie as tie
 
 abbrev Inv-loop : tie.InvT-loop
-Inv-loop s set-type out₀ k₀ out k = Filled 32 (λ j. cond (ltb j 3) (pickPosition s set-type j) 0) out k
+Inv-loop s set-type out₀ k₀ out k = Filled 32 (λ j. cond (ltb j 3) (storedPickPosition s set-type j) 0) out k
 
 abbrev μ-loop : tie.MeasureT-loop
 μ-loop s set-type out₀ k₀ out k = 32 - k

@@ -4,13 +4,13 @@ use Prim.Native.Nat.{_-_}
 use native.Mathlib.Omega.{arith}
 use Rattle.lists.proofs.Tab.{Filled, filled-none, filled-turn, filled}
 use Rattle.picks.specs.Picks.{pickedBy}
-use Rattle.unscramble.specs.Reading.{placeOf}
+use Rattle.unscramble.specs.design.Reading.{romPlace}
 use borrow.Author.Needs.{needs}
 use Rattle.unscramble.proofs.reading.places.Statement.{statement}
 use Rattle.unscramble.proofs.reading.places.Tie as tie
 
 abbrev Inv-loop : tie.InvT-loop
-Inv-loop set-type roms out₀ bits₀ out bits = Filled 8 (λ b. placeOf (pickedBy set-type roms b)) out bits
+Inv-loop set-type roms out₀ bits₀ out bits = Filled 8 (λ b. romPlace (pickedBy set-type roms b)) out bits
 
 abbrev μ-loop : tie.MeasureT-loop
 μ-loop set-type roms out₀ bits₀ out bits = 8 - bits
@@ -19,7 +19,7 @@ loop-holds : tie.Need-loop-holds Inv-loop μ-loop
 loop-holds c = filled-none refl
 
 loop-again : tie.Need-loop-again Inv-loop μ-loop
-loop-again c = filled-turn (c .before .before .before .loop .inv) (omega arith) (c .place-of .ensures ∙ ap placeOf (c .before .picked-by .ensures))
+loop-again c = filled-turn (c .before .before .before .loop .inv) (omega arith) (c .place-of .ensures ∙ ap romPlace (c .before .picked-by .ensures))
 
 returns : tie.Need-returns Inv-loop μ-loop
 returns c = filled (c .before .loop .inv) (omega arith)

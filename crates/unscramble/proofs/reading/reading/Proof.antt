@@ -1,5 +1,5 @@
 -- `reading` meets its contract. Assumes nothing.
-use Rattle.unscramble.specs.Reading.{readingOf}
+use Rattle.unscramble.specs.design.Reading.{readingOf}
 use borrow.Author.Needs.{needs}
 use Rattle.unscramble.proofs.reading.reading.Statement.{statement}
 use Rattle.unscramble.proofs.reading.reading.Tie as tie

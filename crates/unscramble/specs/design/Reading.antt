@@ -13,40 +13,40 @@ use Rattle.picks.specs.declared.Picked.the-variants.{NoChip, Chip}
 use Rattle.table_read.specs.declared.maps.Map.{Map}
 use Rattle.table_read.specs.declared.reading.Extent.{Extent}
 use Rattle.table_read.specs.declared.reading.Reading.{Reading}
-use Rattle.stored_slot.specs.Stored.{romAt, wordBytes, addrBase, dataBase, pinsOf, listed, names}
-use Rattle.stored_slot.specs.Words.{romWords, wordsBefore, allWords, pickGpio, pickPosition}
+use Rattle.stored_slot.specs.Stored.{romAt, wordBytes, addrBase, storedDataBase, storedPins, mapLines, names}
+use Rattle.stored_slot.specs.Words.{romWords, wordsBefore, allWords, pickGpio, storedPickPosition}
 use Rattle.stored_slot.specs.declared.stored.StoredSlot.{StoredSlot}
 
 -- a slot that no test before the entries refuses: its numbers fit
 pub record Readable (s : StoredSlot) (set : ChipSetType) : Type 0 where
-  pub pins : pinsOf s < 32
+  pub pins : storedPins s < 32
   pub bytes : wordBytes s ≤ 2
   pub addr-base : addrBase s ≤ 255
-  pub data-base : dataBase s ≤ 255
+  pub data-base : storedDataBase s ≤ 255
   pub pick : (k : ℕ) → pickGpio s set k ≤ 255
   pub words : allWords s ≤ 2 ^ 26
 
 -- a ROM's lines, from a base
-abbrev pub mapOf : List ℕ → ℕ → Map
-mapOf gpios base = record { positions = tab 32 (λ k. getD gpios k 0 - base); lines = listed 32 gpios }
+abbrev pub readMap : List ℕ → ℕ → Map
+readMap gpios base = record { positions = tab 32 (λ k. getD gpios k 0 - base); lines = mapLines 32 gpios }
 
 -- the lines that pick
 abbrev pub pickMap : StoredSlot → ChipSetType → Map
-pickMap s set = record { positions = tab 32 (λ k. cond (ltb k 3) (pickPosition s set k) 0); lines = picksOf set (s .«num_roms») }
+pickMap s set = record { positions = tab 32 (λ k. cond (ltb k 3) (storedPickPosition s set k) 0); lines = picksOf set (s .«num_roms») }
 
 abbrev pub noLines : Map
 noLines = record { positions = replicate 32 0; lines = 0 }
 
 abbrev pub addressMap : StoredSlot → ChipSetType → ℕ → Map
-addressMap s set k = cond (ltb k 4) (mapOf (romAt s k .addr) (addrBase s)) (pickMap s set)
+addressMap s set k = cond (ltb k 4) (readMap (romAt s k .addr) (addrBase s)) (pickMap s set)
 
 abbrev pub dataMap : StoredSlot → ℕ → Map
-dataMap s k = cond (ltb k (s .«num_roms»)) (mapOf (romAt s k .«data_lines») (dataBase s)) noLines
+dataMap s k = cond (ltb k (s .«num_roms»)) (readMap (romAt s k .«data_lines») (storedDataBase s)) noLines
 
 -- the place of a ROM; the fifth for none
-abbrev pub placeOf : Picked → ℕ
-placeOf NoChip = 4
-placeOf (Chip k) = k
+abbrev pub romPlace : Picked → ℕ
+romPlace NoChip = 4
+romPlace (Chip k) = k
 
 -- a ROM's words among all
 abbrev pub extentOf : StoredSlot → ℕ → Extent
@@ -70,10 +70,10 @@ unfoldable pub readingOf : StoredSlot → ChipSetType → Reading
 readingOf s set = record {
   address = tab 5 (addressMap s set);
   «data_lines» = tab 5 (dataMap s);
-  roms = tab 8 (λ bits. placeOf (pickedBy set (s .«num_roms») bits));
+  roms = tab 8 (λ bits. romPlace (pickedBy set (s .«num_roms») bits));
   extents = tab 5 (extentOf s);
-  forced = maskOf (pinsOf s) (forcedAt s);
-  «forced_high» = maskOf (pinsOf s) (highAt s);
+  forced = maskOf (storedPins s) (forcedAt s);
+  «forced_high» = maskOf (storedPins s) (highAt s);
   «word_bytes» = wordBytes s;
   words = allWords s;
 }

@@ -12,15 +12,15 @@ use Rattle.stored_slot.specs.Words.{wordsBefore}
 use Rattle.stored_slot.specs.declared.stored.StoredSlot.{StoredSlot}
 
 -- the ROM of a word: as many ROMs end before it
-abbrev pub romOf : StoredSlot → ℕ → ℕ
-romOf s f = tally (s .«num_roms») (λ k. leb (wordsBefore s (suc k)) f)
+abbrev pub wordRom : StoredSlot → ℕ → ℕ
+wordRom s f = tally (s .«num_roms») (λ k. leb (wordsBefore s (suc k)) f)
 
-abbrev pub addressOf : StoredSlot → ℕ → ℕ
-addressOf s f = f - wordsBefore s (romOf s f)
+abbrev pub wordAddress : StoredSlot → ℕ → ℕ
+wordAddress s f = f - wordsBefore s (wordRom s f)
 
 -- 01 Number 23: the place is the ROM of the word that an entry disagrees on, and its address there
 -- 01 Number 24: the place is the ROM of the word that is missing, and its address there
-abbrev pub faultOf : StoredSlot → Outcome → FirstFault
-faultOf s Whole = None
-faultOf s (Disagrees f) = Of (Inconsistent (romOf s f) (addressOf s f))
-faultOf s (Missing f) = Of (Unserved (romOf s f) (addressOf s f))
+abbrev pub outcomeFault : StoredSlot → Outcome → FirstFault
+outcomeFault s Whole = None
+outcomeFault s (Disagrees f) = Of (Inconsistent (wordRom s f) (wordAddress s f))
+outcomeFault s (Missing f) = Of (Unserved (wordRom s f) (wordAddress s f))

@@ -4,22 +4,22 @@ use mathlib.Core.Path.{_≡_}
 use Prim.Native.Nat.{ℕ, _+_, _*_, _/_, _%_, _^_, _≤_}
 use mathlib.Core.List.{List}
 use Rattle.lists.specs.Tab.{tab}
-use Rattle.table_read.specs.Reading.{partBy}
+use Rattle.table_read.specs.design.Reading.{partBy}
 use Rattle.table_read.specs.declared.maps.Map.{Map}
 use Rattle.table_read.specs.declared.reading.Reading.{Reading}
 use Rattle.table_read.specs.declared.row.Row.{Row}
 
 -- what each map says of each value of eight bits that count a unit
-abbrev pub tableOf : List Map → ℕ → List ℕ
-tableOf maps unit = tab 1280 (λ q. partBy maps (q / 256) (q % 256 * unit))
+abbrev pub byteTables : List Map → ℕ → List ℕ
+byteTables maps unit = tab 1280 (λ q. partBy maps (q / 256) (q % 256 * unit))
 
 abbrev pub highOf : List Map → ℕ → List ℕ
 highOf maps i = tab 5 (λ k. partBy maps k i)
 
 pub record TablesIn (r : Reading) (lows low-bytes high-bytes : List ℕ) : Type 0 where
-  pub low : lows ≡ tableOf (r .address) 1
-  pub low-byte : low-bytes ≡ tableOf (r .«data_lines») 1
-  pub high-byte : high-bytes ≡ tableOf (r .«data_lines») 256
+  pub low : lows ≡ byteTables (r .address) 1
+  pub low-byte : low-bytes ≡ byteTables (r .«data_lines») 1
+  pub high-byte : high-bytes ≡ byteTables (r .«data_lines») 256
 
 pub record RowIn (r : Reading) (row : Row) : Type 0 where
   pub high : row .high ≡ highOf (r .address) (row .start)

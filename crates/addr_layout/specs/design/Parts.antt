@@ -6,20 +6,21 @@ use mathlib.Core.List.{List}
 use lib.ListN.{length}
 use Rattle.gpio.specs.Span.{widened}
 use Rattle.gpio.specs.declared.span.Span.{Span}
-use Rattle.listing.specs.Choice.{gpioAt, bitOf, inPart}
+use Rattle.listing.specs.Choice.{gpioAt, bitOf}
+use Rattle.listing.specs.design.Parts.{inPart}
 use Rattle.listing.specs.declared.Listed.{Listed}
 use Rattle.addr_layout.specs.Choices.{spanned}
 
 -- of the GPIOs that choice c spans, those of pins whose bit is in one part of the number, the first k listed pins passed
-unfoldable pub partAt : List Listed → ℕ → ℕ → Span → Bool → ℕ → ℕ → ℕ → Span
-partAt ls r n fixed low split c zero = fixed
-partAt ls r n fixed low split c (suc k) =
-    cond (spanned r n k && inPart low split (bitOf ls k)) (widened (partAt ls r n fixed low split c k) (gpioAt ls c k))
-    (partAt ls r n fixed low split c k)
+unfoldable pub spanPartAt : List Listed → ℕ → ℕ → Span → Bool → ℕ → ℕ → ℕ → Span
+spanPartAt ls r n fixed low split c zero = fixed
+spanPartAt ls r n fixed low split c (suc k) =
+    cond (spanned r n k && inPart low split (bitOf ls k)) (widened (spanPartAt ls r n fixed low split c k) (gpioAt ls c k))
+    (spanPartAt ls r n fixed low split c k)
 
 abbrev pub partSpan : List Listed → ℕ → ℕ → Span → Bool → ℕ → ℕ → Span
-partSpan ls r n fixed low split c = partAt ls r n fixed low split c (length ls)
+partSpan ls r n fixed low split c = spanPartAt ls r n fixed low split c (length ls)
 
 -- past a table's end
-abbrev pub noSpan : Span
-noSpan = record { low = 0; high = 0 }
+abbrev pub pastSpans : Span
+pastSpans = record { low = 0; high = 0 }

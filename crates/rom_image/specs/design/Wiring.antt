@@ -5,14 +5,14 @@ use Rattle.lists.specs.Tab.{tab}
 use Rattle.slot.specs.declared.description.Description.{Description}
 use Rattle.addr_layout.specs.declared.layout.AddrLayout.{AddrLayout}
 use Rattle.cs_data_layout.specs.declared.layout.CsDataLayout.{CsDataLayout}
-use Rattle.build_args.specs.Images.{spanAt}
+use Rattle.build_args.specs.Images.{chipSpan}
 use Rattle.build_args.specs.Positions.{linePosition, dataPosition}
 use Rattle.build_args.specs.Picks.{numPicks, pickPosition, picked}
 use Rattle.build_args.specs.declared.images.ImageSpan.{ImageSpan}
 use Rattle.picks.specs.declared.Picked.{Picked}
 use Rattle.picks.specs.declared.Picked.the-variants.{NoChip, Chip}
 use Rattle.rom_image.specs.Entry.{wordCount, powerOfTwo}
-use Rattle.table_fill.specs.Entries.{noSource}
+use Rattle.table_fill.specs.design.Entries.{noSource}
 use Rattle.table_fill.specs.declared.wiring.Wiring.{Wiring}
 use Rattle.table_fill.specs.declared.sources.Source.{Source}
 
@@ -32,7 +32,7 @@ wiringOf d a c = record {
 abbrev pub sourceOf : Description → List ImageSpan → Picked → Source
 sourceOf d spans NoChip = noSource
 sourceOf d spans (Chip k) = record {
-  start = spanAt spans k .start;
+  start = chipSpan spans k .start;
   count = wordCount d k;
   mirrored = powerOfTwo (wordCount d k);
 }

@@ -7,7 +7,8 @@ use lib.Bits.{bitOr}
 use lib.Dec.{leb}
 use lib.ListN.{length}
 use Rattle.gpio.specs.Set.{with}
-use Rattle.listing.specs.Choice.{gpioAt, bitOf, inPart}
+use Rattle.listing.specs.Choice.{gpioAt, bitOf}
+use Rattle.listing.specs.design.Parts.{inPart}
 use Rattle.listing.specs.declared.Listed.{Listed}
 use Rattle.cs_choices.specs.Verdict.{verdictOf}
 use Rattle.cs_choices.specs.Sets.{dataSet, selectSet}
@@ -17,11 +18,11 @@ use Rattle.cs_choices.specs.declared.verdict.Verdict.{Verdict}
 
 -- of the GPIOs that choice c gives the pins from one on, those of pins whose bit is in one part of the number, the first k
 -- numbered pins passed
-unfoldable pub partAt : List Listed → ℕ → Bool → ℕ → ℕ → ℕ → ℕ
-partAt ls from low split c zero = 0
-partAt ls from low split c (suc k) =
-    cond (leb from k && inPart low split (bitOf ls k)) (with (partAt ls from low split c k) (gpioAt ls c k))
-    (partAt ls from low split c k)
+unfoldable pub setPartAt : List Listed → ℕ → Bool → ℕ → ℕ → ℕ → ℕ
+setPartAt ls from low split c zero = 0
+setPartAt ls from low split c (suc k) =
+    cond (leb from k && inPart low split (bitOf ls k)) (with (setPartAt ls from low split c k) (gpioAt ls c k))
+    (setPartAt ls from low split c k)
 
 -- past a table's end
 abbrev pub noSets : Sets
@@ -29,7 +30,7 @@ noSets = record { «data_gpios» = 0; «select_gpios» = 0 }
 
 -- the same of data and select pins, the first n being the data pins
 abbrev pub partsOf : List Listed → ℕ → Bool → ℕ → ℕ → Sets
-partsOf ls n low split c = record { «data_gpios» = partAt ls 0 low split c n; «select_gpios» = partAt ls n low split c (length ls) }
+partsOf ls n low split c = record { «data_gpios» = setPartAt ls 0 low split c n; «select_gpios» = setPartAt ls n low split c (length ls) }
 
 -- the GPIOs of a choice
 abbrev pub setsOf : List Listed → ℕ → ℕ → ℕ → Sets
