@@ -44,19 +44,15 @@ widenedFirst s (Two g h) = widened s g
 
 -- 01 addr_layout 8: a line that chip 0 lacks has no candidates, nor has one whose pin is off the socket
 abbrev pub kindCandidates : Description → ℕ → Candidates
--- 01 addr_layout 8: a line that chip 0 lacks has no candidates, nor has one whose pin is off the socket
 kindCandidates d kind = cond (eqb (kindPin d kind) 0) Absent (pinCandidates d (kindPin d kind))
 
 -- 01 addr_layout 8: the span of the select line and of the first k commoned lines
 unfoldable pub selectSpan : Description → ℕ → Span
--- 01 addr_layout 8: the span of the select line and of the first k commoned lines
 selectSpan d zero = widenedFirst empty (kindCandidates d (d .multi .select))
--- 01 addr_layout 8: the span of the select line and of the first k commoned lines
 selectSpan d (suc k) = widenedFirst (selectSpan d k) (kindCandidates d (getD (d .multi .commoned) k 0))
 
 -- 01 addr_layout 8: select and commoned lines are spanned in Multi only
 unfoldable pub fixedSpan : Description → Span
--- 01 addr_layout 8: select and commoned lines are spanned in Multi only
 fixedSpan d = cond (isMulti (d .«set_type»)) (selectSpan d (d .multi .«num_commoned»)) empty
 
 -- 01 addr_layout 8: of n lines the first r are in range and are spanned, as are the X pins behind the n; excess lines are not
@@ -78,7 +74,6 @@ spanWidth s = s .high - s .low + 1
 
 -- 01 addr_layout 8: the pins are as many as the span, but never fewer than 8
 abbrev pub paddedPins : Span → ℕ
--- 01 addr_layout 8: the pins are as many as the span, but never fewer than 8
 paddedPins s = cond (ltb 8 (spanWidth s)) (spanWidth s) 8
 
 -- 01 gpio_window 1: a choice fits if one window holds its pins, counted from its base
@@ -115,7 +110,6 @@ addrLayoutFrom s gpio one both n u = record {
 -- 01 Well wired 1: a layout uses as many lines as are in range
 -- 01 addr_layout 5: X1 is behind the lines in any set but Single, and X2 behind X1 if there are at least 3 chips
 abbrev pub addrLayoutOf : Description → List Listed → ℕ → AddrLayout
--- 01 cs_data_layout 3: the layout that choice c makes has the base of the window that holds all its GPIOs
 addrLayoutOf d ls c =
     addrLayoutFrom (choiceSpan ls (inRange d) (lines d) (fixedSpan d) c) (λ k. gpioAt ls c k) (not (isSingle (d .«set_type»)))
     (not (isSingle (d .«set_type»)) && leb 3 (d .«num_chips»)) (lines d) (inRange d)

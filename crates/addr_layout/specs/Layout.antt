@@ -28,7 +28,6 @@ addrRefused why = record { outcome = Refused why; layout = noLayout }
 
 -- 01 Domain 13: all address lines are those in use and the excess ones
 abbrev pub allLines : AddrLayout → ℕ
--- 01 Domain 13: all address lines are those in use and the excess ones
 allLines l = l .«num_lines» + l .«num_excess»
 
 -- 01 Domain 2: the GPIOs of the X pins and of all address lines are at most 47

@@ -23,7 +23,6 @@ firstPin d = cond (eqb (d .«word_bytes») 2) 1 0
 
 -- 01 addr_layout 1: where w is 2 there is one line fewer than address pins
 abbrev pub lines : Description → ℕ
--- 01 addr_layout 1: where w is 2 there is one line fewer than address pins
 lines d = chip0 d .«num_address_pins» - firstPin d
 
 -- the socket pin under line n, or off the socket
@@ -47,8 +46,6 @@ flyLead b before = cond (eqb before 0) (xListed b 1) (cond (eqb before 1) (xList
 -- 01 addr_layout 3: only in Single may a line be off the socket; in Banked and Multi each such line is 9
 -- 01 Number 9: a line is off the socket, and no X pin is left for it
 abbrev pub overhanging : Description → ℕ → Listed
--- 01 addr_layout 3: only in Single may a line be off the socket; in Banked and Multi each such line is 9
--- 01 Number 9: a line is off the socket, and no X pin is left for it
 overhanging d n = cond (isSingle (d .«set_type»)) (flyLead (d .board) (offBefore d n)) (listed Absent NoValidLayout)
 
 -- 01 Number 3: the socket pin of a line has no GPIO

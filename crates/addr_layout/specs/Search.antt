@@ -38,6 +38,4 @@ afterFaults d None = addrAnswerOf d (addrBest d)
 -- 01 Number 1: the description is outside the domain
 -- 01 Numbers 2: the domain is tested before any pin is looked at
 abbrev pub addrAnswer : Description → AddrAnswer
--- 01 Number 1: the description is outside the domain
--- 01 Numbers 2: the domain is tested before any pin is looked at
 addrAnswer d = cond (addrSearchIn d) (afterFaults d (firstFault (addrListed d))) (addrRefused OutOfDomain)

@@ -17,6 +17,7 @@ use Rattle.addr_layout.specs.declared.layout.AddrLayout.{AddrLayout}
 use Rattle.cs_data_layout.proofs.Bounds.{few-lines}
 use Rattle.cs_data_layout.specs.declared.layout.CsDataLayout.{CsDataLayout}
 use Rattle.build_args.specs.Positions.{dataBase}
+use Rattle.build_args.specs.declared.BuildArgs.{BuildArgs}
 use Rattle.build_args.specs.Domain.{selectLinesIn, csDataIn, buildIn}
 
 -- a select layout's numbers
@@ -57,7 +58,16 @@ module _ (c : CsDataLayout) (e : csDataIn c ≡ true) where
       let other = leb-true (c .«base_data_pin») 47 (and-right (gpioIn (c .«gpio_base»)) (gpioIn (c .«base_data_pin»)) two) in
       omega (arith, one, other)
 
-module _ (d : Description) (a : AddrLayout) (c : CsDataLayout) (e : buildIn d a c ≡ true) where
+module _ (b : BuildArgs) (e : buildIn b ≡ true) where
+  abbrev d : Description
+  d = b .description
+
+  abbrev a : AddrLayout
+  a = b .addr
+
+  abbrev c : CsDataLayout
+  c = b .«cs_data»
+
   qualified : Bool
   qualified = qualifiersIn (d .qualifiers) (d .«num_qualifiers») (a .gpios) (a .«num_lines»)
 

@@ -5,13 +5,12 @@ use lib.Dec.{leb}
 use lib.ListN.{getD}
 use Rattle.lists.specs.Each.{each, between}
 use Rattle.gpio.specs.Candidates.{gpioIn}
-use Rattle.slot.specs.declared.description.Description.{Description}
 use Rattle.domain.specs.Domain.{descriptionIn, qualifiersIn}
 use Rattle.addr_layout.specs.Layout.{layoutIn}
-use Rattle.addr_layout.specs.declared.layout.AddrLayout.{AddrLayout}
 use Rattle.cs_data_layout.specs.Layout.{line}
 use Rattle.cs_data_layout.specs.declared.layout.SelectLine.{SelectLine}
 use Rattle.cs_data_layout.specs.declared.layout.CsDataLayout.{CsDataLayout}
+use Rattle.build_args.specs.declared.BuildArgs.{BuildArgs}
 
 -- a commoned line, or a select line
 abbrev pub selectLineOf : CsDataLayout → Bool → ℕ → SelectLine
@@ -37,6 +36,9 @@ csDataIn c =
     && (leb (c .«num_commoned_lines») 6 && selectLinesIn c true (c .«num_commoned_lines»))
 
 -- 01 Domain 15: a build always has an address layout, and so always looks at the qualifiers
-unfoldable pub buildIn : Description → AddrLayout → CsDataLayout → Bool
-buildIn d a c =
-    descriptionIn d && layoutIn a && qualifiersIn (d .qualifiers) (d .«num_qualifiers») (a .gpios) (a .«num_lines») && csDataIn c
+unfoldable pub buildIn : BuildArgs → Bool
+buildIn b =
+    descriptionIn (b .description)
+    && layoutIn (b .addr)
+    && qualifiersIn (b .description .qualifiers) (b .description .«num_qualifiers») (b .addr .gpios) (b .addr .«num_lines»)
+    && csDataIn (b .«cs_data»)

@@ -18,6 +18,7 @@ use Rattle.build_args.specs.Positions.{linePositionIn, dataPositionIn}
 use Rattle.picks.specs.Positions.{xPositionIn}
 use Rattle.picks.specs.Picks.{chipsFit}
 use Rattle.build_args.specs.Picks.{numPicks, pickAt}
+use Rattle.build_args.specs.declared.BuildArgs.{BuildArgs}
 
 -- 01 rom_image 1: a table has an entry for every index that its address pins can form, 2^pins
 abbrev pub entriesOf : AddrLayout → ℕ
@@ -34,7 +35,6 @@ tableTooLarge d a = ltb (d .«max_image_size») (tableSize d a)
 
 -- 01 Number 13: passed where each address line in use has a position of 0 to 31
 unfoldable pub addressIn : AddrLayout → Bool
--- 01 Number 13: passed where each address line in use has a position of 0 to 31
 addressIn a = each (a .«num_lines») (λ n. linePositionIn a n)
 
 -- 01 Number 13: passed where each X pin that picks, and in Multi the first select line, has a GPIO at a position of 0 to 31
@@ -44,7 +44,6 @@ picksIn d a c = each (numPicks d) (λ k. xPositionIn (a .«gpio_base») (pickAt 
 
 -- 01 Number 13: passed where each data line has a position of 0 to 31
 unfoldable pub dataPositionsIn : CsDataLayout → Bool
--- 01 Number 13: passed where each data line has a position of 0 to 31
 dataPositionsIn c = each (c .«num_data_pins») (λ k. dataPositionIn c k)
 
 -- 01 Number 14: chip k has the mark of a chip without bytes; k is the place
@@ -61,7 +60,6 @@ tooShort d a lent = ltb lent (tableSize d a)
 
 -- 01 Numbers 3: address lines first (13), then the number of chips (12), then the lines that pick and the data lines (13)
 abbrev pub linesFault : Description → AddrLayout → CsDataLayout → FirstFault
--- 01 Numbers 3: address lines first (13), then the number of chips (12), then the lines that pick and the data lines (13)
 linesFault d a c =
     orElse (faultIf (not (addressIn a)) BadPosition)
     (orElse (faultIf (not (chipsFit (d .«set_type») (d .«num_chips»))) InvalidConfig)
@@ -69,17 +67,17 @@ linesFault d a c =
 
 -- 01 Number 14: of several chips without bytes the lowest answers
 -- 01 Number 15: of several chips with too few bytes the lowest answers
--- 01 Numbers 3: 14 of all chips, then 15 of all chips, then 16
+-- 01 Numbers 3: 14 of all chips, then 15 of all chips
+abbrev pub imagesFault : Description → List ℕ → List ImageSpan → FirstFault
+imagesFault d images spans = orElse (firstOf (d .«num_chips») (missingAt spans)) (firstOf (d .«num_chips») (shortAt d images spans))
+
+-- 01 Numbers 3: 14 and 15, then 16
 abbrev pub lentFault : Description → AddrLayout → List ℕ → List ImageSpan → ℕ → FirstFault
--- 01 Number 14: of several chips without bytes the lowest answers
--- 01 Number 15: of several chips with too few bytes the lowest answers
--- 01 Numbers 3: 14 of all chips, then 15 of all chips, then 16
-lentFault d a images spans lent =
-    orElse (firstOf (d .«num_chips») (missingAt spans))
-    (orElse (firstOf (d .«num_chips») (shortAt d images spans)) (faultIf (tooShort d a lent) ShortBuffer))
+lentFault d a images spans lent = orElse (imagesFault d images spans) (faultIf (tooShort d a lent) ShortBuffer)
 
 -- the first refusal of all, for a table of as many bytes as are lent
 -- 01 Numbers 3: the table's size (11), then the lines and the number of chips, then what is lent
-unfoldable pub buildFault : Description → AddrLayout → CsDataLayout → List ℕ → List ImageSpan → ℕ → FirstFault
-buildFault d a c images spans lent =
-    orElse (faultIf (tableTooLarge d a) RomTableTooLarge) (orElse (linesFault d a c) (lentFault d a images spans lent))
+unfoldable pub buildFault : BuildArgs → List ℕ → ℕ → FirstFault
+buildFault b images lent =
+    orElse (faultIf (tableTooLarge (b .description) (b .addr)) RomTableTooLarge)
+    (orElse (linesFault (b .description) (b .addr) (b .«cs_data»)) (lentFault (b .description) (b .addr) images (b .spans) lent))

@@ -1,4 +1,5 @@
 pub mod Images
+pub mod Args
 pub mod Positions
 pub mod Picks
 pub mod Domain

@@ -19,7 +19,6 @@ dataBase c = c .«gpio_base» + c .«base_data_pin»
 
 -- 01 rom_image 8: a data line's position is counted from the data base
 abbrev pub dataPosition : CsDataLayout → ℕ → ℕ
--- 01 rom_image 8: a data line's position is counted from the data base
 dataPosition c n = position (dataBase c) (getD (c .«data_pin_gpios») n 0)
 
 abbrev pub dataPositionIn : CsDataLayout → ℕ → Bool

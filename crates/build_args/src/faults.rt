@@ -1,4 +1,5 @@
 // What a build is refused for, in its order.
+use crate::BuildArgs;
 use crate::images::ImageSpan;
 use crate::images::bytes_lent;
 use crate::images::span_at;
@@ -20,7 +21,7 @@ ghost use lib.ListN.{getD};
 ghost use Rattle.slot.specs.Description.{noChip};
 ghost use Rattle.build_args.specs.Positions.{dataBase};
 ghost use Rattle.build_args.specs.Domain.{buildIn};
-ghost use Rattle.build_args.specs.Faults.{tableSize, tableTooLarge, addressIn, dataPositionsIn, missingAt, shortAt, linesFault, lentFault, buildFault};
+ghost use Rattle.build_args.specs.Faults.{tableSize, tableTooLarge, addressIn, dataPositionsIn, missingAt, shortAt, linesFault, imagesFault, lentFault, buildFault};
 ghost use Rattle.refusal.specs.First.{firstOf};
 
 // Bytes of the table.
@@ -103,6 +104,15 @@ fn short(d: Description, images: &[u8], spans: [ImageSpan; 4]) -> FirstFault
     fault
 }
 
+// The refusals for the chips' bytes: no chip without any, then none with too few.
+fn images_fault(d: Description, images: &[u8], spans: [ImageSpan; 4]) -> FirstFault
+    ensures { λ r. ⌜ r ≡ imagesFault d (now (images .entry)) spans ⌝ }
+{
+    let no_bytes = missing(spans, d.num_chips);
+    let few_bytes = short(d, images, spans);
+    or_else(no_bytes, few_bytes)
+}
+
 // The refusals for the chips' bytes and the lent table.
 fn lent_fault(
     d: Description,
@@ -115,9 +125,7 @@ fn lent_fault(
     ensures { λ r. ⌜ r ≡ lentFault d a (now (images .entry)) spans lent ⌝ }
 {
     let buffer = fault_if((lent as u64) < table_size(d, a), Refusal::ShortBuffer);
-    let no_bytes = missing(spans, d.num_chips);
-    let few_bytes = short(d, images, spans);
-    or_else(no_bytes, or_else(few_bytes, buffer))
+    or_else(images_fault(d, images, spans), buffer)
 }
 
 // The refusals for the lines and the number of chips.
@@ -133,17 +141,14 @@ fn lines_fault(d: Description, a: AddrLayout, c: CsDataLayout) -> FirstFault
 }
 
 // The first refusal of all, for a table of `lent` bytes.
-pub fn build_fault(
-    d: Description,
-    a: AddrLayout,
-    c: CsDataLayout,
-    images: &[u8],
-    spans: [ImageSpan; 4],
-    lent: usize,
-) -> FirstFault
-    requires { ⌜ buildIn d a c ≡ true ⌝ }
-    ensures { λ r. ⌜ r ≡ buildFault d a c (now (images .entry)) spans lent ⌝ }
+pub fn build_fault(b: BuildArgs, images: &[u8], lent: usize) -> FirstFault
+    requires { ⌜ buildIn b ≡ true ⌝ }
+    ensures { λ r. ⌜ r ≡ buildFault b (now (images .entry)) lent ⌝ }
 {
+    let d = b.description;
+    let a = b.addr;
+    let c = b.cs_data;
+    let spans = b.spans;
     if too_large(d, a) {
         return FirstFault::Of(Refusal::RomTableTooLarge);
     }

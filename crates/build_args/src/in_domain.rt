@@ -1,12 +1,11 @@
 // Number 1 in a build: the description, and both layouts that are handed in.
-use addr_layout::layout::AddrLayout;
+use crate::BuildArgs;
 use addr_layout::layout::layout_in;
 use cs_data_layout::layout::CsDataLayout;
 use cs_data_layout::layout::SelectLine;
 use domain::description::description_in;
 use domain::qualifiers::qualifiers_in;
 use lists::array::all_between;
-use slot::description::Description;
 ghost use mathlib.Core.Path.{_≡_};
 ghost use mathlib.Core.Bool.{true, false};
 ghost use Rattle.build_args.specs.Domain.{selectLineOf, selectLineIn, selectLinesIn, csDataIn, buildIn};
@@ -76,9 +75,12 @@ fn cs_data_in(c: CsDataLayout) -> bool
 }
 
 // Whether all that a build is handed keeps to the domain.
-pub fn in_domain(d: Description, a: AddrLayout, c: CsDataLayout) -> bool
-    ensures { λ r. ⌜ r ≡ buildIn d a c ⌝ }
+pub fn in_domain(b: BuildArgs) -> bool
+    ensures { λ r. ⌜ r ≡ buildIn b ⌝ }
 {
+    let d = b.description;
+    let a = b.addr;
+    let c = b.cs_data;
     let qualifiers = d.qualifiers;
     let gpios = a.gpios;
     let list_in = qualifiers_in(qualifiers, d.num_qualifiers, gpios, a.num_lines);

@@ -20,7 +20,6 @@ use Rattle.control.specs.declared.multi_cs_config.MultiAnswer.{MultiAnsw
 
 -- 01 Shape 5: a line has a name if its kind is at most 5
 abbrev pub named : ℕ → Bool
--- 01 Shape 5: a line has a name if its kind is at most 5
 named kind = leb kind 5
 
 -- 01 multi_cs_config 1: how many lines are left once those without a name are gone
@@ -43,7 +42,6 @@ abbrev pub sortedWith : Part → ℕ → Sorted → Sorted
 sortedWith Dropped kind s = s
 sortedWith Select kind s = record {
   config = record {
-    -- 01 Well wired 12: in Multi the select is at the GPIO of the first select line
     select = kind;
     commoned = s .config .commoned;
     «num_commoned» = s .config .«num_commoned»;
@@ -54,7 +52,6 @@ sortedWith Select kind s = record {
 }
 sortedWith Commoned kind s = record {
   config = record {
-    -- 01 Well wired 12: in Multi the select is at the GPIO of the first select line
     select = s .config .select;
     commoned = set (s .config .commoned) (s .config .«num_commoned») kind;
     «num_commoned» = s .config .«num_commoned» + 1;
@@ -65,7 +62,6 @@ sortedWith Commoned kind s = record {
 }
 sortedWith Ignored kind s = record {
   config = record {
-    -- 01 Well wired 12: in Multi the select is at the GPIO of the first select line
     select = s .config .select;
     commoned = s .config .commoned;
     «num_commoned» = s .config .«num_commoned»;
@@ -77,7 +73,6 @@ sortedWith Ignored kind s = record {
 
 abbrev pub nothing : MultiCsConfig
 nothing = record {
-  -- 01 Well wired 12: in Multi the select is at the GPIO of the first select line
   select = 0;
   commoned = replicate 8 0;
   «num_commoned» = 0;
@@ -101,7 +96,5 @@ multiAnswerOf s = cond (s .found) (record { outcome = Derived; config = s .confi
 -- 01 Number 1: the control lines are outside the domain
 -- 01 Numbers 2: the domain is tested before any line is sorted
 abbrev pub multiAnswer : ControlLines → CsConfig → CsConfig → MultiAnswer
--- 01 Number 1: the control lines are outside the domain
--- 01 Numbers 2: the domain is tested before any line is sorted
 multiAnswer lines chip0 secondary =
     cond (controlIn lines) (multiAnswerOf (sorted lines chip0 secondary (lines .count))) (multiRefused OutOfDomain)

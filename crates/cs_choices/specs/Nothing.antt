@@ -19,24 +19,14 @@ interiorIn seen = cond (eqb seen 0) None (Of (InteriorIgnoredLine (lowest seen))
 -- 01 cs_data_layout 9: a choice whose data GPIOs have no gap, and whose select set is refused, sees the ignored GPIOs in that set's
 -- gap
 abbrev pub interiorOf : ℕ → Verdict → FirstFault
--- 01 cs_data_layout 9: a choice whose data GPIOs have no gap, and whose select set is refused, sees the ignored GPIOs in that set's
--- gap
 interiorOf ignored DataGap = None
--- 01 cs_data_layout 9: a choice whose data GPIOs have no gap, and whose select set is refused, sees the ignored GPIOs in that set's
--- gap
 interiorOf ignored (SelectGap s) = interiorIn (bitAnd (gap s) ignored)
--- 01 cs_data_layout 9: a choice whose data GPIOs have no gap, and whose select set is refused, sees the ignored GPIOs in that set's
--- gap
 interiorOf ignored OutsideWindow = None
--- 01 cs_data_layout 9: a choice whose data GPIOs have no gap, and whose select set is refused, sees the ignored GPIOs in that set's
--- gap
 interiorOf ignored (Fits score) = None
 
 -- 01 cs_data_layout 9: of the first k choices, the earliest that sees an ignored GPIO gives the 8
 unfoldable pub interior : ℕ → (ℕ → Verdict) → ℕ → FirstFault
--- 01 cs_data_layout 9: of the first k choices, the earliest that sees an ignored GPIO gives the 8
 interior ignored verdict zero = None
--- 01 cs_data_layout 9: of the first k choices, the earliest that sees an ignored GPIO gives the 8
 interior ignored verdict (suc k) = orElse (interior ignored verdict k) (interiorOf ignored (verdict k))
 
 -- 01 Number 7: the select set of a choice was refused
@@ -49,12 +39,9 @@ refusedOf (Fits score) = None
 
 -- 01 cs_data_layout 9: of the first k choices, the latest whose select set is refused gives the 7
 unfoldable pub lastRefused : (ℕ → Verdict) → ℕ → FirstFault
--- 01 cs_data_layout 9: of the first k choices, the latest whose select set is refused gives the 7
 lastRefused verdict zero = None
--- 01 cs_data_layout 9: of the first k choices, the latest whose select set is refused gives the 7
 lastRefused verdict (suc k) = orElse (refusedOf (verdict k)) (lastRefused verdict k)
 
 -- 01 cs_data_layout 9: 8 goes before 7; where neither is found, the caller says 9
 abbrev pub nothingFits : ℕ → (ℕ → Verdict) → ℕ → FirstFault
--- 01 cs_data_layout 9: 8 goes before 7; where neither is found, the caller says 9
 nothingFits ignored verdict n = orElse (interior ignored verdict n) (lastRefused verdict n)

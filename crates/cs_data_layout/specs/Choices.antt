@@ -29,7 +29,6 @@ use Rattle.cs_choices.specs.declared.verdict.Verdict.{Verdict}
 
 -- 01 cs_data_layout 6: there are as many data lines as chip 0 has data pins
 abbrev pub numData : Description → ℕ
--- 01 cs_data_layout 6: there are as many data lines as chip 0 has data pins
 numData d = chip0 d .«num_data_pins»
 
 -- the excess lines of the layout handed in, behind its lines in use
@@ -105,7 +104,6 @@ csDataLayoutFrom d h gpio dataGpios selectGpios base = record {
 
 -- 01 cs_data_layout 3: the layout that choice c makes has the base of the window that holds all its GPIOs
 abbrev pub csDataLayoutOf : Description → AddrLayout → List Listed → ℕ → CsDataLayout
--- 01 cs_data_layout 3: the layout that choice c makes has the base of the window that holds all its GPIOs
 csDataLayoutOf d h ls c =
     csDataLayoutFrom d h (λ k. gpioAt ls c k) (dataSet ls (numData d) c) (selectSet ls (numData d) (excessSet h) c)
     (baseOf (allOf (dataSet ls (numData d) c) (selectSet ls (numData d) (excessSet h) c) (qualifierSet d h)))
@@ -118,9 +116,7 @@ withCandidates s (Two g h) = with (with s g) h
 
 -- 01 cs_data_layout 8: the candidates of the first k ignored lines
 unfoldable pub ignoredAt : Description → ℕ → ℕ
--- 01 cs_data_layout 8: the candidates of the first k ignored lines
 ignoredAt d zero = 0
--- 01 cs_data_layout 8: the candidates of the first k ignored lines
 ignoredAt d (suc k) = withCandidates (ignoredAt d k) (kindListed d (getD (d .multi .ignored) k 0) .gpios)
 
 -- 01 cs_data_layout 8: the ignored lines are those of a Multi set; other sets have none

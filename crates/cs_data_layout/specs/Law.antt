@@ -62,7 +62,6 @@ preferenceAt d a c = preferenceBy (selectSetAt d a c) (qualifierSet d (handed a)
 
 -- 01 cs_data_layout 4: choices that are preferred alike are compared by the span of all their GPIOs
 abbrev pub totalSpan : Description → GivenLayout → ℕ → ℕ
--- 01 cs_data_layout 4: choices that are preferred alike are compared by the span of all their GPIOs
 totalSpan d a c = width (allAt d a c)
 
 -- 01 cs_data_layout 4: choice c is no worse than choice j: preferred, or as preferred and no wider

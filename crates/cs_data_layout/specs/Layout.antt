@@ -16,9 +16,7 @@ use Rattle.cs_data_layout.specs.declared.layout.CsDataAnswer.{CsDataAnsw
 abbrev pub line : ℕ → ℕ → SelectLine
 line role gpio = record { role = role; gpio = gpio }
 
--- 01 Well wired 6: the list of qualifiers is empty
 abbrev pub noQualifiers : Qualifiers
--- 01 Well wired 6: the list of qualifiers is empty
 noQualifiers = record { present = false; «base_qualifier_pin» = 0; «num_qualifier_pins» = 0; «qualifier_inactive_pattern» = 0 }
 
 abbrev pub noCsDataLayout : CsDataLayout

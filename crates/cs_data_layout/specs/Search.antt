@@ -48,7 +48,6 @@ earlier d a =
 
 -- 00 Demand 2: what is found is the best of all choices
 unfoldable pub csBest : Description → AddrLayout → Found
--- 00 Demand 2: what is found is the best of all choices
 csBest d h = best (λ c. verdictTrial (csVerdict d h c)) (2 ^ twos (numbered d))
 
 -- 01 Number 9: no choice fits, and neither 8 nor 7 says why
@@ -59,7 +58,6 @@ orNoLayout None = csDataRefused NoValidLayout
 
 -- 01 cs_data_layout 9: the verdicts on all choices decide between 8, 7 and 9
 unfoldable pub noneFits : Description → AddrLayout → CsDataAnswer
--- 01 cs_data_layout 9: the verdicts on all choices decide between 8, 7 and 9
 noneFits d h = orNoLayout (nothingFits (ignoredSet d) (csVerdict d h) (2 ^ twos (numbered d)))
 
 abbrev pub csDataAnswerOf : Description → AddrLayout → Found → CsDataAnswer
@@ -73,7 +71,5 @@ afterEarlier d h None = csDataAnswerOf d h (csBest d h)
 -- 01 Number 1: the description, the address layout or the qualifiers are outside the domain
 -- 01 Numbers 2: the domain is tested before anything else
 abbrev pub csDataAnswer : Description → GivenLayout → CsDataAnswer
--- 01 Number 1: the description, the address layout or the qualifiers are outside the domain
--- 01 Numbers 2: the domain is tested before anything else
 csDataAnswer d a =
     cond (csSearchIn d && givenIn d a) (afterEarlier d (handed a) (earlier d a)) (csDataRefused OutOfDomain)

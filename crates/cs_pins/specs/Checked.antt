@@ -29,6 +29,5 @@ multiChecked d =
 
 -- 01 cs_data_layout 1: in Single and Banked it is tested first whether a line is active, then the pins of the active lines
 unfoldable pub checked : Description → List Listed
--- 01 cs_data_layout 1: in Single and Banked it is tested first whether a line is active, then the pins of the active lines
 checked d =
     cond (isMulti (d .«set_type»)) (multiChecked d) (orNoActive (activeListed d (chip0 d .control .count)))

@@ -22,7 +22,6 @@ pinListed d pin = listed (pinCandidates d pin) (UnmappedPin pin)
 
 -- 01 slot_context 2: the data pins are those of chip 0
 unfoldable pub dataListed : Description → List Listed
--- 01 slot_context 2: the data pins are those of chip 0
 dataListed d = tab (chip0 d .«num_data_pins») (λ k. pinListed d (getD (chip0 d .«data_pins») k 0))
 
 -- a line of kind 0 to 5 whose setting, as read, is not ignored

@@ -22,12 +22,10 @@ xRoles one both = cond one (6 ∷ cond both (7 ∷ []) []) []
 
 -- 01 cs_data_layout 6: the roles stand in the order in which the select pins are numbered
 unfoldable pub selectRoles : Description → List ℕ
--- 01 cs_data_layout 6: the roles stand in the order in which the select pins are numbered
 selectRoles d =
     cond (isMulti (d .«set_type»)) (d .multi .select ∷ xRoles (leb 2 (d .«num_chips»)) (leb 3 (d .«num_chips»)))
     (activeKinds d (chip0 d .control .count))
 
 -- 01 Shape 2: the list of roles is an array up to its count
 abbrev pub rolesOf : Roles → List ℕ
--- 01 Shape 2: the list of roles is an array up to its count
 rolesOf r = take (r .count) (r .roles)

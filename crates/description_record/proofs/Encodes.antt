@@ -29,7 +29,7 @@ use Rattle.slot.specs.declared.description.CsConfig.the-variants.{ChipSelect, C
 use Rattle.slot.specs.declared.description.MultiCsConfig.{MultiCsConfig}
 use Rattle.slot.specs.declared.description.Description.{Description}
 use Rattle.domain.specs.Domain.{descriptionIn}
-use Rattle.description_record.specs.declared.Answer.the-variants.{Described}
+use Rattle.refusal.specs.declared.Answer.the-variants.{Done}
 use Rattle.description_record.specs.Record.{recordSize, setTypeOf, offsetOf, offsetIn, logicFrom, logicIn, settingOf, settingIn, csConfigAt, csConfigIn, multiAt, boardAt, chipAt, described, headIn, pairsIn, wellFormed, decodedOf}
 use Rattle.fields.specs.Candidates.{pairAt, pairIn, pairBytes, pairField}
 use Rattle.fields.specs.Fields.{byteAt, fourAt, field, fourBytes}
@@ -257,7 +257,7 @@ formed : (d : Description) → Encodable d → wellFormed (encoded d) ≡ true
 unfolding wellFormed csConfigIn encoded joined tab each
 formed d e = λ i. head-formed d e i && cs-config-in (d .«cs_config») i && pairs-formed d (e .board) i && true
 
-decodes : (d : Description) → Valued d → Encodable d → decodedOf (encoded d) ≡ record { answer = Described; description = d }
+decodes : (d : Description) → Valued d → Encodable d → decodedOf (encoded d) ≡ record { answer = Done; description = d }
 decodes d v e = rw (formed d e, described-back d v e)
 
 -- the record is 424 bytes
@@ -299,7 +299,7 @@ encoded-bytes d v e = record { long = refl; each = below-at (encoded-below d v e
 
 -- every description in the domain has bytes that decode to it
 pub in-domain-decodes : (d : Description) → Valued d → descriptionIn d ≡ true
-    → Bytes recordSize (encoded d) × (decodedOf (encoded d) ≡ record { answer = Described; description = d })
+    → Bytes recordSize (encoded d) × (decodedOf (encoded d) ≡ record { answer = Done; description = d })
 in-domain-decodes d v h =
     let e = in-domain d h in
     (encoded-bytes d v e, decodes d v e)

@@ -92,7 +92,6 @@ descriptionHead d =
 
 -- 01 Shape 7: a description is handed over as these bytes
 unfoldable pub encoded : Description → List ℕ
--- 01 Shape 7: a description is handed over as these bytes
 encoded d =
     descriptionHead d ++ field 7 (csConfigBytes (d .«cs_config»)) ++ multiBytes (d .multi) ++ field 8 (d .qualifiers)
     ++ boardBytes (d .board) ++ joined 4 (λ k. chipRecord (chipOf d k))
@@ -111,7 +110,6 @@ pub record ValuedChip (c : Chip) : Type 0 where
   pub «num_address_pins» : c .«num_address_pins» < 2 ^ 8
   pub «data_pins» : Bytes 16 (c .«data_pins»)
   pub «num_data_pins» : c .«num_data_pins» < 2 ^ 8
-  -- 01 addr_layout 1: where w is 2 there is one line fewer than address pins
   pub lines : length (c .control .lines) ≡ 8
   pub kinds : (k : ℕ) → controlLineOf c k .kind < 2 ^ 8
   pub pins : (k : ℕ) → controlLineOf c k .pin < 2 ^ 8
@@ -119,7 +117,6 @@ pub record ValuedChip (c : Chip) : Type 0 where
   pub size : c .size < 2 ^ 32
 
 pub record ValuedMulti (m : MultiCsConfig) : Type 0 where
-  -- 01 Well wired 12: in Multi the select is at the GPIO of the first select line
   pub select : m .select < 2 ^ 8
   pub commoned : Bytes 8 (m .commoned)
   pub «num_commoned» : m .«num_commoned» < 2 ^ 8

@@ -28,7 +28,7 @@ use Rattle.slot.specs.declared.description.CsConfig.the-variants.{ChipSelect, C
 use Rattle.slot.specs.declared.description.MultiCsConfig.{MultiCsConfig}
 use Rattle.slot.specs.declared.description.Description.{Description}
 use Rattle.refusal.specs.declared.Refusal.the-variants.{OutOfDomain}
-use Rattle.description_record.specs.declared.Answer.the-variants.{Described, Refused}
+use Rattle.refusal.specs.declared.Answer.the-variants.{Done, Refused}
 use Rattle.description_record.specs.declared.Decoded.{Decoded}
 
 -- "424 bytes"
@@ -81,7 +81,6 @@ csConfigIn b =
 
 unfoldable pub multiAt : List ℕ → MultiCsConfig
 multiAt b = record {
-  -- 01 Well wired 12: in Multi the select is at the GPIO of the first select line
   select = byteAt b 23;
   commoned = bytesAt b 28 8;
   «num_commoned» = byteAt b 24;
@@ -98,7 +97,6 @@ boardAt b = record {
   socket = socketAt b;
   pins = byteAt b 0;
   x1 = pairAt b 132;
-  -- 01 addr_layout 5: in such a set of at least 3 chips it has X2, likewise
   x2 = pairAt b 134;
 }
 
@@ -163,9 +161,7 @@ levelsIn b p = each 8 (λ k. eqb (byteAt b (p + 50 + 3 * k)) 0)
 abbrev pub chipZeros : List ℕ → ℕ → Bool
 chipZeros b p = eqb (byteAt b (p + 7)) 0 && levelsIn b p
 
--- 01 Domain 3: what holds of a chip is tested of the first n, of 4 at most
 abbrev pub chipPlacesIn : List ℕ → Bool
--- 01 Domain 3: what holds of a chip is tested of the first n, of 4 at most
 chipPlacesIn b = each 4 (λ k. chipZeros b (136 + 72 * k))
 
 unfoldable pub wellFormed : List ℕ → Bool
@@ -175,6 +171,6 @@ wellFormed b = eqb (length b) recordSize && headIn b && csConfigIn b && pairsIn 
 -- 01 Number 1: bytes that are not well formed are refused
 abbrev pub decodedOf : List ℕ → Decoded
 decodedOf b = record {
-  answer = cond (wellFormed b) Described (Refused OutOfDomain);
+  answer = cond (wellFormed b) Done (Refused OutOfDomain);
   description = described b;
 }

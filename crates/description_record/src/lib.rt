@@ -2,16 +2,11 @@
 mod shape; // which records are refused
 mod parts; // board, chips and settings at their places
 
+use refusal::Answer;
 use refusal::Refusal;
 use slot::description::Description;
 ghost use mathlib.Core.Path.{_≡_};
 ghost use Rattle.description_record.specs.Record.{decodedOf};
-
-// Whether the bytes are a record.
-pub enum Answer {
-    Described,
-    Refused(Refusal),
-}
 
 // The answer, and what the record describes; of a refused record, what is left of it to read.
 pub struct Decoded {
@@ -26,7 +21,7 @@ pub fn decode(b: &[u8]) -> Decoded
     let description = parts::description(b);
     if shape::well_formed(b) {
         Decoded {
-            answer: Answer::Described,
+            answer: Answer::Done,
             description,
         }
     } else {

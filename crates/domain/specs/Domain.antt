@@ -24,9 +24,6 @@ socketIn b = each 40 (λ k. candidatesIn (getD (b .socket) k noPin .gpios))
 -- 01 Domain 2: the candidates of X1 and X2 are at most 47
 -- 01 Domain 9: two candidates of an X pin are different GPIOs
 abbrev pub boardIn : Board → Bool
--- 01 Domain 1: the board's pin count is one of the four
--- 01 Domain 2: the candidates of X1 and X2 are at most 47
--- 01 Domain 9: two candidates of an X pin are different GPIOs
 boardIn b = boardPinsIn (b .pins) && socketIn b && candidatesIn (b .x1) && candidatesIn (b .x2)
 
 -- 01 Shape 5: the kind of a line is at most 6
@@ -36,19 +33,15 @@ lineIn c k =
     between 1 40 (lineAt c k .pin) && leb (kindAt c k) 6
     && (eqb (kindAt c k) 6 || each k (λ j. not (eqb (kindAt c j) (kindAt c k))))
 
--- 01 Number 13: passed where each data line has a position of 0 to 31
 unfoldable pub linesIn : ControlLines → Bool
--- 01 Number 13: passed where each data line has a position of 0 to 31
 linesIn c = each (c .count) (λ k. lineIn c k)
 
 -- 01 Domain 3: a chip has at most 8 control lines, each with its pin and kind as they should be
 abbrev pub controlIn : ControlLines → Bool
--- 01 Domain 3: a chip has at most 8 control lines, each with its pin and kind as they should be
 controlIn c = leb (c .count) 8 && linesIn c
 
 -- 01 Domain 3: the first n pins of a list are from 1 to 40
 abbrev pub pinsIn : List ℕ → ℕ → Bool
--- 01 Bench 2: the offset of a chip of so many pins in a board of so many, or a refusal
 pinsIn pins n = each n (λ k. between 1 40 (getD pins k 0))
 
 -- 01 Domain 3: a chip has from 1 to 24 address pins, and more than 1 unless w is 1; from 1 to 16 data pins; its control lines; and
@@ -63,7 +56,6 @@ chipIn c w =
 
 -- 01 Domain 3: what holds of a chip is tested of the first n, of 4 at most
 unfoldable pub chipsIn : List Chip → ℕ → ℕ → Bool
--- 01 Domain 3: what holds of a chip is tested of the first n, of 4 at most
 chipsIn chips n w = each 4 (λ k. leb n k || chipIn (getD chips k noChip) w)
 
 -- 01 Domain 6: the first n lines of a list are of kinds up to 5
@@ -73,8 +65,6 @@ kindsIn kinds n = each n (λ k. between 0 5 (getD kinds k 0))
 -- 01 Domain 6: the kind of the select is at most 5, and so is that of each commoned and ignored line; there are no more than 6 of
 -- either
 abbrev pub multiIn : MultiCsConfig → Bool
--- 01 Domain 6: the kind of the select is at most 5, and so is that of each commoned and ignored line; there are no more than 6 of
--- either
 multiIn m =
     leb (m .select) 5
     && (leb (m .«num_commoned») 6 && kindsIn (m .commoned) (m .«num_commoned»))
@@ -95,9 +85,6 @@ maxImageSizeIn l = between 256 (2 ^ 20) l
 -- 01 Domain 11: in Multi there is a select configuration
 unfoldable pub descriptionIn : Description → Bool
 descriptionIn d =
-    -- 01 Domain 1: the board's pin count is one of the four
-    -- 01 Domain 2: the candidates of X1 and X2 are at most 47
-    -- 01 Domain 9: two candidates of an X pin are different GPIOs
     boardIn (d .board)
     && (wordBytesIn (d .«word_bytes») && maxImageSizeIn (d .«max_image_size»))
     && leb (raisedOf (d .«pin_offset»)) 8
@@ -110,11 +97,9 @@ qualifierGpio qualifiers gpios k = getD gpios (getD qualifiers k 0) 0
 
 -- 01 Domain 10: the index of qualifier k is one of an in-range line, and its GPIO is at most 7 above that of any other
 unfoldable pub qualifierIn : List ℕ → ℕ → List ℕ → ℕ → ℕ → Bool
--- 01 Domain 10: the index of qualifier k is one of an in-range line, and its GPIO is at most 7 above that of any other
 qualifierIn qualifiers n gpios lines k =
     ltb (getD qualifiers k 0) lines && each n (λ j. leb (qualifierGpio qualifiers gpios k) (qualifierGpio qualifiers gpios j + 7))
 
 -- 01 Domain 10: there are at most 8 qualifiers, each of them tested; with none there is no list
 abbrev pub qualifiersIn : List ℕ → ℕ → List ℕ → ℕ → Bool
--- 01 Domain 10: there are at most 8 qualifiers, each of them tested; with none there is no list
 qualifiersIn qualifiers n gpios lines = leb n 8 && each n (λ k. qualifierIn qualifiers n gpios lines k)

@@ -5,13 +5,13 @@ use mathlib.Core.List.{List, [], _∷_}
 use lib.IntN.{pos, negsuc}
 use Rattle.gpio.specs.declared.candidates.Candidates.the-variants.{One, Two}
 use Rattle.joint_table.specs.Slots.{linesAt, selectsAt, sized, inOrder, reversed}
-use Rattle.joint_table.specs.Answers.{Answer, Fits, DoesNotFit, Offset, Number, Taken, IgnoreAt, Entry, window, offsetFor, addressSearch, selectSearch, entryOf}
+use Rattle.joint_table.specs.Answers.{Told, Fits, DoesNotFit, Offset, Number, Taken, IgnoreAt, Entry, window, offsetFor, addressSearch, selectSearch, entryOf}
 
 pub record Case : Type 0 where
-  pub answered : Answer
-  pub told : Answer
+  pub answered : Told
+  pub told : Told
 
-abbrev pub case : Answer → Answer → Case
+abbrev pub case : Told → Told → Case
 case answered told = record { answered = answered; told = told }
 
 -- `negsuc 3` is -4; the place of number 7 is the set of 18 and 21

@@ -89,7 +89,6 @@ addressLines = record {
 
 -- data lines on these GPIOs, and the data base at 0
 abbrev pub dataLinesAt : List ℕ → CsDataLayout
--- 01 Well wired 4: the chip has 8w data lines
 dataLinesAt gpios = record {
   «gpio_base» = 0;
   «base_data_pin» = 0;
@@ -110,7 +109,6 @@ inOrder = dataLinesAt (0 ∷ 1 ∷ 2 ∷ 3 ∷ 4 ∷ 5 ∷ 6 ∷ 7 ∷ [])
 
 -- 01 Bench 5: data line n is at position 7 - n
 abbrev pub reversed : CsDataLayout
--- 01 Bench 5: data line n is at position 7 - n
 reversed = dataLinesAt (7 ∷ 6 ∷ 5 ∷ 4 ∷ 3 ∷ 2 ∷ 1 ∷ 0 ∷ [])
 
 -- all bytes that are lent are the chip's

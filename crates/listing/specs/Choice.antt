@@ -23,11 +23,8 @@ chosen (Two g h) rest = cond (eqb (rest % 2) 0) g h
 
 -- 01 addr_layout 7: a two-candidate pin takes one bit off, and leaves the rest to the pins after it; any other pin takes none
 abbrev pub leftBy : Candidates → ℕ → ℕ
--- 01 addr_layout 7: a two-candidate pin takes one bit off, and leaves the rest to the pins after it; any other pin takes none
 leftBy Absent rest = rest
--- 01 addr_layout 7: a two-candidate pin takes one bit off, and leaves the rest to the pins after it; any other pin takes none
 leftBy (One g) rest = rest
--- 01 addr_layout 7: a two-candidate pin takes one bit off, and leaves the rest to the pins after it; any other pin takes none
 leftBy (Two g h) rest = rest / 2
 
 -- a GPIO is one of a pin's candidates

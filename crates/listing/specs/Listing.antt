@@ -63,5 +63,4 @@ faultFrom f (l ∷ ls) = faultFrom (keepFault f l) ls
 
 -- 01 addr_layout 6: the fault of the first pin in the list that has no candidate
 abbrev pub firstFault : List Listed → FirstFault
--- 01 addr_layout 6: the fault of the first pin in the list that has no candidate
 firstFault ls = faultFrom None ls

@@ -6,8 +6,8 @@ use Prim.Native.Nat.{ℕ}
 use Rattle.slot.specs.declared.description.Description.{Description}
 use Rattle.refusal.specs.declared.Refusal.{Refusal}
 use Rattle.description_record.specs.Record.{decodedOf}
-use Rattle.description_record.specs.declared.Answer.{Answer}
-use Rattle.description_record.specs.declared.Answer.the-variants.{Described, Refused}
+use Rattle.refusal.specs.declared.Answer.{Answer}
+use Rattle.refusal.specs.declared.Answer.the-variants.{Done, Refused}
 use Rattle.description_record.specs.declared.Decoded.{Decoded}
 use Rattle.onerom.specs.Calls.{ifDescribed, ifRecord}
 
@@ -15,8 +15,8 @@ module _ {A : Type 0} (f : Description → A) (refuse : Refusal → A) (b : List
   told : (a : Answer) → dec .answer ≡ a → ifDescribed f refuse a (dec .description) ≡ ifRecord f refuse (decodedOf b)
   told a t = ap (λ (x : Answer). ifDescribed f refuse x (dec .description)) (sym t) ∙ ap (ifRecord f refuse) e
 
-  pub taken : dec .answer ≡ Described → f (dec .description) ≡ ifRecord f refuse (decodedOf b)
-  taken t = told Described t
+  pub taken : dec .answer ≡ Done → f (dec .description) ≡ ifRecord f refuse (decodedOf b)
+  taken t = told Done t
 
   pub no-record : (why : Refusal) → dec .answer ≡ Refused why → refuse why ≡ ifRecord f refuse (decodedOf b)
   no-record why t = told (Refused why) t

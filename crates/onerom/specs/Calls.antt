@@ -8,7 +8,7 @@ use Rattle.slot.specs.declared.description.Description.{Description}
 use Rattle.refusal.specs.declared.Refusal.{Refusal}
 use Rattle.refusal.specs.declared.Refusal.the-variants.{OutOfDomain, ShortBuffer}
 use Rattle.description_record.specs.Record.{decodedOf}
-use Rattle.description_record.specs.declared.Answer.{Answer}
+use Rattle.refusal.specs.declared.Answer.{Answer}
 use Rattle.description_record.specs.declared.Decoded.{Decoded}
 use Rattle.addr_layout.specs.Search.{addrAnswer}
 use Rattle.addr_layout.specs.declared.layout.AddrLayout.{AddrLayout}
@@ -18,8 +18,8 @@ use Rattle.cs_data_layout.specs.Search.{csDataAnswer}
 use Rattle.cs_data_layout.specs.declared.layout.CsDataLayout.{CsDataLayout}
 use Rattle.cs_data_layout.specs.declared.layout.CsDataOutcome.{CsDataOutcome}
 use Rattle.cs_data_layout.specs.declared.layout.CsDataAnswer.{CsDataAnswer}
+use Rattle.build_args.specs.Args.{argsOf}
 use Rattle.rom_image.specs.Build.{Built, buildOf}
-use Rattle.rom_image.specs.declared.BuildAnswer.{BuildAnswer}
 use Rattle.layout_record.specs.AddrRecord.{addrSize, layoutBytes, layoutAt, layoutFormed, givenAt, givenFormed}
 use Rattle.layout_record.specs.CsDataRecord.{csDataSize, csDataBytes, csDataAt, csDataFormed}
 use Rattle.layout_record.specs.ImageRecord.{spansAt, spansFormed}
@@ -27,7 +27,7 @@ use Rattle.refusal.specs.declared.first.FirstFault.{FirstFault}
 use Rattle.stored_record.specs.StoredRecord.{storedAt, storedFormed}
 use Rattle.unscramble.specs.Recovered.{ReadBack, unscrambled}
 use Rattle.round_trip.specs.Chain.{Trip, roundTripOf}
-use Rattle.onerom.specs.Packed.{packed}
+use Rattle.onerom.specs.Packed.{packed, resultOf}
 
 pub record Answered : Type 0 where
   pub result : ℕ
@@ -36,7 +36,7 @@ pub record Answered : Type 0 where
 abbrev pub answer : ℕ → List ℕ → Answered
 answer r b = record { result = r; buffer = b }
 
--- 01 Numbers 5: a callRefused call leaves its buffer as it was lent
+-- 01 Numbers 5: a refused call leaves its buffer as it was lent
 abbrev pub callRefused : Refusal → List ℕ → Answered
 callRefused why buffer = answer (packed why) buffer
 
@@ -46,9 +46,9 @@ abbrev pub written : ℕ → List ℕ → List ℕ → Answered
 written size bytes buffer = cond (ltb (length buffer) size) (callRefused ShortBuffer buffer) (answer 0 (bytes ++ drop size buffer))
 
 -- 01 Number 1: the bytes are no description record
--- 01 Numbers 2: such bytes are callRefused before anything is done with a description
+-- 01 Numbers 2: such bytes are refused before anything is done with a description
 abbrev pub ifDescribed : {A : Type 0} → (Description → A) → (Refusal → A) → Answer → Description → A
-ifDescribed f refuse Answer.Described d = f d
+ifDescribed f refuse Answer.Done d = f d
 ifDescribed f refuse (Answer.Refused why) d = refuse why
 
 abbrev pub ifRecord : {A : Type 0} → (Description → A) → (Refusal → A) → Decoded → A
@@ -81,19 +81,16 @@ csDataCall description layout buffer =
     (callRefused OutOfDomain buffer)
 
 -- a build says itself what its table holds
-abbrev pub buildResult : BuildAnswer → ℕ
-buildResult BuildAnswer.Built = 0
-buildResult (BuildAnswer.Refused why) = packed why
-
 abbrev pub buildFound : Built → Answered
-buildFound b = answer (buildResult (b .answer)) (b .table)
+buildFound b = answer (resultOf (b .answer)) (b .table)
 
 -- both layouts and the spans: here each has to be a record
 abbrev pub buildFormed : List ℕ → List ℕ → List ℕ → Bool
 buildFormed addr csData spans = layoutFormed addr && csDataFormed csData && spansFormed spans
 
 abbrev pub buildFrom : Description → List ℕ → List ℕ → List ℕ → List ℕ → List ℕ → Answered
-buildFrom d addr csData spans images table = buildFound (buildOf d (layoutAt addr) (csDataAt csData) images (spansAt spans) table)
+buildFrom d addr csData spans images table =
+    buildFound (buildOf (argsOf d (layoutAt addr) (csDataAt csData) (spansAt spans)) images table)
 
 -- `onerom_build_rom_image` of the bytes of a description, of both layouts and of the spans, of the chips' bytes, and of a lent table
 unfoldable pub buildCall : List ℕ → List ℕ → List ℕ → List ℕ → List ℕ → List ℕ → Answered
@@ -111,20 +108,16 @@ pub record ReadAnswered : Type 0 where
 abbrev pub readAnswer : ℕ → List ℕ → List ℕ → ReadAnswered
 readAnswer r o m = record { result = r; output = o; marks = m }
 
-abbrev pub readResult : FirstFault → ℕ
-readResult FirstFault.None = 0
-readResult (FirstFault.Of why) = packed why
-
 -- 01 Numbers 5: read-back says itself what its buffers hold, since 23 and 24 do write
 abbrev pub readFound : ReadBack → ReadAnswered
-readFound b = readAnswer (readResult (b .answer)) (b .output) (b .marks)
+readFound b = readAnswer (resultOf (b .answer)) (b .output) (b .marks)
 
 abbrev pub readFrom : List ℕ → List ℕ → List ℕ → List ℕ → ReadAnswered
 readFrom slot stored output marks = readFound (unscrambled (storedAt slot) stored output marks)
 
 -- `onerom_unscramble_slot` of a stored slot's bytes, of its table, and of two lent buffers
 -- 01 Number 1: the bytes are no stored slot record
--- 01 Numbers 2: such bytes are callRefused before anything is done with a slot
+-- 01 Numbers 2: such bytes are refused before anything is done with a slot
 unfoldable pub readBackCall : List ℕ → List ℕ → List ℕ → List ℕ → ReadAnswered
 readBackCall slot stored output marks =
     cond (storedFormed slot)
@@ -145,7 +138,7 @@ abbrev pub tripRefused : Refusal → List ℕ → List ℕ → List ℕ → Trip
 tripRefused why table output marks = tripAnswer (packed why) table output marks
 
 abbrev pub tripFound : Trip → TripAnswered
-tripFound t = tripAnswer (readResult (t .answer)) (t .table) (t .output) (t .marks)
+tripFound t = tripAnswer (resultOf (t .answer)) (t .table) (t .output) (t .marks)
 
 abbrev pub tripFrom : Description → List ℕ → List ℕ → List ℕ → List ℕ → List ℕ → TripAnswered
 tripFrom d spans images table output marks = tripFound (roundTripOf d images (spansAt spans) table output marks)

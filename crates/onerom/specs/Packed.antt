@@ -1,5 +1,7 @@
 -- A refusal as the one number that a refused call returns. Assumes nothing.
 use Prim.Native.Nat.{ℕ, _+_, _*_, _%_, _^_}
+use Rattle.refusal.specs.declared.Answer.{Answer}
+use Rattle.refusal.specs.declared.Answer.the-variants.{Done, Refused}
 use Rattle.refusal.specs.Refusal.{numberOf, placeOf}
 use Rattle.refusal.specs.declared.Refusal.{Refusal}
 
@@ -8,3 +10,8 @@ use Rattle.refusal.specs.declared.Refusal.{Refusal}
 -- 01 Numbers 1: a refused call has one result, which holds both the refusal's number and its place
 unfoldable pub packed : Refusal → ℕ
 packed why = numberOf why * 2 ^ 48 + placeOf why % 2 ^ 48
+
+-- the result of a call that is done is 0
+abbrev pub resultOf : Answer → ℕ
+resultOf Done = 0
+resultOf (Refused why) = packed why

@@ -1,13 +1,13 @@
 // The build, from the records of a caller that has no structs to its answer as one number.
-use crate::refused::packed;
+use crate::refused::result;
+use build_args::BuildArgs;
 use layout_record::addr_record;
 use layout_record::cs_data_record;
 use layout_record::image_record;
-use rom_image::BuildAnswer;
 use rom_image::build_rom_image;
 use slot::description::Description;
 ghost use mathlib.Core.Path.{_≡_};
-ghost use Rattle.onerom.specs.Calls.{answer, buildResult, buildFormed, buildFrom};
+ghost use Rattle.onerom.specs.Calls.{answer, buildFormed, buildFrom};
 
 // Whether the bytes are records of both layouts and of the chips' spans.
 pub fn formed(addr_layout: &[u8], cs_data_layout: &[u8], spans: &[u8]) -> bool
@@ -16,15 +16,6 @@ pub fn formed(addr_layout: &[u8], cs_data_layout: &[u8], spans: &[u8]) -> bool
     addr_record::formed(addr_layout)
         & cs_data_record::formed(cs_data_layout)
         & image_record::formed(spans)
-}
-
-fn result(a: BuildAnswer) -> u64
-    ensures { λ r. ⌜ r ≡ buildResult a ⌝ }
-{
-    match a {
-        BuildAnswer::Built => 0,
-        BuildAnswer::Refused(why) => packed(why),
-    }
 }
 
 // Builds the table from what the records give, and answers as the build did.
@@ -38,12 +29,11 @@ pub fn hand_over(
 ) -> u64
     ensures { λ r. ⌜ answer r (now (table .exit)) ≡ buildFrom d (now («addr_layout» .entry)) (now («cs_data_layout» .entry)) (now (spans .entry)) (now (images .entry)) (now (table .entry)) ⌝ }
 {
-    result(build_rom_image(
-        d,
-        addr_record::layout_at(addr_layout),
-        cs_data_record::layout_at(cs_data_layout),
-        images,
-        image_record::spans_at(spans),
-        table,
-    ))
+    let args = BuildArgs {
+        description: d,
+        addr: addr_record::layout_at(addr_layout),
+        cs_data: cs_data_record::layout_at(cs_data_layout),
+        spans: image_record::spans_at(spans),
+    };
+    result(build_rom_image(args, images, table))
 }

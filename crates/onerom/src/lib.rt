@@ -9,10 +9,10 @@ mod trip; // the round trip's answer, handed over
 
 use addr_layout::derive_addr_layout;
 use cs_data_layout::derive_cs_data_layout;
-use description_record::Answer;
 use layout_record::addr_record::given_at;
 use layout_record::addr_record::given_formed;
 use layout_record::image_record;
+use refusal::Answer;
 use refusal::Refusal;
 use refused::packed;
 ghost use mathlib.Core.Path.{_≡_};
@@ -26,7 +26,7 @@ pub extern "C" fn onerom_derive_addr_layout(description: &[u8], layout: &mut [u8
     let decoded = description_record::decode(description);
     let outcome = decoded.answer;
     match outcome {
-        Answer::Described => addr::hand_over(derive_addr_layout(decoded.description), layout),
+        Answer::Done => addr::hand_over(derive_addr_layout(decoded.description), layout),
         Answer::Refused(why) => packed(why),
     }
 }
@@ -47,7 +47,7 @@ pub extern "C" fn onerom_derive_cs_data_layout(
     let decoded = description_record::decode(description);
     let outcome = decoded.answer;
     match outcome {
-        Answer::Described => {
+        Answer::Done => {
             cs_data::hand_over(
                 derive_cs_data_layout(decoded.description, given_at(addr_layout)),
                 layout,
@@ -76,7 +76,7 @@ pub extern "C" fn onerom_build_rom_image(
     let decoded = description_record::decode(description);
     let outcome = decoded.answer;
     match outcome {
-        Answer::Described => {
+        Answer::Done => {
             build::hand_over(
                 decoded.description,
                 addr_layout,
@@ -124,7 +124,7 @@ pub extern "C" fn onerom_round_trip(
     let decoded = description_record::decode(description);
     let outcome = decoded.answer;
     match outcome {
-        Answer::Described => {
+        Answer::Done => {
             trip::hand_over(decoded.description, spans, images, table, output, marks)
         }
         Answer::Refused(why) => packed(why),

@@ -1,20 +1,9 @@
 // Read-back, from the record of a caller that has no structs to its answer as one number.
-use crate::refused::packed;
-use refusal::first::FirstFault;
+use crate::refused::result;
 use stored_record::stored_at;
 use unscramble::unscramble_slot;
 ghost use mathlib.Core.Path.{_≡_};
-ghost use Rattle.onerom.specs.Calls.{readAnswer, readResult, readFrom};
-
-// A fault as the one number that a call returns: 0 for none.
-pub fn result(a: FirstFault) -> u64
-    ensures { λ r. ⌜ r ≡ readResult a ⌝ }
-{
-    match a {
-        FirstFault::None => 0,
-        FirstFault::Of(why) => packed(why),
-    }
-}
+ghost use Rattle.onerom.specs.Calls.{readAnswer, readFrom};
 
 // Reads back the slot that the record gives, and answers as read-back did.
 pub fn hand_over(slot: &[u8], stored: &[u8], output: &mut [u8], marks: &mut [u8]) -> u64

@@ -1,5 +1,5 @@
 // The round trip, from the records of a caller that has no structs to its answer as one number.
-use crate::read_back::result;
+use crate::refused::result;
 use layout_record::image_record;
 use round_trip::round_trip;
 use slot::description::Description;

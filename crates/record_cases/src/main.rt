@@ -5,6 +5,7 @@ use addr_layout::derive_addr_layout;
 use addr_layout::layout::AddrLayout;
 use addr_layout::layout::AddrOutcome;
 use addr_layout::layout::no_layout;
+use build_args::BuildArgs;
 use build_args::images::ImageSpan;
 use cs_data_layout::derive_cs_data_layout;
 use cs_data_layout::layout::CsDataLayout;
@@ -12,10 +13,9 @@ use cs_data_layout::layout::CsDataOutcome;
 use cs_data_layout::layout::GivenLayout;
 use cs_data_layout::layout::IgnoreIndex;
 use cs_data_layout::layout::refused;
-use description_record::Answer;
 use libc::STDOUT_FILENO;
+use refusal::Answer;
 use refusal::Refusal;
-use rom_image::BuildAnswer;
 use rom_image::build_rom_image;
 use slot::description::Description;
 use std::num::wrapping_add_u8;
@@ -111,7 +111,7 @@ fn taken(b: [u8; 424]) -> bool {
     let decoded = description_record::decode(&b);
     let answer = decoded.answer;
     match answer {
-        Answer::Described => domain::description::description_in(decoded.description),
+        Answer::Done => domain::description::description_in(decoded.description),
         Answer::Refused(_) => false,
     }
 }
@@ -398,16 +398,15 @@ fn one_entry(size: u8, gpios: [u8; 16], bytes: &[u8], index: usize) {
         length: size as u32,
     };
     let mut table = [0u8; 4];
-    match build_rom_image(
-        decoded.description,
-        two_lines(),
-        data_lines(gpios),
-        bytes,
-        [chip; 4],
-        &mut table,
-    ) {
-        BuildAnswer::Built => say_entry(&table, index),
-        BuildAnswer::Refused(r) => say_refusal(r),
+    let args = BuildArgs {
+        description: decoded.description,
+        addr: two_lines(),
+        cs_data: data_lines(gpios),
+        spans: [chip; 4],
+    };
+    match build_rom_image(args, bytes, &mut table) {
+        Answer::Done => say_entry(&table, index),
+        Answer::Refused(r) => say_refusal(r),
     }
 }
 

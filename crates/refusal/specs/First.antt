@@ -2,6 +2,8 @@
 use Prim.Native.Nat.{ℕ, zero, suc}
 use mathlib.Core.Bool.{Bool, cond}
 use Rattle.refusal.specs.declared.Refusal.{Refusal}
+use Rattle.refusal.specs.declared.Answer.{Answer}
+use Rattle.refusal.specs.declared.Answer.the-variants.{Done, Refused}
 use Rattle.refusal.specs.declared.first.FirstFault.{FirstFault}
 use Rattle.refusal.specs.declared.first.FirstFault.the-variants.{None, Of}
 
@@ -17,3 +19,8 @@ faultIf bad why = cond bad (Of why) None
 unfoldable pub firstOf : ℕ → (ℕ → FirstFault) → FirstFault
 firstOf zero f = None
 firstOf (suc n) f = orElse (firstOf n f) (f n)
+
+-- the answer where nothing is left to test
+abbrev pub answered : FirstFault → Answer
+answered None = Done
+answered (Of r) = Refused r

@@ -33,80 +33,30 @@ use Rattle.refusal.specs.declared.Refusal.the-variants.{
 -- 01 Numbers 1: a refusal has the number of its row in the table
 -- 01 Shape 9: rows 1, 13, 15, 16 and 25, which have no name in the table, are refusals like the others
 abbrev pub numberOf : Refusal → ℕ
--- 01 Numbers 1: a refusal has the number of its row in the table
--- 01 Shape 9: rows 1, 13, 15, 16 and 25, which have no name in the table, are refusals like the others
 numberOf OutOfDomain = 1
--- 01 Numbers 1: a refusal has the number of its row in the table
--- 01 Shape 9: rows 1, 13, 15, 16 and 25, which have no name in the table, are refusals like the others
 numberOf NoSelectLine = 2
--- 01 Numbers 1: a refusal has the number of its row in the table
--- 01 Shape 9: rows 1, 13, 15, 16 and 25, which have no name in the table, are refusals like the others
 numberOf (UnmappedPin pin) = 3
--- 01 Numbers 1: a refusal has the number of its row in the table
--- 01 Shape 9: rows 1, 13, 15, 16 and 25, which have no name in the table, are refusals like the others
 numberOf (MissingXPin x) = 4
--- 01 Numbers 1: a refusal has the number of its row in the table
--- 01 Shape 9: rows 1, 13, 15, 16 and 25, which have no name in the table, are refusals like the others
 numberOf MissingAddrPinGpios = 5
--- 01 Numbers 1: a refusal has the number of its row in the table
--- 01 Shape 9: rows 1, 13, 15, 16 and 25, which have no name in the table, are refusals like the others
 numberOf RomTooLargeNoCsConfig = 6
--- 01 Numbers 1: a refusal has the number of its row in the table
--- 01 Shape 9: rows 1, 13, 15, 16 and 25, which have no name in the table, are refusals like the others
 numberOf (NonContiguousSelect gpios) = 7
--- 01 Numbers 1: a refusal has the number of its row in the table
--- 01 Shape 9: rows 1, 13, 15, 16 and 25, which have no name in the table, are refusals like the others
 numberOf (InteriorIgnoredLine gpio) = 8
--- 01 Numbers 1: a refusal has the number of its row in the table
--- 01 Shape 9: rows 1, 13, 15, 16 and 25, which have no name in the table, are refusals like the others
 numberOf NoValidLayout = 9
--- 01 Numbers 1: a refusal has the number of its row in the table
--- 01 Shape 9: rows 1, 13, 15, 16 and 25, which have no name in the table, are refusals like the others
 numberOf IncompatiblePinCount = 10
--- 01 Numbers 1: a refusal has the number of its row in the table
--- 01 Shape 9: rows 1, 13, 15, 16 and 25, which have no name in the table, are refusals like the others
 numberOf RomTableTooLarge = 11
--- 01 Numbers 1: a refusal has the number of its row in the table
--- 01 Shape 9: rows 1, 13, 15, 16 and 25, which have no name in the table, are refusals like the others
 numberOf InvalidConfig = 12
--- 01 Numbers 1: a refusal has the number of its row in the table
--- 01 Shape 9: rows 1, 13, 15, 16 and 25, which have no name in the table, are refusals like the others
 numberOf BadPosition = 13
--- 01 Numbers 1: a refusal has the number of its row in the table
--- 01 Shape 9: rows 1, 13, 15, 16 and 25, which have no name in the table, are refusals like the others
 numberOf (MissingImageData chip) = 14
--- 01 Numbers 1: a refusal has the number of its row in the table
--- 01 Shape 9: rows 1, 13, 15, 16 and 25, which have no name in the table, are refusals like the others
 numberOf (ShortImageData chip) = 15
--- 01 Numbers 1: a refusal has the number of its row in the table
--- 01 Shape 9: rows 1, 13, 15, 16 and 25, which have no name in the table, are refusals like the others
 numberOf ShortBuffer = 16
--- 01 Numbers 1: a refusal has the number of its row in the table
--- 01 Shape 9: rows 1, 13, 15, 16 and 25, which have no name in the table, are refusals like the others
 numberOf WrongSize = 17
--- 01 Numbers 1: a refusal has the number of its row in the table
--- 01 Shape 9: rows 1, 13, 15, 16 and 25, which have no name in the table, are refusals like the others
 numberOf UnknownSlotType = 18
--- 01 Numbers 1: a refusal has the number of its row in the table
--- 01 Shape 9: rows 1, 13, 15, 16 and 25, which have no name in the table, are refusals like the others
 numberOf MissingLayout = 19
--- 01 Numbers 1: a refusal has the number of its row in the table
--- 01 Shape 9: rows 1, 13, 15, 16 and 25, which have no name in the table, are refusals like the others
 numberOf UnknownAlgorithm = 20
--- 01 Numbers 1: a refusal has the number of its row in the table
--- 01 Shape 9: rows 1, 13, 15, 16 and 25, which have no name in the table, are refusals like the others
 numberOf BadLayout = 21
--- 01 Numbers 1: a refusal has the number of its row in the table
--- 01 Shape 9: rows 1, 13, 15, 16 and 25, which have no name in the table, are refusals like the others
 numberOf (XPin x) = 22
--- 01 Numbers 1: a refusal has the number of its row in the table
--- 01 Shape 9: rows 1, 13, 15, 16 and 25, which have no name in the table, are refusals like the others
 numberOf (Inconsistent rom addr) = 23
--- 01 Numbers 1: a refusal has the number of its row in the table
--- 01 Shape 9: rows 1, 13, 15, 16 and 25, which have no name in the table, are refusals like the others
 numberOf (Unserved rom addr) = 24
--- 01 Numbers 1: a refusal has the number of its row in the table
--- 01 Shape 9: rows 1, 13, 15, 16 and 25, which have no name in the table, are refusals like the others
 numberOf NoActiveLine = 25
 
 -- 01 Numbers 1: the place is what the row of the table names, or 0. A GPIO list is its set's 48 bits; a ROM and an

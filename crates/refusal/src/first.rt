@@ -1,7 +1,8 @@
 // The first fault of several: tests go in an order, and the first that fails answers.
+use crate::Answer;
 use crate::Refusal;
 ghost use mathlib.Core.Path.{_≡_};
-ghost use Rattle.refusal.specs.First.{orElse, faultIf};
+ghost use Rattle.refusal.specs.First.{orElse, faultIf, answered};
 
 // What the tests so far come to.
 pub enum FirstFault {
@@ -27,4 +28,14 @@ pub fn fault_if(bad: bool, why: Refusal) -> FirstFault
         return FirstFault::Of(why);
     }
     FirstFault::None
+}
+
+// The answer where nothing is left to test.
+pub fn answered(fault: FirstFault) -> Answer
+    ensures { λ r. ⌜ r ≡ answered fault ⌝ }
+{
+    match fault {
+        FirstFault::None => Answer::Done,
+        FirstFault::Of(why) => Answer::Refused(why),
+    }
 }

@@ -35,6 +35,12 @@ pub enum Refusal {
     NoActiveLine,
 }
 
+// What a call that returns nothing else answers: it is done, or refused.
+pub enum Answer {
+    Done,
+    Refused(Refusal),
+}
+
 impl Refusal {
     // The refusal's number.
     pub fn number(self) -> u8

@@ -15,6 +15,7 @@ use Rattle.table_fill.specs.design.Entries.{WiringIn, SourcesIn, partOf, scramb
 use Rattle.slot.specs.declared.description.Description.{Description}
 use Rattle.addr_layout.specs.declared.layout.AddrLayout.{AddrLayout}
 use Rattle.cs_data_layout.specs.declared.layout.CsDataLayout.{CsDataLayout}
+use Rattle.build_args.specs.Args.{argsOf}
 use Rattle.build_args.specs.Positions.{linePosition, dataPosition}
 use Rattle.build_args.specs.Picks.{numPicks, pickPosition, picked}
 use Rattle.build_args.specs.Faults.{entriesOf, tableSize}
@@ -64,12 +65,12 @@ module _ (d : Description) (a : AddrLayout) (c : CsDataLayout) (images : List �
   sources-in bits few = rw (source-at bits few) (source-in d images spans (picked d bits) (b .some-bytes) (picked-lent bits few))
 
   -- the entry at an index, and the table
-  pub entry-is : (i : ℕ) → entryBy (wiringOf d a c) (sourcesOf d spans) (padOf d) images i ≡ entryAt d a c images spans i
+  pub entry-is : (i : ℕ) → entryBy (wiringOf d a c) (sourcesOf d spans) (padOf d) images i ≡ entryAt (argsOf d a c spans) images i
   unfolding wiringOf entryBy entryAt chipPicked
   entry-is i =
       let few = gather-lt (numPicks d) (pickPosition d a c) i in
       rw (picks-are i, address-is i, source-at _ few, raw-word d images spans _ (chipAddress a i) (picked-lent _ few)) (scrambled-is _)
 
-  pub table-is : (lent : List ℕ) → tableBy (wiringOf d a c) (sourcesOf d spans) (padOf d) images (entriesOf a) lent ≡ tableOf d a c images spans ++ drop (tableSize d a) lent
+  pub table-is : (lent : List ℕ) → tableBy (wiringOf d a c) (sourcesOf d spans) (padOf d) images (entriesOf a) lent ≡ tableOf (argsOf d a c spans) images ++ drop (tableSize d a) lent
   unfolding wiringOf tableOf
-  table-is lent = rw (words-cong (d .«word_bytes») (entryBy (wiringOf d a c) (sourcesOf d spans) (padOf d) images) (entryAt d a c images spans) (entriesOf a) (λ i l. entry-is i))
+  table-is lent = rw (words-cong (d .«word_bytes») (entryBy (wiringOf d a c) (sourcesOf d spans) (padOf d) images) (entryAt (argsOf d a c spans) images) (entriesOf a) (λ i l. entry-is i))

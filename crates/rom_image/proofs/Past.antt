@@ -17,9 +17,10 @@ use Rattle.refusal.specs.declared.Refusal.the-variants.{RomTableTooLarge, Inval
 use Rattle.refusal.specs.declared.first.FirstFault.the-variants.{None}
 use Rattle.addr_layout.specs.declared.layout.AddrLayout.{AddrLayout}
 use Rattle.cs_data_layout.specs.declared.layout.CsDataLayout.{CsDataLayout}
+use Rattle.build_args.specs.Args.{argsOf}
 use Rattle.build_args.specs.Images.{chipSpan, chipBytes}
 use Rattle.build_args.specs.Domain.{buildIn}
-use Rattle.build_args.specs.Faults.{entriesOf, tableSize, tableTooLarge, tooShort, addressIn, picksIn, dataPositionsIn, missingAt, shortAt, linesFault, lentFault, buildFault}
+use Rattle.build_args.specs.Faults.{entriesOf, tableSize, tableTooLarge, tooShort, addressIn, picksIn, dataPositionsIn, missingAt, shortAt, linesFault, imagesFault, lentFault, buildFault}
 use Rattle.picks.specs.Picks.{chipsFit}
 use Rattle.refusal.specs.First.{faultIf, firstOf}
 use Rattle.build_args.specs.declared.images.ImageSpan.{ImageSpan}
@@ -46,7 +47,7 @@ pins-of p true e h = ltb-true p 32 e
 pins-of p false e h = let b = pow-mono {i = 32} {j = p} (ltb-false p 32 e) in absurd (omega arith)
 
 module _ (d : Description) (a : AddrLayout) (c : CsDataLayout) (images : List ℕ) (spans : List ImageSpan) (room : ℕ)
-    (e : buildIn d a c ≡ true) (f : buildFault d a c images spans room ≡ None) where
+    (e : buildIn (argsOf d a c spans) ≡ true) (f : buildFault (argsOf d a c spans) images room ≡ None) where
   past-large : faultIf (tableTooLarge d a) RomTableTooLarge ≡ None
   unfolding buildFault
   past-large = or-left (faultIf (tableTooLarge d a) RomTableTooLarge) _ f
@@ -61,10 +62,10 @@ module _ (d : Description) (a : AddrLayout) (c : CsDataLayout) (images : List �
 
   pub table-small : tableSize d a ≤ 2 ^ 20
   table-small =
-      omega (arith, ltb-false (d .«max_image_size») (tableSize d a) (none-bad (tableTooLarge d a) RomTableTooLarge past-large), image-size d (described d a c e) .1)
+      omega (arith, ltb-false (d .«max_image_size») (tableSize d a) (none-bad (tableTooLarge d a) RomTableTooLarge past-large), image-size d (described (argsOf d a c spans) e) .1)
 
   pub entries-few : entriesOf a ≤ 2 ^ 20
-  entries-few = entries-of (entriesOf a) (d .«word_bytes») (2 ^ 20) (word-bytes d (described d a c e) .0) table-small
+  entries-few = entries-of (entriesOf a) (d .«word_bytes») (2 ^ 20) (word-bytes d (described (argsOf d a c spans) e) .0) table-small
 
   pub pins-few : a .«num_addr_pins» < 32
   pins-few = pins-of (a .«num_addr_pins») (ltb (a .«num_addr_pins») 32) refl entries-few
@@ -72,12 +73,12 @@ module _ (d : Description) (a : AddrLayout) (c : CsDataLayout) (images : List �
   pub table-fits : tableSize d a ≤ room
   table-fits =
       ltb-false room (tableSize d a)
-      (none-bad (tooShort d a room) ShortBuffer (or-right (firstOf (d .«num_chips») (shortAt d images spans)) _ (or-right (firstOf (d .«num_chips») (missingAt spans)) _ past-lent)))
+      (none-bad (tooShort d a room) ShortBuffer (or-right (imagesFault d images spans) _ past-lent))
 
   bytes-lent : (k : ℕ) → k < d .«num_chips» → getD (d .chips) k noChip .size ≤ length (chipBytes images (chipSpan spans k))
   bytes-lent k l =
       ltb-false (length (chipBytes images (chipSpan spans k))) (getD (d .chips) k noChip .size)
-      (none-bad _ _ (first-all (shortAt d images spans) (d .«num_chips») (or-left (firstOf (d .«num_chips») (shortAt d images spans)) _ (or-right (firstOf (d .«num_chips») (missingAt spans)) _ past-lent)) k l))
+      (none-bad _ _ (first-all (shortAt d images spans) (d .«num_chips») (or-right (firstOf (d .«num_chips») (missingAt spans)) _ (or-left (imagesFault d images spans) _ past-lent)) k l))
 
   chips-right : chipsFit (d .«set_type») (d .«num_chips») ≡ true
   chips-right =
@@ -88,10 +89,10 @@ module _ (d : Description) (a : AddrLayout) (c : CsDataLayout) (images : List �
 
   pub buildable : Buildable d a c images spans
   buildable = record {
-    lines = lines-few d a c e;
-    data-lines = data-count c (selected d a c e) .1;
-    some-bytes = word-bytes d (described d a c e) .0;
-    bytes = word-bytes d (described d a c e) .1;
+    lines = lines-few (argsOf d a c spans) e;
+    data-lines = data-count c (selected (argsOf d a c spans) e) .1;
+    some-bytes = word-bytes d (described (argsOf d a c spans) e) .0;
+    bytes = word-bytes d (described (argsOf d a c spans) e) .1;
     chips = chips-right;
     lent = bytes-lent;
   }

@@ -18,6 +18,7 @@ use Rattle.build_args.specs.Faults.{entriesOf}
 use Rattle.build_args.specs.declared.images.ImageSpan.{ImageSpan}
 use Rattle.picks.specs.declared.Picked.{Picked}
 use Rattle.picks.specs.declared.Picked.the-variants.{NoChip, Chip}
+use Rattle.build_args.specs.declared.BuildArgs.{BuildArgs}
 
 -- 01 rom_image 2: bit n of the address stands in the index at the position of line n
 unfoldable pub chipAddress : AddrLayout → ℕ → ℕ
@@ -46,7 +47,6 @@ padByte = 0xAA
 
 -- 01 rom_image 6: the pad is w bytes of padByte
 abbrev pub padOf : Description → ℕ
--- 01 rom_image 6: the pad is w bytes of padByte
 padOf d = padWord (d .«word_bytes») padByte
 
 -- the word of the chip that is picked, at an address
@@ -63,10 +63,12 @@ scrambled d c v = scatter (c .«num_data_pins») (dataPosition c) (8 * d .«word
 
 -- the entry at an index
 -- 01 rom_image 6: a pad is scrambled as a word is
-unfoldable pub entryAt : Description → AddrLayout → CsDataLayout → List ℕ → List ImageSpan → ℕ → ℕ
-entryAt d a c images spans i = scrambled d c (wordOf d images spans (chipPicked d a c i) (chipAddress a i))
+unfoldable pub entryAt : BuildArgs → List ℕ → ℕ → ℕ
+entryAt b images i =
+    scrambled (b .description) (b .«cs_data»)
+    (wordOf (b .description) images (b .spans) (chipPicked (b .description) (b .addr) (b .«cs_data») i) (chipAddress (b .addr) i))
 
 -- 01 rom_image 1: the table is its 2^pins entries in index order
 -- 01 rom_image 9: an entry's lowest byte is written first
-unfoldable pub tableOf : Description → AddrLayout → CsDataLayout → List ℕ → List ImageSpan → List ℕ
-tableOf d a c images spans = wordsBytes (d .«word_bytes») (entryAt d a c images spans) (entriesOf a)
+unfoldable pub tableOf : BuildArgs → List ℕ → List ℕ
+tableOf b images = wordsBytes (b .description .«word_bytes») (entryAt b images) (entriesOf (b .addr))

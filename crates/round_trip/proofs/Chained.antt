@@ -16,10 +16,13 @@ use Rattle.cs_data_layout.specs.Search.{csDataAnswer}
 use Rattle.cs_data_layout.specs.declared.layout.CsDataLayout.{CsDataLayout}
 use Rattle.cs_data_layout.specs.declared.layout.CsDataOutcome.{CsDataOutcome}
 use Rattle.cs_data_layout.specs.declared.layout.CsDataAnswer.{CsDataAnswer}
+use Rattle.build_args.specs.Args.{argsOf}
+use Rattle.build_args.specs.declared.BuildArgs.{BuildArgs}
+use Rattle.round_trip.specs.design.Readable.{Readable}
 use Rattle.build_args.specs.Faults.{tableSize}
 use Rattle.build_args.specs.declared.images.ImageSpan.{ImageSpan}
 use Rattle.rom_image.specs.Build.{Built, built, buildOf}
-use Rattle.rom_image.specs.declared.BuildAnswer.{BuildAnswer}
+use Rattle.refusal.specs.declared.Answer.{Answer}
 use Rattle.unscramble.specs.Recovered.{ReadBack, readBack}
 use Rattle.round_trip.specs.RoundTrip.{Accepted}
 use Rattle.round_trip.specs.Chain.{Trip, trip, stopped, readOf, afterBuild, buildTrip, afterSelect, selectTrip, afterAddress, addressTrip, roundTripOf, AsDemanded}
@@ -27,22 +30,20 @@ use Rattle.round_trip.proofs.StoredOf.{callable}
 use Rattle.round_trip.proofs.Whole.{reads-back}
 
 -- the build's answer
-module _ (d : Description) (a : AddrLayout) (c : CsDataLayout) (images : List ℕ) (spans : List ImageSpan) (lent output marks : List ℕ)
-    (x : BuildAnswer) (table : List ℕ) (e : built x table ≡ buildOf d a c images spans lent) where
-  abbrev then : BuildAnswer → Trip
-  then y = afterBuild d a c output marks y table
+module _ (b : BuildArgs) (images lent output marks : List ℕ) (x : Answer) (table : List ℕ) (e : built x table ≡ buildOf b images lent) where
+  abbrev then : Answer → Trip
+  then y = afterBuild b output marks y table
 
-  pub build-stops : (why : Refusal) → x ≡ BuildAnswer.Refused why → stopped why table output marks ≡ buildTrip d a c output marks (buildOf d a c images spans lent)
-  build-stops why q = ap then (sym q) ∙ ap (buildTrip d a c output marks) e
+  pub build-stops : (why : Refusal) → x ≡ Answer.Refused why → stopped why table output marks ≡ buildTrip b output marks (buildOf b images lent)
+  build-stops why q = ap then (sym q) ∙ ap (buildTrip b output marks) e
 
-  pub build-goes : (r : FirstFault) (o m : List ℕ) → x ≡ BuildAnswer.Built → trip r table o m ≡ readOf d a c table output marks
-      → trip r table o m ≡ buildTrip d a c output marks (buildOf d a c images spans lent)
-  build-goes r o m q h = h ∙ ap then (sym q) ∙ ap (buildTrip d a c output marks) e
+  pub build-goes : (r : Answer) (o m : List ℕ) → x ≡ Answer.Done → trip r table o m ≡ readOf b table output marks
+      → trip r table o m ≡ buildTrip b output marks (buildOf b images lent)
+  build-goes r o m q h = h ∙ ap then (sym q) ∙ ap (buildTrip b output marks) e
 
-  pub readable-table : x ≡ BuildAnswer.Built → length table ≡ length lent
-      → ((a .«num_addr_pins» < 32) × (1 ≤ d .«word_bytes») × (d .«word_bytes» ≤ 2) × (tableSize d a ≤ 2 ^ 20)) × (tableSize d a ≤ length table)
+  pub readable-table : x ≡ Answer.Done → length table ≡ length lent → Readable b × (tableSize (b .description) (b .addr) ≤ length table)
   readable-table q h =
-      let can = callable d a c images spans lent (sym (ap (λ (b : Built). b .answer) e) ∙ q) in
+      let can = callable b images lent (sym (ap (λ (y : Built). y .answer) e) ∙ q) in
       (can .0, omega (arith, can .1, h))
 
 -- the select search's answer
@@ -55,7 +56,7 @@ module _ (d : Description) (a : AddrLayout) (images : List ℕ) (spans : List Im
       → stopped why table output marks ≡ selectTrip d a images spans table output marks (csDataAnswer d (record { given = true; layout = a }))
   select-stops why q = ap select-then (sym q) ∙ ap (selectTrip d a images spans table output marks) e
 
-  pub select-goes : (t : Trip) → x .outcome ≡ CsDataOutcome.LaidOut → t ≡ buildTrip d a (x .layout) output marks (buildOf d a (x .layout) images spans table)
+  pub select-goes : (t : Trip) → x .outcome ≡ CsDataOutcome.LaidOut → t ≡ buildTrip (argsOf d a (x .layout) spans) output marks (buildOf (argsOf d a (x .layout) spans) images table)
       → t ≡ selectTrip d a images spans table output marks (csDataAnswer d (record { given = true; layout = a }))
   select-goes t q h = h ∙ ap select-then (sym q) ∙ ap (selectTrip d a images spans table output marks) e
 
@@ -78,17 +79,17 @@ module _ (d : Description) (images : List ℕ) (spans : List ImageSpan) (table o
 
 -- demand 3, of the definition and so of whatever is equal to it
 module _ (d : Description) (images : List ℕ) (spans : List ImageSpan) (table output marks : List ℕ) (bytes : (k : ℕ) → getD images k 0 < 256) where
-  accepted : (a : AddrLayout) (c : CsDataLayout) → Accepted d a c images spans table
-      → roundTripOf d images spans table output marks ≡ readOf d a c (buildOf d a c images spans table .table) output marks
+  accepted : (a : AddrLayout) (c : CsDataLayout) → Accepted (argsOf d a c spans) images table
+      → roundTripOf d images spans table output marks ≡ readOf (argsOf d a c spans) (buildOf (argsOf d a c spans) images table .table) output marks
   unfolding roundTripOf
   accepted a c ok =
       ap (addressTrip d images spans table output marks) (ok .address)
       ∙ ap (selectTrip d a images spans table output marks) (ok .select)
-      ∙ ap (λ (y : BuildAnswer). afterBuild d a c output marks y (buildOf d a c images spans table .table)) (ok .build)
+      ∙ ap (λ (y : Answer). afterBuild (argsOf d a c spans) output marks y (buildOf (argsOf d a c spans) images table .table)) (ok .build)
 
   abbrev what-is-read : Trip → ReadBack
   what-is-read t = readBack (t .answer) (t .output) (t .marks)
 
-  pub demanded : (r : FirstFault) (t o m : List ℕ) → trip r t o m ≡ roundTripOf d images spans table output marks → AsDemanded d images spans table output marks (readBack r o m)
+  pub demanded : (r : Answer) (t o m : List ℕ) → trip r t o m ≡ roundTripOf d images spans table output marks → AsDemanded d images spans table output marks (readBack r o m)
   demanded r t o m e a c ok wired room =
       ap what-is-read (e ∙ accepted a c ok) ∙ reads-back d a c images spans table output marks ok bytes wired room

@@ -14,6 +14,7 @@ use Rattle.refusal.specs.declared.Refusal.{Refusal}
 use Rattle.addr_layout.specs.declared.layout.AddrLayout.{AddrLayout}
 use Rattle.cs_data_layout.specs.declared.layout.CsDataLayout.{CsDataLayout}
 use Rattle.refusal.specs.declared.first.FirstFault.the-variants.{None}
+use Rattle.build_args.specs.Args.{argsOf}
 use Rattle.build_args.specs.Images.{chipSpan, chipBytes}
 use Rattle.build_args.specs.Faults.{entriesOf}
 use Rattle.picks.specs.Picks.{chipsFit}
@@ -48,7 +49,7 @@ module _ (d : Description) (a : AddrLayout) (c : CsDataLayout) (images : List �
     (f : Fitted d a c s) (t : ToldApart d a c) (fit : chipsFit (d .«set_type») (d .«num_chips») ≡ true)
     (bytes : (rom k : ℕ) → getD (chipBytes images (chipSpan spans rom)) k 0 < 256) where
   abbrev table : List ℕ
-  table = tableOf d a c images spans
+  table = tableOf (argsOf d a c spans) images
 
   abbrev wordIn : ℕ → ℕ → ℕ
   wordIn rom n = word (d .«word_bytes») (chipBytes images (chipSpan spans rom)) n

@@ -31,13 +31,14 @@ use Rattle.refusal.specs.declared.first.FirstFault.the-variants.{None, Of}
 use Rattle.addr_layout.specs.Law as addr
 use Rattle.addr_layout.specs.declared.layout.AddrLayout.{AddrLayout}
 use Rattle.cs_data_layout.specs.declared.layout.CsDataLayout.{CsDataLayout}
+use Rattle.build_args.specs.Args.{argsOf}
 use Rattle.build_args.specs.Images.{chipSpan, chipBytes}
 use Rattle.build_args.specs.Domain.{buildIn}
 use Rattle.build_args.specs.Faults.{entriesOf, tableSize, buildFault}
 use Rattle.build_args.specs.declared.images.ImageSpan.{ImageSpan}
 use Rattle.rom_image.specs.Entry.{entryAt, tableOf}
 use Rattle.rom_image.specs.Build.{Built, built, buildAfter, buildOf}
-use Rattle.rom_image.specs.declared.BuildAnswer.{BuildAnswer}
+use Rattle.refusal.specs.declared.Answer.{Answer}
 use Rattle.gpio.specs.declared.line.LineGpio.the-variants.{At}
 use Rattle.stored_slot.specs.Stored as stored
 use Rattle.stored_slot.specs.Faults.{wrongSize, romsFault}
@@ -60,35 +61,35 @@ use Rattle.round_trip.proofs.Bytes.{words-take}
 use Rattle.round_trip.proofs.Read.{joined-cong, consistent, all-served, recovered-words}
 
 -- a build that accepts is past its tests
-done : BuildAnswer → ℕ
-done BuildAnswer.Built = 1
-done (BuildAnswer.Refused why) = 0
+done : Answer → ℕ
+done Answer.Done = 1
+done (Answer.Refused why) = 0
 
-refused-not-built : (why : Refusal) → BuildAnswer.Refused why ≡ BuildAnswer.Built → ⊥
+refused-not-built : (why : Refusal) → Answer.Refused why ≡ Answer.Done → ⊥
 unfolding done
 refused-not-built why e = let z : _≡_ {A = ℕ} 0 1 = ap done e in omega arith
 
 module _ (d : Description) (a : AddrLayout) (c : CsDataLayout) (images : List ℕ) (spans : List ImageSpan) (lent : List ℕ) where
   pub record Past : Type 0 where
-    pub domain : buildIn d a c ≡ true
-    pub none : buildFault d a c images spans (length lent) ≡ None
-    pub table : buildOf d a c images spans lent .table ≡ tableOf d a c images spans ++ drop (tableSize d a) lent
+    pub domain : buildIn (argsOf d a c spans) ≡ true
+    pub none : buildFault (argsOf d a c spans) images (length lent) ≡ None
+    pub table : buildOf (argsOf d a c spans) images lent .table ≡ tableOf (argsOf d a c spans) images ++ drop (tableSize d a) lent
 
-  by-fault : (f : FirstFault) → buildFault d a c images spans (length lent) ≡ f → buildIn d a c ≡ true
-      → buildOf d a c images spans lent ≡ buildAfter d a c images spans lent f → buildAfter d a c images spans lent f .answer ≡ BuildAnswer.Built → Past
+  by-fault : (f : FirstFault) → buildFault (argsOf d a c spans) images (length lent) ≡ f → buildIn (argsOf d a c spans) ≡ true
+      → buildOf (argsOf d a c spans) images lent ≡ buildAfter (argsOf d a c spans) images lent f → buildAfter (argsOf d a c spans) images lent f .answer ≡ Answer.Done → Past
   by-fault (Of why) q i w e = absurd (refused-not-built why e)
   by-fault None q i w e = record { domain = i; none = q; table = ap (λ (b : Built). b .table) w }
 
-  by-domain : (t : Bool) → buildIn d a c ≡ t
-      → buildOf d a c images spans lent
-      ≡ cond t (buildAfter d a c images spans lent (buildFault d a c images spans (length lent))) (built (BuildAnswer.Refused OutOfDomain) lent)
-      → buildOf d a c images spans lent .answer ≡ BuildAnswer.Built → Past
+  by-domain : (t : Bool) → buildIn (argsOf d a c spans) ≡ t
+      → buildOf (argsOf d a c spans) images lent
+      ≡ cond t (buildAfter (argsOf d a c spans) images lent (buildFault (argsOf d a c spans) images (length lent))) (built (Answer.Refused OutOfDomain) lent)
+      → buildOf (argsOf d a c spans) images lent .answer ≡ Answer.Done → Past
   by-domain false q w e = absurd (refused-not-built _ (sym (ap (λ (b : Built). b .answer) w) ∙ e))
-  by-domain true q w e = by-fault (buildFault d a c images spans (length lent)) refl q w (sym (ap (λ (b : Built). b .answer) w) ∙ e)
+  by-domain true q w e = by-fault (buildFault (argsOf d a c spans) images (length lent)) refl q w (sym (ap (λ (b : Built). b .answer) w) ∙ e)
 
-  pub build-past : buildOf d a c images spans lent .answer ≡ BuildAnswer.Built → Past
+  pub build-past : buildOf (argsOf d a c spans) images lent .answer ≡ Answer.Done → Past
   unfolding buildOf
-  build-past e = by-domain (buildIn d a c) refl refl e
+  build-past e = by-domain (buildIn (argsOf d a c spans)) refl refl e
 
 -- bytes of a part are bytes
 part-byte : (l : List ℕ) (start size k : ℕ) (t : Bool) → ltb k size ≡ t → ((j : ℕ) → getD l j 0 < 256) → getD (take size (drop start l)) k 0 < 256
@@ -162,13 +163,13 @@ words-within : (x y w size long : ℕ) → x ≤ size / w → size ≤ long → 
 words-within x y w size long h l = le-trans (mul-le-mul-right w h) (le-trans (div-mul-le-self size w) l)
 
 module _ (d : Description) (a : AddrLayout) (c : CsDataLayout) (images : List ℕ) (spans : List ImageSpan) (lent : List ℕ) (s : StoredSlot) (output marks : List ℕ)
-    (ok : Accepted d a c images spans lent) (bytes : (k : ℕ) → getD images k 0 < 256) (wired : WellWired d a) (given : StoredAs d a c s)
+    (ok : Accepted (argsOf d a c spans) images lent) (bytes : (k : ℕ) → getD images k 0 < 256) (wired : WellWired d a) (given : StoredAs d a c s)
     (room : Room d a output marks) where
   past : Past d a c images spans lent
   past = build-past d a c images spans lent (ok .build)
 
   in-description : descriptionIn d ≡ true
-  in-description = described d a c (past .domain)
+  in-description = described (argsOf d a c spans) (past .domain)
 
   can : Buildable d a c images spans
   can = buildable d a c images spans (length lent) (past .domain) (past .none)
@@ -196,22 +197,22 @@ module _ (d : Description) (a : AddrLayout) (c : CsDataLayout) (images : List �
   chip-byte rom k = part-byte images (chipSpan spans rom .start) (chipSpan spans rom .length) k (ltb k (chipSpan spans rom .length)) refl bytes
 
   -- the table that is read
-  table-long : length (tableOf d a c images spans) ≡ tableSize d a
+  table-long : length (tableOf (argsOf d a c spans) images) ≡ tableSize d a
   unfolding tableOf
-  table-long = words-length (d .«word_bytes») (entryAt d a c images spans) (entriesOf a)
+  table-long = words-length (d .«word_bytes») (entryAt (argsOf d a c spans) images) (entriesOf a)
 
-  table-is : tableBuilt d a c images spans lent ≡ tableOf d a c images spans
-  table-is = ap (take (tableSize d a)) (past .table) ∙ take-at (tableOf d a c images spans) (drop (tableSize d a) lent) (tableSize d a) table-long
+  table-is : tableBuilt (argsOf d a c spans) images lent ≡ tableOf (argsOf d a c spans) images
+  table-is = ap (take (tableSize d a)) (past .table) ∙ take-at (tableOf (argsOf d a c spans) images) (drop (tableSize d a) lent) (tableSize d a) table-long
 
   -- what comes back of a chip
   chip-back : (k : ℕ) → k < d .«num_chips»
-      → wordsBytes (d .«word_bytes») (λ n. word (d .«word_bytes») (chipBytes images (chipSpan spans k)) n) (sizes.romWords s k) ≡ firstBytes d a images spans k
+      → wordsBytes (d .«word_bytes») (λ n. word (d .«word_bytes») (chipBytes images (chipSpan spans k)) n) (sizes.romWords s k) ≡ firstBytes (argsOf d a c spans) images k
   chip-back k l =
       ap (λ (n : ℕ). wordsBytes (d .«word_bytes») (word (d .«word_bytes») (chipBytes images (chipSpan spans k))) n) (words-same d a c s same-lines k l)
       ∙ words-take (d .«word_bytes») (chipBytes images (chipSpan spans k)) (chipWords d a k) (chip-byte k)
       (words-within (chipWords d a k) 0 (d .«word_bytes») (getD (d .chips) k noChip .size) _ (omega arith) (can .lent k l))
 
-  all-back : recovered s (d .«set_type») (tableOf d a c images spans) ≡ joined (d .«num_chips») (firstBytes d a images spans)
+  all-back : recovered s (d .«set_type») (tableOf (argsOf d a c spans) images) ≡ joined (d .«num_chips») (firstBytes (argsOf d a c spans) images)
   all-back =
       recovered-words d a c images spans s same-lines told (can .chips) chip-byte
       ∙ joined-cong (d .«num_chips») _ _ (λ k l. chip-back k l)
@@ -225,7 +226,7 @@ module _ (d : Description) (a : AddrLayout) (c : CsDataLayout) (images : List �
   small : Small d a c
   small = record {
     base = base-small _ (laid .is) (laid .sound .window) (laid .sound .wide);
-    data-base = data-base c (selected d a c (past .domain));
+    data-base = data-base c (selected (argsOf d a c spans) (past .domain));
     bytes = can .bytes;
     pins = pins-few d a c images spans (length lent) (past .domain) (past .none);
   }
@@ -237,19 +238,19 @@ module _ (d : Description) (a : AddrLayout) (c : CsDataLayout) (images : List �
       let same : at .gpio ≡ stored.storedSelect s = cc in
       subst (addr.InWindow a) same (subst (λ (x : AddrLayout). addr.InWindow x (at .gpio)) (sym (laid .is)) (at .inside))
 
-  none-before : romsFault s (d .«set_type») (tableOf d a c images spans) (length output) (length marks) ≡ None
+  none-before : romsFault s (d .«set_type») (tableOf (argsOf d a c spans) images) (length output) (length marks) ≡ None
   none-before =
       let x = x-pins-in d in-description in
       let all = all-same d a c s same-lines in
-      none-refused d a c s given small (laid .choice) sound wired (x .0) (x .1) (tableOf d a c images spans) (length output) (length marks) table-long told
+      none-refused d a c s given small (laid .choice) sound wired (x .0) (x .1) (tableOf (argsOf d a c spans) images) (length output) (length marks) table-long told
       (selected-at .sound .data-above) (can .chips) select-window (rw (all, given .word-bytes) (room .for-output)) (rw all (room .for-marks))
 
-  size-right : wrongSize s (tableOf d a c images spans) ≡ false
-  size-right = rw (eq-eqb (length (tableOf d a c images spans)) (s .size) (table-long ∙ sym (given .size)))
+  size-right : wrongSize s (tableOf (argsOf d a c spans) images) ≡ false
+  size-right = rw (eq-eqb (length (tableOf (argsOf d a c spans) images)) (s .size) (table-long ∙ sym (given .size)))
 
   -- so that the entries decide, and none is at fault
   abbrev table : List ℕ
-  table = tableOf d a c images spans
+  table = tableOf (argsOf d a c spans) images
 
   tested : unscrambled s table output marks ≡ recover.ofType s table output marks (s .«slot_type»)
   unfolding unscrambled
@@ -259,14 +260,14 @@ module _ (d : Description) (a : AddrLayout) (c : CsDataLayout) (images : List �
   entries-none =
       both-none _ _ (consistent d a c images spans s same-lines told (can .chips) chip-byte) (all-served d a c images spans s same-lines told (can .chips) chip-byte)
 
-  reads : unscrambled s table output marks ≡ returnedWhole d a images spans output marks
+  reads : unscrambled s table output marks ≡ returnedWhole (argsOf d a c spans) images output marks
   reads =
       tested
       ∙ ap (recover.ofType s table output marks) (given .set-type)
       ∙ ap (recover.readAfter s (d .«set_type») table output marks) none-before
       ∙ ap (recover.afterEntries s (d .«set_type») table output marks) entries-none
-      ∙ ap (λ (r : List ℕ). readBack None (front r output) (front (replicate (sizes.allWords s) 1) marks)) all-back
-      ∙ ap (λ (n : ℕ). readBack None (front (joined (d .«num_chips») (firstBytes d a images spans)) output) (front (replicate n 1) marks)) (all-same d a c s same-lines)
+      ∙ ap (λ (r : List ℕ). readBack Answer.Done (front r output) (front (replicate (sizes.allWords s) 1) marks)) all-back
+      ∙ ap (λ (n : ℕ). readBack Answer.Done (front (joined (d .«num_chips») (firstBytes (argsOf d a c spans) images)) output) (front (replicate n 1) marks)) (all-same d a c s same-lines)
 
-  pub round-trip : ReadsBack d a c images spans lent s output marks
+  pub round-trip : ReadsBack (argsOf d a c spans) images lent s output marks
   round-trip = ap (λ (t : List ℕ). unscrambled s t output marks) table-is ∙ reads

@@ -16,12 +16,15 @@ use Rattle.addr_layout.specs.declared.layout.AddrLayout.{AddrLayout}
 use Rattle.cs_data_layout.specs.Law as cs
 use Rattle.cs_data_layout.proofs.Bounds.{line-in}
 use Rattle.cs_data_layout.specs.declared.layout.CsDataLayout.{CsDataLayout}
+use Rattle.build_args.specs.Args.{argsOf}
+use Rattle.build_args.specs.declared.BuildArgs.{BuildArgs}
+use Rattle.round_trip.specs.design.Readable.{Readable}
 use Rattle.build_args.specs.Picks.{firstSelect}
 use Rattle.build_args.specs.Faults.{tableSize}
 use Rattle.build_args.specs.declared.images.ImageSpan.{ImageSpan}
 use Rattle.build_args.proofs.Facts.{described, addressed, selected, lines-few, data-count}
 use Rattle.rom_image.specs.Build.{buildOf}
-use Rattle.rom_image.specs.declared.BuildAnswer.{BuildAnswer}
+use Rattle.refusal.specs.declared.Answer.{Answer}
 use Rattle.rom_image.proofs.Past.{table-small, table-fits, pins-few}
 use Rattle.stored_slot.specs.Stored as stored
 use Rattle.stored_slot.specs.declared.stored.Rom.{Rom}
@@ -136,7 +139,7 @@ module _ (d : Description) (a : AddrLayout) (c : CsDataLayout) (can : Storable d
   }
 
 module _ (d : Description) (a : AddrLayout) (c : CsDataLayout) (images : List ℕ) (spans : List ImageSpan) (lent : List ℕ)
-    (ok : Accepted d a c images spans lent) where
+    (ok : Accepted (argsOf d a c spans) images lent) where
   past : Past d a c images spans lent
   past = build-past d a c images spans lent (ok .build)
 
@@ -145,11 +148,11 @@ module _ (d : Description) (a : AddrLayout) (c : CsDataLayout) (images : List �
 
   storable : Storable d a c
   storable = record {
-    bytes = word-bytes d (described d a c (past .domain)) .0;
-    chips = chip-count d (described d a c (past .domain)) .1;
-    lines = omega (arith, lines-few d a c (past .domain));
-    line-gpio = λ k l. line-in a (addressed d a c (past .domain)) k (omega (arith, l));
-    data-lines = omega (arith, data-count c (selected d a c (past .domain)) .1);
+    bytes = word-bytes d (described (argsOf d a c spans) (past .domain)) .0;
+    chips = chip-count d (described (argsOf d a c spans) (past .domain)) .1;
+    lines = omega (arith, lines-few (argsOf d a c spans) (past .domain));
+    line-gpio = λ k l. line-in a (addressed (argsOf d a c spans) (past .domain)) k (omega (arith, l));
+    data-lines = omega (arith, data-count c (selected (argsOf d a c spans) (past .domain)) .1);
     data-gpio = selects .sound .data-in;
     select = selects .sound .first-select;
   }
@@ -158,13 +161,16 @@ module _ (d : Description) (a : AddrLayout) (c : CsDataLayout) (images : List �
   stored-as = stored-as-storable d a c storable
 
 -- what `stored_slot` and a read of the table ask of their caller, once the build accepts
-pub callable : (d : Description) (a : AddrLayout) (c : CsDataLayout) (images : List ℕ) (spans : List ImageSpan) (lent : List ℕ)
-    → buildOf d a c images spans lent .answer ≡ BuildAnswer.Built
-    → ((a .«num_addr_pins» < 32) × (1 ≤ d .«word_bytes») × (d .«word_bytes» ≤ 2) × (tableSize d a ≤ 2 ^ 20)) × (tableSize d a ≤ length lent)
-callable d a c images spans lent e =
-    let past = build-past d a c images spans lent e in
-    let w = word-bytes d (described d a c (past .domain)) in
-    let pins = pins-few d a c images spans _ (past .domain) (past .none) in
-    let table = table-small d a c images spans _ (past .domain) (past .none) in
-    let room = table-fits d a c images spans (length lent) (past .domain) (past .none) in
-    ((pins, w .0, w .1, table), room)
+pub callable : (b : BuildArgs) (images lent : List ℕ) → buildOf b images lent .answer ≡ Answer.Done
+    → Readable b × (tableSize (b .description) (b .addr) ≤ length lent)
+callable b images lent e =
+    let past = build-past (b .description) (b .addr) (b .«cs_data») images (b .spans) lent e in
+    let w = word-bytes (b .description) (described b (past .domain)) in (
+      record {
+        pins = pins-few (b .description) (b .addr) (b .«cs_data») images (b .spans) _ (past .domain) (past .none);
+        some-bytes = w .0;
+        bytes = w .1;
+        small = table-small (b .description) (b .addr) (b .«cs_data») images (b .spans) _ (past .domain) (past .none);
+      },
+      table-fits (b .description) (b .addr) (b .«cs_data») images (b .spans) (length lent) (past .domain) (past .none),
+    )

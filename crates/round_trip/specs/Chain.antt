@@ -16,48 +16,52 @@ use Rattle.cs_data_layout.specs.Search.{csDataAnswer}
 use Rattle.cs_data_layout.specs.declared.layout.CsDataLayout.{CsDataLayout}
 use Rattle.cs_data_layout.specs.declared.layout.CsDataOutcome.{CsDataOutcome}
 use Rattle.cs_data_layout.specs.declared.layout.CsDataAnswer.{CsDataAnswer}
+use Rattle.build_args.specs.Args.{argsOf}
 use Rattle.build_args.specs.Faults.{tableSize}
 use Rattle.build_args.specs.declared.images.ImageSpan.{ImageSpan}
 use Rattle.rom_image.specs.Build.{Built, buildOf}
-use Rattle.rom_image.specs.declared.BuildAnswer.{BuildAnswer}
+use Rattle.refusal.specs.declared.Answer.{Answer}
 use Rattle.unscramble.specs.Recovered.{ReadBack, unscrambled}
 use Rattle.round_trip.specs.WellWired.{WellWired}
 use Rattle.round_trip.specs.RoundTrip.{Accepted, Room, returnedWhole}
 use Rattle.round_trip.specs.Stored.{storedOf}
+use Rattle.build_args.specs.declared.BuildArgs.{BuildArgs}
 
 -- the answer, and the three lent buffers
 pub record Trip : Type 0 where
-  pub answer : FirstFault
+  pub answer : Answer
   pub table : List ℕ
   pub output : List ℕ
   pub marks : List ℕ
 
-abbrev pub trip : FirstFault → List ℕ → List ℕ → List ℕ → Trip
+abbrev pub trip : Answer → List ℕ → List ℕ → List ℕ → Trip
 trip a t o m = record { answer = a; table = t; output = o; marks = m }
 
 -- the first of the four that refuses answers; until the build has accepted nothing is written
 abbrev pub stopped : Refusal → List ℕ → List ℕ → List ℕ → Trip
-stopped why table output marks = trip (Of why) table output marks
+stopped why table output marks = trip (Answer.Refused why) table output marks
 
 -- the table beside what read-back answers
 abbrev pub tripRead : List ℕ → ReadBack → Trip
 tripRead table r = trip (r .answer) table (r .output) (r .marks)
 
 -- 01 Well wired 9: read-back is handed the built table itself, cut to the size of a table
-abbrev pub readOf : Description → AddrLayout → CsDataLayout → List ℕ → List ℕ → List ℕ → Trip
--- 01 Well wired 9: read-back is handed the built table itself, cut to the size of a table
-readOf d a c table output marks = tripRead table (unscrambled (storedOf d a c) (take (tableSize d a) table) output marks)
+abbrev pub readOf : BuildArgs → List ℕ → List ℕ → List ℕ → Trip
+readOf b table output marks =
+    tripRead table
+    (unscrambled (storedOf (b .description) (b .addr) (b .«cs_data»)) (take (tableSize (b .description) (b .addr)) table) output marks)
 
-abbrev pub afterBuild : Description → AddrLayout → CsDataLayout → List ℕ → List ℕ → BuildAnswer → List ℕ → Trip
-afterBuild d a c output marks BuildAnswer.Built table = readOf d a c table output marks
-afterBuild d a c output marks (BuildAnswer.Refused why) table = stopped why table output marks
+abbrev pub afterBuild : BuildArgs → List ℕ → List ℕ → Answer → List ℕ → Trip
+afterBuild b output marks Answer.Done table = readOf b table output marks
+afterBuild b output marks (Answer.Refused why) table = stopped why table output marks
 
-abbrev pub buildTrip : Description → AddrLayout → CsDataLayout → List ℕ → List ℕ → Built → Trip
-buildTrip d a c output marks b = afterBuild d a c output marks (b .answer) (b .table)
+abbrev pub buildTrip : BuildArgs → List ℕ → List ℕ → Built → Trip
+buildTrip b output marks x = afterBuild b output marks (x .answer) (x .table)
 
 -- 01 Well wired 8: the build gets the description that the searches got, and the two layouts that they found
 abbrev pub afterSelect : Description → AddrLayout → List ℕ → List ImageSpan → List ℕ → List ℕ → List ℕ → CsDataOutcome → CsDataLayout → Trip
-afterSelect d a images spans table output marks CsDataOutcome.LaidOut c = buildTrip d a c output marks (buildOf d a c images spans table)
+afterSelect d a images spans table output marks CsDataOutcome.LaidOut c =
+    buildTrip (argsOf d a c spans) output marks (buildOf (argsOf d a c spans) images table)
 afterSelect d a images spans table output marks (CsDataOutcome.Refused why) c = stopped why table output marks
 
 abbrev pub selectTrip : Description → AddrLayout → List ℕ → List ImageSpan → List ℕ → List ℕ → List ℕ → CsDataAnswer → Trip
@@ -65,10 +69,8 @@ selectTrip d a images spans table output marks x = afterSelect d a images spans 
 
 -- 01 Well wired 8: the select search gets the description that the address search got
 abbrev pub afterAddress : Description → List ℕ → List ImageSpan → List ℕ → List ℕ → List ℕ → AddrOutcome → AddrLayout → Trip
--- 01 Well wired 8: the select search gets the description that the address search got
 afterAddress d images spans table output marks AddrOutcome.LaidOut a =
     selectTrip d a images spans table output marks (csDataAnswer d (record { given = true; layout = a }))
--- 01 Well wired 8: the select search gets the description that the address search got
 afterAddress d images spans table output marks (AddrOutcome.Refused why) a = stopped why table output marks
 
 abbrev pub addressTrip : Description → List ℕ → List ImageSpan → List ℕ → List ℕ → List ℕ → AddrAnswer → Trip
@@ -81,4 +83,5 @@ roundTripOf d images spans table output marks = addressTrip d images spans table
 -- 00 Demand 3: if searches and build refuse nothing, the slot is well wired and the buffers have room, it is what returnedWhole says
 abbrev pub AsDemanded : Description → List ℕ → List ImageSpan → List ℕ → List ℕ → List ℕ → ReadBack → Type 0
 AsDemanded d images spans table output marks r =
-    (a : AddrLayout) (c : CsDataLayout) → Accepted d a c images spans table → WellWired d a → Room d a output marks → r ≡ returnedWhole d a images spans output marks
+    (a : AddrLayout) (c : CsDataLayout) → Accepted (argsOf d a c spans) images table → WellWired d a → Room d a output marks
+    → r ≡ returnedWhole (argsOf d a c spans) images output marks

@@ -2,3 +2,4 @@ pub mod WellWired
 pub mod RoundTrip
 pub mod Stored
 pub mod Chain
+pub mod design

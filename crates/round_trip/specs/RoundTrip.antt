@@ -17,25 +17,26 @@ use Rattle.cs_data_layout.specs.declared.layout.CsDataOutcome.{CsDataOutcome}
 use Rattle.cs_data_layout.specs.declared.layout.CsDataAnswer.{CsDataAnswer}
 use Rattle.build_args.specs.Images.{chipSpan, chipBytes}
 use Rattle.build_args.specs.Faults.{tableSize}
-use Rattle.build_args.specs.declared.images.ImageSpan.{ImageSpan}
+use Rattle.build_args.specs.declared.BuildArgs.{BuildArgs}
 use Rattle.rom_image.specs.Entry.{wordCount}
 use Rattle.rom_image.specs.Build.{buildOf}
-use Rattle.rom_image.specs.declared.BuildAnswer.{BuildAnswer}
+use Rattle.refusal.specs.declared.Answer.{Answer}
 use Rattle.unscramble.specs.Recovered.{ReadBack, readBack, front, unscrambled}
 use Rattle.stored_slot.specs.declared.stored.StoredSlot.{StoredSlot}
 
--- 00 Demand 3: the searches find layouts a and c, and the build by them is not refused
--- 01 Well wired 8: the searches and the build share d, and the build works by a and c
-pub record Accepted (d : Description) (a : AddrLayout) (c : CsDataLayout) (images : List ℕ) (spans : List ImageSpan) (lent : List ℕ) : Type 0 where
-  pub address : _≡_ {A = AddrAnswer} (addrAnswer d) (record { outcome = AddrOutcome.LaidOut; layout = a })
-  -- 01 Well wired 12: in Multi the select is at the GPIO of the first select line
-  pub select : _≡_ {A = CsDataAnswer} (csDataAnswer d (record { given = true; layout = a })) (record { outcome = CsDataOutcome.LaidOut; layout = c })
-  pub build : buildOf d a c images spans lent .answer ≡ BuildAnswer.Built
+-- 00 Demand 3: the searches find the two layouts, and the build by them is not refused
+-- 01 Well wired 8: the searches and the build share the description, and the build works by the layouts found
+pub record Accepted (b : BuildArgs) (images lent : List ℕ) : Type 0 where
+  pub address : _≡_ {A = AddrAnswer} (addrAnswer (b .description)) (record { outcome = AddrOutcome.LaidOut; layout = b .addr })
+  pub select : _≡_ {A = CsDataAnswer}
+      (csDataAnswer (b .description) (record { given = true; layout = b .addr }))
+      (record { outcome = CsDataOutcome.LaidOut; layout = b .«cs_data» })
+  pub build : buildOf b images lent .answer ≡ Answer.Done
 
 -- 00 Demand 3: the table that this build left
 -- 01 Well wired 9: read-back is given the front of the lent table just as the build left it
-abbrev pub tableBuilt : Description → AddrLayout → CsDataLayout → List ℕ → List ImageSpan → List ℕ → List ℕ
-tableBuilt d a c images spans lent = take (tableSize d a) (buildOf d a c images spans lent .table)
+abbrev pub tableBuilt : BuildArgs → List ℕ → List ℕ → List ℕ
+tableBuilt b images lent = take (tableSize (b .description) (b .addr)) (buildOf b images lent .table)
 
 -- 00 Demand 3: a chip's words are the whole ones of its size, but at most 2^lines; excess lines are not counted in
 abbrev pub chipWords : Description → AddrLayout → ℕ → ℕ
@@ -54,20 +55,17 @@ pub record Room (d : Description) (a : AddrLayout) (output marks : List ℕ) : T
   pub for-marks : words d a ≤ length marks
 
 -- 00 Demand 3: of the bytes that the build had for chip k, those of its words
-abbrev pub firstBytes : Description → AddrLayout → List ℕ → List ImageSpan → ℕ → List ℕ
-firstBytes d a images spans k = take (chipWords d a k * d .«word_bytes») (chipBytes images (chipSpan spans k))
+abbrev pub firstBytes : BuildArgs → List ℕ → ℕ → List ℕ
+firstBytes b images k =
+    take (chipWords (b .description) (b .addr) k * b .description .«word_bytes») (chipBytes images (chipSpan (b .spans) k))
 
 -- 00 Demand 3: no refusal; in the output the words of the chips, one chip behind the other; in the marks a 1 for each of these
 -- words; all that stands behind them is unchanged
-abbrev pub returnedWhole : Description → AddrLayout → List ℕ → List ImageSpan → List ℕ → List ℕ → ReadBack
-returnedWhole d a images spans output marks =
-    readBack None (front (joined (d .«num_chips») (firstBytes d a images spans)) output) (front (replicate (words d a) 1) marks)
+abbrev pub returnedWhole : BuildArgs → List ℕ → List ℕ → List ℕ → ReadBack
+returnedWhole b images output marks =
+    readBack Answer.Done (front (joined (b .description .«num_chips») (firstBytes b images)) output)
+    (front (replicate (words (b .description) (b .addr)) 1) marks)
 
 -- 00 Demand 3: read-back of the table built comes to what returnedWhole says
-abbrev pub ReadsBack : Description → AddrLayout → CsDataLayout → List ℕ → List ImageSpan → List ℕ → StoredSlot → List ℕ → List ℕ → Type 0
--- 00 Demand 3: read-back of the table built comes to what returnedWhole says
-ReadsBack d a c images spans lent s output marks =
-    -- 01 Number 1: the slot is outside of the domain
-    -- 01 Numbers 2: the domain is tested before all else
-    -- 01 Numbers 4: the length (17) is tested next, before the kind is looked at, so that a plugin's 16 comes after it
-    unscrambled s (tableBuilt d a c images spans lent) output marks ≡ returnedWhole d a images spans output marks
+abbrev pub ReadsBack : BuildArgs → List ℕ → List ℕ → StoredSlot → List ℕ → List ℕ → Type 0
+ReadsBack b images lent s output marks = unscrambled s (tableBuilt b images lent) output marks ≡ returnedWhole b images output marks

@@ -69,7 +69,6 @@ storedOf d a c = record {
   overrides = replicate 64 0;
   «num_overrides» = 0;
   x1 = d .board .x1;
-  -- 01 addr_layout 5: in such a set of at least 3 chips it has X2, likewise
   x2 = d .board .x2;
   roms = tab 4 (storedRom d a c);
   «num_roms» = d .«num_chips»;

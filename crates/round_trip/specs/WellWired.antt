@@ -29,7 +29,6 @@ use Rattle.stored_slot.specs.declared.stored.StoredSlot.{StoredSlot}
 pub data BoardPin : Type 0 where
   socket : ℕ → BoardPin
   x1 : BoardPin
-  -- 01 addr_layout 5: in such a set of at least 3 chips it has X2, likewise
   x2 : BoardPin
 
 abbrev pub candidatesOf : Board → BoardPin → Candidates
@@ -83,10 +82,8 @@ pub record WellWired (d : Description) (a : AddrLayout) : Type 0 where
 pub record Mapped (d : Description) (a : AddrLayout) (c : CsDataLayout) (s : StoredSlot) (k : ℕ) : Type 0 where
   pub map : stored.romAt s k .«has_map» ≡ true
   pub size : stored.romAt s k .«chip_size» ≡ getD (d .chips) k noChip .size
-  -- 01 addr_layout 1: where w is 2 there is one line fewer than address pins
   pub lines : stored.addrLines (stored.romAt s k) ≡ a .«num_lines»
   pub line : (n : ℕ) → n < a .«num_lines» → getD (stored.romAt s k .addr) n 0 ≡ getD (a .gpios) n 0
-  -- 01 Well wired 4: the chip has 8w data lines
   pub data-lines : stored.dataLines (stored.romAt s k) ≡ c .«num_data_pins»
   pub data-line : (n : ℕ) → n < c .«num_data_pins» → getD (stored.romAt s k .«data_lines») n 0 ≡ getD (c .«data_pin_gpios») n 0
 
@@ -102,7 +99,6 @@ pub record StoredAs (d : Description) (a : AddrLayout) (c : CsDataLayout) (s : S
   pub word-bytes : stored.wordBytes s ≡ d .«word_bytes»
   pub size : s .size ≡ tableSize d a
   pub x1 : s .x1 ≡ d .board .x1
-  -- 01 addr_layout 5: in such a set of at least 3 chips it has X2, likewise
   pub x2 : s .x2 ≡ d .board .x2
   pub addr-base : stored.addrBase s ≡ a .«gpio_base»
   pub pins : stored.storedPins s ≡ a .«num_addr_pins»

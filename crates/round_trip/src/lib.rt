@@ -7,14 +7,13 @@ use crate::stored::stored_slot;
 use addr_layout::derive_addr_layout;
 use addr_layout::layout::AddrLayout;
 use addr_layout::layout::AddrOutcome;
+use build_args::BuildArgs;
 use build_args::faults::table_size;
 use build_args::images::ImageSpan;
 use cs_data_layout::derive_cs_data_layout;
-use cs_data_layout::layout::CsDataLayout;
 use cs_data_layout::layout::CsDataOutcome;
 use cs_data_layout::layout::GivenLayout;
-use refusal::first::FirstFault;
-use rom_image::BuildAnswer;
+use refusal::Answer;
 use rom_image::build_rom_image;
 use slot::description::Description;
 use unscramble::unscramble_slot;
@@ -26,41 +25,36 @@ ghost use Rattle.build_args.specs.Faults.{tableSize};
 ghost use Rattle.rom_image.specs.Build.{buildOf};
 ghost use Rattle.cs_data_layout.specs.Search.{csDataAnswer};
 ghost use Rattle.unscramble.specs.Recovered.{readBack};
+ghost use Rattle.round_trip.specs.design.Readable.{Readable};
 ghost use Rattle.round_trip.specs.Chain.{trip, readOf, buildTrip, selectTrip, roundTripOf, AsDemanded};
 
 // Reads the table back that a build has left at the front of a buffer.
-fn read_table(
-    d: Description,
-    a: AddrLayout,
-    c: CsDataLayout,
-    table: &[u8],
-    output: &mut [u8],
-    marks: &mut [u8],
-) -> FirstFault
-    requires { ⌜ (a .«num_addr_pins» < 32) × (1 ≤ d .«word_bytes») × (d .«word_bytes» ≤ 2) × (tableSize d a ≤ 2 ^ 20) ⌝ }
-    requires { ⌜ tableSize d a ≤ length (now table) ⌝ }
-    ensures { λ r. ⌜ trip r (now (table .entry)) (now (output .exit)) (now (marks .exit)) ≡ readOf d a c (now (table .entry)) (now (output .entry)) (now (marks .entry)) ⌝ }
+fn read_table(b: BuildArgs, table: &[u8], output: &mut [u8], marks: &mut [u8]) -> Answer
+    requires { ⌜ Readable b × (tableSize (b .description) (b .addr) ≤ length (now table)) ⌝ }
+    ensures { λ r. ⌜ trip r (now (table .entry)) (now (output .exit)) (now (marks .exit))
+        ≡ readOf b (now (table .entry)) (now (output .entry)) (now (marks .entry)) ⌝ }
 {
+    let d = b.description;
+    let a = b.addr;
+    let c = b.cs_data;
     let size = table_size(d, a) as usize;
     unscramble_slot(stored_slot(d, a, c), &table[0..size], output, marks)
 }
 
 // The build by the layouts found, and read-back of its table.
 fn build_and_read(
-    d: Description,
-    a: AddrLayout,
-    c: CsDataLayout,
+    b: BuildArgs,
     images: &[u8],
-    spans: [ImageSpan; 4],
     table: &mut [u8],
     output: &mut [u8],
     marks: &mut [u8],
-) -> FirstFault
-    ensures { λ r. ⌜ trip r (now (table .exit)) (now (output .exit)) (now (marks .exit)) ≡ buildTrip d a c (now (output .entry)) (now (marks .entry)) (buildOf d a c (now (images .entry)) spans (now (table .entry))) ⌝ }
+) -> Answer
+    ensures { λ r. ⌜ trip r (now (table .exit)) (now (output .exit)) (now (marks .exit))
+        ≡ buildTrip b (now (output .entry)) (now (marks .entry)) (buildOf b (now (images .entry)) (now (table .entry))) ⌝ }
 {
-    match build_rom_image(d, a, c, images, spans, table) {
-        BuildAnswer::Refused(why) => FirstFault::Of(why),
-        BuildAnswer::Built => read_table(d, a, c, table, output, marks),
+    match build_rom_image(b, images, table) {
+        Answer::Refused(why) => Answer::Refused(why),
+        Answer::Done => read_table(b, table, output, marks),
     }
 }
 
@@ -73,7 +67,7 @@ fn select_and_build(
     table: &mut [u8],
     output: &mut [u8],
     marks: &mut [u8],
-) -> FirstFault
+) -> Answer
     ensures { λ r. ⌜ trip r (now (table .exit)) (now (output .exit)) (now (marks .exit)) ≡ selectTrip d a (now (images .entry)) spans (now (table .entry)) (now (output .entry)) (now (marks .entry)) (csDataAnswer d (record { given = true; layout = a })) ⌝ }
 {
     let found = derive_cs_data_layout(
@@ -85,9 +79,16 @@ fn select_and_build(
     );
     let outcome = found.outcome;
     match outcome {
-        CsDataOutcome::Refused(why) => FirstFault::Of(why),
+        CsDataOutcome::Refused(why) => Answer::Refused(why),
         CsDataOutcome::LaidOut => {
-            build_and_read(d, a, found.layout, images, spans, table, output, marks)
+            let c = found.layout;
+            let args = BuildArgs {
+                description: d,
+                addr: a,
+                cs_data: c,
+                spans,
+            };
+            build_and_read(args, images, table, output, marks)
         }
     }
 }
@@ -101,14 +102,14 @@ pub fn round_trip(
     table: &mut [u8],
     output: &mut [u8],
     marks: &mut [u8],
-) -> FirstFault
+) -> Answer
     ensures { λ r. ⌜ trip r (now (table .exit)) (now (output .exit)) (now (marks .exit)) ≡ roundTripOf d (now (images .entry)) spans (now (table .entry)) (now (output .entry)) (now (marks .entry)) ⌝ }
     ensures { λ r. ⌜ AsDemanded d (now (images .entry)) spans (now (table .entry)) (now (output .entry)) (now (marks .entry)) (readBack r (now (output .exit)) (now (marks .exit))) ⌝ }
 {
     let found = derive_addr_layout(d);
     let outcome = found.outcome;
     match outcome {
-        AddrOutcome::Refused(why) => FirstFault::Of(why),
+        AddrOutcome::Refused(why) => Answer::Refused(why),
         AddrOutcome::LaidOut => {
             select_and_build(d, found.layout, images, spans, table, output, marks)
         }

@@ -7,8 +7,8 @@ use gpio::candidates::Candidates;
 use gpio::candidates::Pin;
 use libc::STDOUT_FILENO;
 use lists::array::entry;
+use refusal::Answer;
 use refusal::Refusal;
-use refusal::first::FirstFault;
 use round_trip::round_trip;
 use slot::description::Board;
 use slot::description::Chip;
@@ -339,8 +339,8 @@ fn run(name: &[u8], case: Case) {
         &mut output,
         &mut marks,
     ) {
-        FirstFault::Of(why) => say_refusal(why),
-        FirstFault::None => {
+        Answer::Refused(why) => say_refusal(why),
+        Answer::Done => {
             say_verdict(
                 case,
                 chips_read(case, &images, &output) & marked(case, &marks),

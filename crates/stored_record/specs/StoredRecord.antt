@@ -82,7 +82,6 @@ storedAt b = record {
   overrides = bytesAt b 19 64;
   «num_overrides» = byteAt b 18;
   x1 = pairAt b 83;
-  -- 01 addr_layout 5: in such a set of at least 3 chips it has X2, likewise
   x2 = pairAt b 85;
   roms = romsAt b;
   «num_roms» = byteAt b 87;

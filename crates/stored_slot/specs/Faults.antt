@@ -54,7 +54,6 @@ xFault s x pin = faultIf (not (oneInside s pin)) (XPin x)
 
 -- 01 Number 22: X1 is tested first, then X2, which is needed from three ROMs on
 abbrev pub xFaults : StoredSlot → FirstFault
--- 01 Number 22: X1 is tested first, then X2, which is needed from three ROMs on
 xFaults s = orElse (xFault s 1 (s .x1)) (cond (leb 3 (s .«num_roms»)) (xFault s 2 (s .x2)) None)
 
 -- 01 Number 20: in Multi, a select algorithm other than 0, which is AlgCs0

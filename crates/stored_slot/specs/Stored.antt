@@ -41,9 +41,7 @@ storedDataBase s = s .«alg_data» .«gpio_base» + s .«alg_data» .«base_data
 abbrev pub storedSelect : StoredSlot → ℕ
 storedSelect s = s .«alg_cs» .«gpio_base» + s .«alg_cs» .«first_rom_cs_base»
 
--- 01 addr_layout 8: the pins are as many as the span, but never fewer than 8
 abbrev pub storedPins : StoredSlot → ℕ
--- 01 addr_layout 8: the pins are as many as the span, but never fewer than 8
 storedPins s = s .«alg_addr» .«num_addr_pins»
 
 -- a GPIO of n from a base
@@ -62,26 +60,19 @@ mapLines (suc n) l = cond (eqb (mapLines n l) n && not (eqb (getD l n 255) 255))
 abbrev pub addrLines : Rom → ℕ
 addrLines r = mapLines 32 (r .addr)
 
--- 01 Well wired 4: the chip has 8w data lines
 abbrev pub dataLines : Rom → ℕ
--- 01 Well wired 4: the chip has 8w data lines
 dataLines r = mapLines 32 (r .«data_lines»)
 
 abbrev pub addrPosition : StoredSlot → ℕ → ℕ → ℕ
 addrPosition s rom k = getD (romAt s rom .addr) k 0 - addrBase s
 
--- 01 rom_image 8: a data line's position is counted from the data base
 abbrev pub storedDataPosition : StoredSlot → ℕ → ℕ → ℕ
--- 01 rom_image 8: a data line's position is counted from the data base
 storedDataPosition s rom k = getD (romAt s rom .«data_lines») k 0 - storedDataBase s
 
 -- 01 Number 22: passed by a pin that has one candidate in the window, and no second one there
 abbrev pub oneInside : StoredSlot → Candidates → Bool
--- 01 Well wired 7: a candidate of the pin is in the window, and no other is
 oneInside s Absent = false
--- 01 Well wired 7: a candidate of the pin is in the window, and no other is
 oneInside s (One g) = inWindow s g
--- 01 Well wired 7: a candidate of the pin is in the window, and no other is
 oneInside s (Two g h) = (inWindow s g && not (inWindow s h)) || (inWindow s h && not (inWindow s g))
 
 abbrev pub xInside : StoredSlot → Candidates → ℕ

@@ -8,7 +8,9 @@ use native.Mathlib.Omega.{arith}
 use lib.Pow.{pow-mono}
 use lib.ListN.{length, drop, replicate, length-replicate}
 use Rattle.slot.specs.declared.description.ChipSetType.{ChipSetType}
-use Rattle.refusal.specs.First.{orElse}
+use Rattle.refusal.specs.First.{orElse, answered}
+use Rattle.refusal.specs.declared.Answer.{Answer}
+use Rattle.refusal.specs.declared.Answer.the-variants.{Done}
 use Rattle.refusal.specs.declared.first.FirstFault.{FirstFault}
 use Rattle.refusal.specs.declared.first.FirstFault.the-variants.{None}
 use Rattle.picks.specs.Picks.{chipsFit}
@@ -68,11 +70,11 @@ module _ (s : StoredSlot) (set : ChipSetType) (stored output marks : List ℕ)
   held-same (Disagrees f) = refl
   held-same (Missing f) = refl
 
-  abbrev answered : Kept Outcome → ReadBack
-  answered k = readBack (outcomeFault s (k .answer)) (k .output) (k .marks)
+  abbrev read : Kept Outcome → ReadBack
+  read k = readBack (answered (outcomeFault s (k .answer))) (k .output) (k .marks)
 
   -- 0 over all words
-  cleared : (why : FirstFault)
+  cleared : (why : Answer)
       → readBack why (replicate (words * w) 0 ++ drop (words * w) output) (replicate words 0 ++ drop words marks)
       ≡ readBack why (front (replicate (words * w) 0) output) (front (replicate words 0) marks)
   cleared why =
@@ -80,22 +82,22 @@ module _ (s : StoredSlot) (set : ChipSetType) (stored output marks : List ℕ)
       ∙ ap (λ (m : List ℕ). readBack why (front (replicate (words * w) 0) output) m) (front-long (replicate words 0) marks words (length-replicate {A = ℕ} words 0))
 
   -- by the outcome
-  by-outcome : (x : Outcome) → outcomeOf for-word says words entries ≡ x → answered (heldBy w for-word says words entries output marks x) ≡ afterEntries s set stored output marks (outcomeFault s x)
+  by-outcome : (x : Outcome) → outcomeOf for-word says words entries ≡ x → read (heldBy w for-word says words entries output marks x) ≡ afterEntries s set stored output marks (outcomeFault s x)
   by-outcome Whole e =
       let out = front-long (outputAfter w for-word says words entries) output (words * w) (output-length w for-word says words entries)
       ∙ ap (λ (x : List ℕ). front x output) (output-same s set stored fit e) in
       let told = ap (λ (x : List ℕ). x ++ drop words marks) (marks-same s set stored fit e) ∙ front-long (replicate words 1) marks words (length-replicate {A = ℕ} words 1) in
-      ap (λ (o : List ℕ). readBack None o (marksHeld for-word words entries marks)) out ∙ ap (λ (m : List ℕ). readBack None (front (recovered s set stored) output) m) told
-  by-outcome (Disagrees f) e = cleared (outcomeFault s (Disagrees f))
-  by-outcome (Missing f) e = cleared (outcomeFault s (Missing f))
+      ap (λ (o : List ℕ). readBack Done o (marksHeld for-word words entries marks)) out ∙ ap (λ (m : List ℕ). readBack Done (front (recovered s set stored) output) m) told
+  by-outcome (Disagrees f) e = cleared (answered (outcomeFault s (Disagrees f)))
+  by-outcome (Missing f) e = cleared (answered (outcomeFault s (Missing f)))
 
   pub finished : (x : Outcome) (o m : List ℕ) → kept x o m ≡ collectedOf w (wordBy (readingOf s set)) (valueBy (readingOf s set) stored) words entries output marks
-      → readBack (outcomeFault s x) o m ≡ afterEntries s set stored output marks (orElse (inconsistent s set stored) (unserved s set))
+      → readBack (answered (outcomeFault s x)) o m ≡ afterEntries s set stored output marks (orElse (inconsistent s set stored) (unserved s set))
   unfolding collectedOf
   finished x o m e =
-      ap answered e
-      ∙ ap answered (held-same (outcomeOf (wordBy (readingOf s set)) (valueBy (readingOf s set) stored) words entries))
-      ∙ ap (λ (y : Outcome). answered (heldBy w for-word says words entries output marks y)) same-outcome
+      ap read e
+      ∙ ap read (held-same (outcomeOf (wordBy (readingOf s set)) (valueBy (readingOf s set) stored) words entries))
+      ∙ ap (λ (y : Outcome). read (heldBy w for-word says words entries output marks y)) same-outcome
       ∙ by-outcome (outcomeOf for-word says words entries) refl
       ∙ ap (afterEntries s set stored output marks) (fault-same s set stored fit)
 
@@ -123,14 +125,14 @@ module _ (s : StoredSlot) (set : ChipSetType) (stored output marks : List ℕ)
   collectable r n e h = subst (λ (x : Reading). Collectable x n) (sym e) (subst (Collectable (readingOf s set)) (sym h) collectable-so)
 
   abbrev Finishes : Reading → ℕ → Type 0
-  Finishes r n = (x : Outcome) (o m : List ℕ) (why : FirstFault) → why ≡ outcomeFault s x
+  Finishes r n = (x : Outcome) (o m : List ℕ) (why : Answer) → why ≡ answered (outcomeFault s x)
       → kept x o m ≡ collectedOf (r .«word_bytes») (wordBy r) (valueBy r stored) (r .words) n output marks
       → readBack why o m ≡ afterEntries s set stored output marks (orElse (inconsistent s set stored) (unserved s set))
 
   finishes-so : Finishes (readingOf s set) (2 ^ storedPins s)
   unfolding readingOf
   finishes-so x o m why e h =
-      ap (λ (y : FirstFault). readBack y o m) e
+      ap (λ (y : Answer). readBack y o m) e
       ∙ finished s set stored output marks (fit s set stored (length output) (length marks) in-domain none) (few-roms s in-domain) data-lines x o m h
 
   pub finishes : (r : Reading) (n : ℕ) → r ≡ readingOf s set → n ≡ 2 ^ storedPins s → Finishes r n

@@ -11,6 +11,8 @@ use Rattle.slot.specs.declared.description.ChipSetType.{ChipSetType}
 use Rattle.refusal.specs.declared.Refusal.{Refusal}
 use Rattle.refusal.specs.declared.Refusal.the-variants.{OutOfDomain, WrongSize, UnknownSlotType, ShortBuffer, Inconsistent, Unserved}
 use Rattle.refusal.specs.First.{orElse, faultIf, firstOf}
+use Rattle.refusal.specs.declared.Answer.{Answer}
+use Rattle.refusal.specs.declared.Answer.the-variants.{Done, Refused}
 use Rattle.refusal.specs.declared.first.FirstFault.{FirstFault}
 use Rattle.refusal.specs.declared.first.FirstFault.the-variants.{None, Of}
 use Rattle.picks.specs.declared.Picked.{Picked}
@@ -42,7 +44,6 @@ disagreesFor s set stored i (Chip rom) = disagreesIn s set stored i rom (address
 
 -- 01 Number 23: of several entries that disagree the one of lowest index answers
 abbrev pub inconsistent : StoredSlot → ChipSetType → List ℕ → FirstFault
--- 01 Number 23: of several entries that disagree the one of lowest index answers
 inconsistent s set stored = firstOf (2 ^ storedPins s) (λ i. disagreesFor s set stored i (romPicked s set i))
 
 -- 01 Number 24: no entry is for word n of a ROM; the place is ROM and n
@@ -51,7 +52,6 @@ unservedIn s set rom n = faultIf (eqb (firstFor s set rom n (2 ^ storedPins s)) 
 
 -- 01 Number 24: the lowest ROM that misses a word answers, with the lowest word that it misses
 abbrev pub unserved : StoredSlot → ChipSetType → FirstFault
--- 01 Number 24: the lowest ROM that misses a word answers, with the lowest word that it misses
 unserved s set = firstOf (s .«num_roms») (λ rom. firstOf (romWords s rom) (unservedIn s set rom))
 
 -- the bytes of a ROM's words
@@ -60,21 +60,20 @@ romBytes s set stored rom = wordsBytes (wordBytes s) (keptValue s set stored rom
 
 -- 01 Shape 2: one output has the bytes of all ROMs, each behind the one before
 unfoldable pub recovered : StoredSlot → ChipSetType → List ℕ → List ℕ
--- 01 Shape 2: one output has the bytes of all ROMs, each behind the one before
 recovered s set stored = joined (s .«num_roms») (romBytes s set stored)
 
 -- 01 Shape 2: beside the answer stand two lent buffers, an output for all ROMs and the marks
 pub record ReadBack : Type 0 where
-  pub answer : FirstFault
+  pub answer : Answer
   pub output : List ℕ
   pub marks : List ℕ
 
-abbrev pub readBack : FirstFault → List ℕ → List ℕ → ReadBack
+abbrev pub readBack : Answer → List ℕ → List ℕ → ReadBack
 readBack a o m = record { answer = a; output = o; marks = m }
 
 -- 01 Numbers 5: a refusal before the entries leaves output and marks as they were lent
 abbrev pub readRefused : Refusal → List ℕ → List ℕ → ReadBack
-readRefused why output marks = readBack (Of why) output marks
+readRefused why output marks = readBack (Refused why) output marks
 
 -- 01 Numbers 7: new bytes stand at the front of a buffer, and those behind them stay
 abbrev pub front : List ℕ → List ℕ → List ℕ
@@ -84,15 +83,13 @@ front new old = new ++ drop (length new) old
 -- 01 Numbers 6: on success the mark of every word is 1
 abbrev pub afterEntries : StoredSlot → ChipSetType → List ℕ → List ℕ → List ℕ → FirstFault → ReadBack
 afterEntries s set stored output marks None =
-    readBack None (front (recovered s set stored) output) (front (replicate (allWords s) 1) marks)
+    readBack Done (front (recovered s set stored) output) (front (replicate (allWords s) 1) marks)
 afterEntries s set stored output marks (Of why) =
-    readBack (Of why) (front (replicate (allWords s * wordBytes s) 0) output) (front (replicate (allWords s) 0) marks)
+    readBack (Refused why) (front (replicate (allWords s * wordBytes s) 0) output) (front (replicate (allWords s) 0) marks)
 
 -- 01 Numbers 4: entries count only where no earlier test refuses
 abbrev pub readAfter : StoredSlot → ChipSetType → List ℕ → List ℕ → List ℕ → FirstFault → ReadBack
--- 01 Numbers 4: entries count only where no earlier test refuses
 readAfter s set stored output marks (Of why) = readRefused why output marks
--- 01 Numbers 4: entries count only where no earlier test refuses
 readAfter s set stored output marks None =
     afterEntries s set stored output marks (orElse (inconsistent s set stored) (unserved s set))
 
@@ -101,26 +98,19 @@ readAfter s set stored output marks None =
 -- 01 unscramble 1: the output gets every byte of a plugin
 abbrev pub pluginRead : List ℕ → List ℕ → List ℕ → ReadBack
 pluginRead stored output marks =
-    cond (ltb (length output) (length stored)) (readRefused ShortBuffer output marks) (readBack None (front stored output) marks)
+    cond (ltb (length output) (length stored)) (readRefused ShortBuffer output marks) (readBack Done (front stored output) marks)
 
 -- 01 Number 18: the slot is neither a plugin nor of a known set kind
 abbrev pub ofType : StoredSlot → List ℕ → List ℕ → List ℕ → SlotType → ReadBack
--- 01 Number 18: the slot is neither a plugin nor of a known set kind
 ofType s stored output marks Unknown = readRefused UnknownSlotType output marks
--- 01 Number 18: the slot is neither a plugin nor of a known set kind
 ofType s stored output marks Plugin = pluginRead stored output marks
--- 01 Number 18: the slot is neither a plugin nor of a known set kind
 ofType s stored output marks (Roms set) =
-    -- 01 Numbers 4: entries count only where no earlier test refuses
     readAfter s set stored output marks (romsFault s set stored (length output) (length marks))
 
 -- 01 Number 1: the slot is outside of the domain
 -- 01 Numbers 2: the domain is tested before all else
 -- 01 Numbers 4: the length (17) is tested next, before the kind is looked at, so that a plugin's 16 comes after it
 unfoldable pub unscrambled : StoredSlot → List ℕ → List ℕ → List ℕ → ReadBack
--- 01 Number 1: the slot is outside of the domain
--- 01 Numbers 2: the domain is tested before all else
--- 01 Numbers 4: the length (17) is tested next, before the kind is looked at, so that a plugin's 16 comes after it
 unscrambled s stored output marks =
     cond (storedIn s)
     (cond (wrongSize s stored) (readRefused WrongSize output marks) (ofType s stored output marks (s .«slot_type»)))

@@ -35,7 +35,5 @@ picksRom (Chip k) rom = eqb k rom
 -- whether an entry is for word n of a ROM
 -- 01 unscramble 7: an entry is for no word where a forced bit differs, no ROM is picked, or its address is too high for the ROM
 unfoldable pub serves : StoredSlot → ChipSetType → ℕ → ℕ → ℕ → Bool
--- whether an entry is for word n of a ROM
--- 01 unscramble 7: an entry is for no word where a forced bit differs, no ROM is picked, or its address is too high for the ROM
 serves s set rom n i =
     free s i && picksRom (romPicked s set i) rom && eqb (addressAt s rom i) n && ltb n (romWords s rom)

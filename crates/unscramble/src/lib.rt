@@ -7,8 +7,10 @@ mod place; // a word's ROM and address
 use crate::place::fault_of;
 use crate::reading::reading;
 use bytes::copy;
+use refusal::Answer;
 use refusal::Refusal;
 use refusal::first::FirstFault;
+use refusal::first::answered;
 use slot::description::ChipSetType;
 use stored_slot::faults::roms_fault;
 use stored_slot::in_domain::stored_in;
@@ -28,14 +30,14 @@ ghost use Rattle.stored_slot.specs.Faults.{romsFault};
 ghost use Rattle.unscramble.specs.Recovered.{readBack, pluginRead, inconsistent, unserved, afterEntries, readAfter, unscrambled};
 
 // A plugin is stored as it is.
-fn plugin(stored: &[u8], output: &mut [u8]) -> FirstFault
+fn plugin(stored: &[u8], output: &mut [u8]) -> Answer
     ensures { λ r. ⌜ ((marks : List ℕ) → readBack r (now (output .exit)) marks ≡ pluginRead (now (stored .entry)) (now (output .entry)) marks) ⌝ }
 {
     if output.len() < stored.len() {
-        return FirstFault::Of(Refusal::ShortBuffer);
+        return Answer::Refused(Refusal::ShortBuffer);
     }
     copy(stored, output);
-    FirstFault::None
+    Answer::Done
 }
 
 // The ROMs of a slot that nothing refuses before its entries are read.
@@ -45,12 +47,12 @@ fn read_entries(
     stored: &[u8],
     output: &mut [u8],
     marks: &mut [u8],
-) -> FirstFault
+) -> Answer
     requires { ⌜ (storedIn s ≡ true) × (romsFault s «set_type» (now stored) (length (now output)) (length (now marks)) ≡ None) ⌝ }
     ensures { λ r. ⌜ readBack r (now (output .exit)) (now (marks .exit)) ≡ afterEntries s «set_type» (now (stored .entry)) (now (output .entry)) (now (marks .entry)) (orElse (inconsistent s «set_type» (now (stored .entry))) (unserved s «set_type»)) ⌝ }
 {
     let outcome = collect(reading(s, set_type), stored, entries(s), output, marks);
-    fault_of(s, outcome)
+    answered(fault_of(s, outcome))
 }
 
 fn roms_read(
@@ -59,34 +61,29 @@ fn roms_read(
     stored: &[u8],
     output: &mut [u8],
     marks: &mut [u8],
-) -> FirstFault
+) -> Answer
     requires { ⌜ storedIn s ≡ true ⌝ }
     ensures { λ r. ⌜ readBack r (now (output .exit)) (now (marks .exit)) ≡ readAfter s «set_type» (now (stored .entry)) (now (output .entry)) (now (marks .entry)) (romsFault s «set_type» (now (stored .entry)) (length (now (output .entry))) (length (now (marks .entry)))) ⌝ }
 {
     match roms_fault(s, set_type, stored, output.len(), marks.len()) {
-        FirstFault::Of(why) => FirstFault::Of(why),
+        FirstFault::Of(why) => Answer::Refused(why),
         FirstFault::None => read_entries(s, set_type, stored, output, marks),
     }
 }
 
 // Reads a stored slot back: its ROMs' words, chip after chip, and a mark for each; a plugin's bytes as they are.
-pub fn unscramble_slot(
-    s: StoredSlot,
-    stored: &[u8],
-    output: &mut [u8],
-    marks: &mut [u8],
-) -> FirstFault
+pub fn unscramble_slot(s: StoredSlot, stored: &[u8], output: &mut [u8], marks: &mut [u8]) -> Answer
     ensures { λ r. ⌜ readBack r (now (output .exit)) (now (marks .exit)) ≡ unscrambled s (now (stored .entry)) (now (output .entry)) (now (marks .entry)) ⌝ }
 {
     if !stored_in(s) {
-        return FirstFault::Of(Refusal::OutOfDomain);
+        return Answer::Refused(Refusal::OutOfDomain);
     }
     if stored.len() != s.size as usize {
-        return FirstFault::Of(Refusal::WrongSize);
+        return Answer::Refused(Refusal::WrongSize);
     }
     let slot_type = s.slot_type;
     match slot_type {
-        SlotType::Unknown => FirstFault::Of(Refusal::UnknownSlotType),
+        SlotType::Unknown => Answer::Refused(Refusal::UnknownSlotType),
         SlotType::Plugin => plugin(stored, output),
         SlotType::Roms(set_type) => roms_read(s, set_type, stored, output, marks),
     }

@@ -42,7 +42,6 @@ aloneAt n b i = each (n + 2) (λ j. eqb i j || disjoint (boardPin n b i) (boardP
 
 -- 01 Well wired 2: no two of the socket's pins, X1 and X2 have a candidate in common
 unfoldable pub unsharedAmong : ℕ → Board → Bool
--- 01 Well wired 2: no two of the socket's pins, X1 and X2 have a candidate in common
 unsharedAmong n b = each (n + 2) (λ i. aloneAt n b i)
 
 abbrev pub unshared : Board → Bool
@@ -66,7 +65,6 @@ linesApart d = apart (inRange d) (λ n. addressPin d n)
 
 -- 01 Well wired 3: no address line in use shares the chip pin of the select
 abbrev pub selectApart : Description → Bool
--- 01 Well wired 3: no address line in use shares the chip pin of the select
 selectApart d = noneOn (inRange d) (λ n. addressPin d n) (selectPin d)
 
 -- 01 Well wired 4: no two data lines share a chip pin
@@ -75,7 +73,6 @@ dataApart d = apart (numData d) (λ n. dataPin d n)
 
 -- 01 Well wired 4: the chip has 8w data lines
 abbrev pub dataLinesWhole : Description → Bool
--- 01 Well wired 4: the chip has 8w data lines
 dataLinesWhole d = eqb (numData d) (8 * d .«word_bytes»)
 
 -- 01 Well wired 5: the pin of the select does not have two candidates
@@ -84,7 +81,6 @@ selectOne d = not (two (pinCandidates d (selectPin d)))
 
 -- 01 Well wired 6: the list of qualifiers is empty
 abbrev pub unqualified : Description → Bool
--- 01 Well wired 6: the list of qualifiers is empty
 unqualified d = eqb (d .«num_qualifiers») 0
 
 -- the window of the address layout
@@ -96,17 +92,14 @@ oneOf first second same = (first || second) && (not first || not second || same)
 
 -- 01 Well wired 7: a candidate of the pin is in the window, and no other is
 abbrev pub oneInAddrWindow : AddrLayout → Candidates → Bool
--- 01 Well wired 7: a candidate of the pin is in the window, and no other is
 oneInAddrWindow a Absent = false
--- 01 Well wired 7: a candidate of the pin is in the window, and no other is
 oneInAddrWindow a (One g) = inAddrWindow a g
--- 01 Well wired 7: a candidate of the pin is in the window, and no other is
 oneInAddrWindow a (Two g h) = oneOf (inAddrWindow a g) (inAddrWindow a h) (eqb g h)
 
 -- the sentences in their order
 -- 01 Well wired 3: selectApart is asked for in Multi only
 -- 01 Well wired 5: selectOne is asked for in Multi only
--- 01 Well wired 6: unqualified is asked for in Multi only
+-- 01 Well wired 6: that there are no qualifiers is asked for in Multi only
 -- 01 Well wired 7: oneInAddrWindow is asked for of X1 outside of Single, and of X2 there from three chips on
 unfoldable pub wired : Description → AddrLayout → Bool
 wired d a =

@@ -4,7 +4,7 @@ use mathlib.Core.List.{List}
 use Prim.Native.Nat.{ℕ}
 use borrow.Author.Needs.{needs}
 use Rattle.description_record.specs.Record.{decodedOf}
-use Rattle.description_record.specs.declared.Answer.the-variants.{Described}
+use Rattle.refusal.specs.declared.Answer.the-variants.{Done}
 use Rattle.description_record.specs.declared.Decoded.{Decoded}
 use Rattle.addr_layout.specs.Search.{addrAnswer}
 use Rattle.addr_layout.specs.declared.layout.AddrAnswer.{AddrAnswer}
@@ -13,7 +13,7 @@ use Rattle.onerom.proofs.Records.{taken, no-record}
 use Rattle.onerom.proofs.onerom_derive_addr_layout.Statement.{statement}
 use Rattle.onerom.proofs.onerom_derive_addr_layout.Tie as tie
 
-searched : (b buffer : List ℕ) (dec : Decoded) → dec ≡ decodedOf b → (a : AddrAnswer) → dec .answer ≡ Described
+searched : (b buffer : List ℕ) (dec : Decoded) → dec ≡ decodedOf b → (a : AddrAnswer) → dec .answer ≡ Done
     → a ≡ addrAnswer (dec .description) → addrFound a buffer ≡ addrCall b buffer
 unfolding addrCall
 searched b buffer dec e a t q =

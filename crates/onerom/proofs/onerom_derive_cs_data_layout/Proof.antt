@@ -4,7 +4,7 @@ use mathlib.Core.List.{List}
 use Prim.Native.Nat.{ℕ}
 use borrow.Author.Needs.{needs}
 use Rattle.description_record.specs.Record.{decodedOf}
-use Rattle.description_record.specs.declared.Answer.the-variants.{Described}
+use Rattle.refusal.specs.declared.Answer.the-variants.{Done}
 use Rattle.description_record.specs.declared.Decoded.{Decoded}
 use Rattle.cs_data_layout.specs.Search.{csDataAnswer}
 use Rattle.cs_data_layout.specs.declared.layout.CsDataAnswer.{CsDataAnswer}
@@ -16,7 +16,7 @@ use Rattle.onerom.proofs.onerom_derive_cs_data_layout.Statement.{statem
 use Rattle.onerom.proofs.onerom_derive_cs_data_layout.Tie as tie
 
 searched : (b l buffer : List ℕ) (dec : Decoded) → dec ≡ decodedOf b → (g : GivenLayout) (a : CsDataAnswer) → g ≡ givenAt l
-    → dec .answer ≡ Described → a ≡ csDataAnswer (dec .description) g
+    → dec .answer ≡ Done → a ≡ csDataAnswer (dec .description) g
     → csDataFound a buffer ≡ ifRecord (λ d. csDataFound (csDataAnswer d (givenAt l)) buffer) (λ why. callRefused why buffer) (decodedOf b)
 searched b l buffer dec e g a eg t q = rw (q, eg) (taken (λ d. csDataFound (csDataAnswer d (givenAt l)) buffer) (λ why. callRefused why buffer) b dec e t)
 

@@ -11,7 +11,7 @@ returns c = let x = c .before .before .before in
 
 returns-2 : tie.Need-returns-2
 returns-2 c = let k = c .before .before .before .before .before .before in
-    let t = k .before .before .before .before in
+    let t = k .before .before .before .before .before in
     let x = t .before .before in
     let s = x .before .before .before .before .before in
     select-goes (s .args .d) (s .args .a) (s .args .images .now) (s .args .spans) (s .args .table .now) (s .args .output .now) (s .args .marks .now) _ (x .derive-cs-data-layout .ensures) _ (t .enum-told .given .1) (k .build-and-read .ensures)

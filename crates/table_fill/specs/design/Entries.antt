@@ -14,28 +14,25 @@ use Rattle.table_fill.specs.declared.sources.Source.{Source}
 
 -- no more lines than there is room for
 pub record WiringIn (w : Wiring) : Type 0 where
-  -- 01 addr_layout 1: where w is 2 there is one line fewer than address pins
   pub lines : w .«num_lines» ≤ 24
   pub picks : w .«num_picks» ≤ 3
-  -- 01 Well wired 4: the chip has 8w data lines
   pub data-lines : w .«num_data» ≤ 16
   pub bytes : w .«word_bytes» ≤ 2
 
 -- what an index, or a part of one, says: the chip address, and the bits of the lines that pick
--- 01 rom_image 2: bit k of the address is the index bit at the position of line k
+-- bit k of the address is the index bit at the position of line k
 abbrev pub partOf : Wiring → ℕ → Part
 partOf w i = record {
   address = gather (w .«num_lines») (λ k. getD (w .address) k 0) i;
   picks = gather (w .«num_picks») (λ k. getD (w .picks) k 0) i;
 }
 
--- 01 rom_image 8: bit k of a word goes to the position of data line k, if that is below 8w
+-- bit k of a word goes to the position of data line k, if that is below 8w
 abbrev pub scrambledBy : Wiring → ℕ → ℕ
--- 01 rom_image 8: bit k of a word goes to the position of data line k, if that is below 8w
 scrambledBy w v = scatter (w .«num_data») (λ k. getD (w .«data_lines») k 0) (8 * w .«word_bytes») v
 
 -- where a chip's words stand in the lent bytes
--- 01 rom_image 6: where there is no chip there is no word, so that every address gives the pad
+-- where there is no chip there is no word, so that every address gives the pad
 abbrev pub noSource : Source
 noSource = record { start = 0; count = 0; mirrored = false }
 
@@ -49,7 +46,7 @@ abbrev pub SourcesIn : List ℕ → Wiring → List Source → Type 0
 SourcesIn images w sources = (bits : ℕ) → bits < 2 ^ w .«num_picks» → SourceIn images (w .«word_bytes») (getD sources bits noSource)
 
 -- the word at an address of a source
--- 01 rom_image 7: an address that is not below the count starts over, modulo the count, where the source is mirrored, and gives
+-- an address that is not below the count starts over, modulo the count, where the source is mirrored, and gives
 -- the pad where it is not
 abbrev pub rawFrom : List ℕ → ℕ → Source → ℕ → ℕ → ℕ
 rawFrom images w s pad n =
@@ -59,11 +56,10 @@ rawFrom images w s pad n =
 -- an entry by positions and sources
 unfoldable pub entryBy : Wiring → List Source → ℕ → List ℕ → ℕ → ℕ
 entryBy w sources pad images i =
-    -- 01 rom_image 8: bit k of a word goes to the position of data line k, if that is below 8w
     scrambledBy w (rawFrom images (w .«word_bytes») (getD sources (partOf w i .picks) noSource) pad (partOf w i .address))
 
 -- the first entries at the front of a buffer, low byte first
--- 01 Numbers 7: behind the entries the buffer keeps what it held
+-- behind the entries the buffer keeps what it held
 abbrev pub tableBy : Wiring → List Source → ℕ → List ℕ → ℕ → List ℕ → List ℕ
 tableBy w sources pad images entries old =
     wordsBytes (w .«word_bytes») (entryBy w sources pad images) entries ++ drop (entries * w .«word_bytes») old

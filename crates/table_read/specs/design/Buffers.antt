@@ -39,8 +39,8 @@ walkedOf t v words m =
     cond (ltb (firstBad t v words m) m) (walked.the-variants.Disagrees (t (firstBad t v words m))) walked.the-variants.Through
 
 -- what all entries leave: the words and their marks where the outcome is whole
--- 01 Numbers 5: where an entry disagrees or a word is missing, every word's bytes and mark are 0
--- 01 Numbers 7: what stood behind the words, and behind their marks, stays
+-- where an entry disagrees or a word is missing, every word's bytes and mark are 0
+-- what stood behind the words, and behind their marks, stays
 abbrev pub heldBy : ℕ → (ℕ → ℕ) → (ℕ → ℕ) → ℕ → ℕ → List ℕ → List ℕ → Outcome → Kept Outcome
 heldBy w t v words m output marks Whole = kept Whole (outputHeld w t v words m output) (marksHeld t words m marks)
 heldBy w t v words m output marks (Disagrees f) = kept (Disagrees f) (replicate (words * w) 0 ++ drop (words * w) output) (replicate words 0 ++ drop words marks)

@@ -21,9 +21,8 @@ told t f m = ltb (firstAt t f m) m
 abbrev pub markAfter : (ℕ → ℕ) → ℕ → ℕ → ℕ
 markAfter t m f = cond (told t f m) 1 0
 
--- 01 unscramble 8: a word's value is what the first entry for it says
+-- a word's value is what the first entry for it says
 abbrev pub valueAfter : (ℕ → ℕ) → (ℕ → ℕ) → ℕ → ℕ → ℕ
--- 01 unscramble 8: a word's value is what the first entry for it says
 valueAfter t v m f = cond (told t f m) (v (firstAt t f m)) 0
 
 -- of all words
@@ -33,16 +32,15 @@ marksAfter t words m = tab words (markAfter t m)
 abbrev pub outputAfter : ℕ → (ℕ → ℕ) → (ℕ → ℕ) → ℕ → ℕ → List ℕ
 outputAfter w t v words m = wordsBytes w (valueAfter t v m) words
 
--- 01 Number 23: entry i is for a word that has a value, and says another
+-- entry i is for a word that has a value, and says another
 abbrev pub disagrees : (ℕ → ℕ) → (ℕ → ℕ) → ℕ → ℕ → Bool
 disagrees t v words i = ltb (t i) words && (told t (t i) i && not (eqb (v i) (v (firstAt t (t i) i))))
 
--- 01 Number 23: of several entries that disagree the one of lowest index answers
+-- of several entries that disagree the one of lowest index answers
 abbrev pub firstBad : (ℕ → ℕ) → (ℕ → ℕ) → ℕ → ℕ → ℕ
--- 01 Number 23: of several entries that disagree the one of lowest index answers
 firstBad t v words m = firstWhere m (disagrees t v words)
 
--- 01 Number 24: the lowest word that no entry is for
+-- the lowest word that no entry is for
 abbrev pub firstMissing : (ℕ → ℕ) → ℕ → ℕ → ℕ
 firstMissing t words m = firstWhere words (λ f. not (told t f m))
 

@@ -35,7 +35,7 @@ abbrev pub extentBy : Reading → ℕ → Extent
 extentBy r i = getD (r .extents) (romBy r i) noExtent
 
 -- the word that entry i is for; the number of all words where it is for none
--- 01 unscramble 7: an entry is for no word where a forced bit differs, or its address is not below the words of the place it picks
+-- an entry is for no word where a forced bit differs, or its address is not below the words of the place it picks
 unfoldable pub wordBy : Reading → ℕ → ℕ
 wordBy r i =
     cond (eqb (bitAnd i (r .forced)) (r .«forced_high») && ltb (addressBy r i) (extentBy r i .words)) (extentBy r i .start + addressBy r i) (r .words)

@@ -1,5 +1,7 @@
 -- `read_entries` meets its contract. Assumes nothing.
+use mathlib.Core.Path.{_∙_, ap}
 use lib.ListN.{length}
+use Rattle.refusal.specs.First.{answered}
 use Rattle.unscramble.specs.design.Reading.{Readable}
 use Rattle.unscramble.proofs.Unrefused.{readable}
 use Rattle.unscramble.proofs.Finished.{collectable, finishes}
@@ -23,10 +25,11 @@ collect-requires c κs = let r = c .before .before .before in
     collectable (s .args .s) (s .args .set-type) (s .args .stored .now) (s .args .output .now) (s .args .marks .now) (s .pre .0) (s .pre .1) _ _ (r .reading .ensures) (c .before .before .entries .ensures)
 
 returns : tie.Need-returns
-returns c = let k = c .before .before .before .before .before in
+returns c = let f = c .before in
+    let k = f .before .before .before .before .before in
     let r = k .before .before .before .before in
     let s = r .before .before .before .before in
-    finishes (s .args .s) (s .args .set-type) (s .args .stored .now) (s .args .output .now) (s .args .marks .now) (s .pre .0) (s .pre .1) _ _ (r .reading .ensures) (k .before .before .before .entries .ensures) _ _ _ _ (c .fault-of .ensures) (k .collect .ensures)
+    finishes (s .args .s) (s .args .set-type) (s .args .stored .now) (s .args .output .now) (s .args .marks .now) (s .pre .0) (s .pre .1) _ _ (r .reading .ensures) (k .before .before .before .entries .ensures) _ _ _ _ (c .answered .ensures ∙ ap answered (f .fault-of .ensures)) (k .collect .ensures)
 
 pub read-entries-spec : {M : Type 1} → statement M
 read-entries-spec =
@@ -35,6 +38,7 @@ read-entries-spec =
     reading-requires
     entries-requires
     collect-requires
+    (λ c κs. search needs)
     (λ c κs. search needs)
     (λ c. search needs)
     (λ c. search needs)

@@ -18,8 +18,8 @@ wordRom s f = tally (s .«num_roms») (λ k. leb (wordsBefore s (suc k)) f)
 abbrev pub wordAddress : StoredSlot → ℕ → ℕ
 wordAddress s f = f - wordsBefore s (wordRom s f)
 
--- 01 Number 23: the place is the ROM of the word that an entry disagrees on, and its address there
--- 01 Number 24: the place is the ROM of the word that is missing, and its address there
+-- the place is the ROM of the word that an entry disagrees on, and its address there
+-- the place is the ROM of the word that is missing, and its address there
 abbrev pub outcomeFault : StoredSlot → Outcome → FirstFault
 outcomeFault s Whole = None
 outcomeFault s (Disagrees f) = Of (Inconsistent (wordRom s f) (wordAddress s f))

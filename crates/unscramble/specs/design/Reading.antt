@@ -57,13 +57,12 @@ unfoldable pub maskOf : ℕ → (ℕ → Bool) → ℕ
 maskOf zero p = 0
 maskOf (suc n) p = maskOf n p + cond (p n) (2 ^ n) 0
 
--- 01 unscramble 4: a position is high where any override forces it high, whatever others say of it
+-- a position is high where any override forces it high, whatever others say of it
 abbrev pub highAt : StoredSlot → ℕ → Bool
 highAt s p = names (s .«num_overrides») (s .overrides) 3 (addrBase s + p)
 
--- 01 unscramble 4: a position is forced where any override forces it high or low
+-- a position is forced where any override forces it high or low
 abbrev pub forcedAt : StoredSlot → ℕ → Bool
--- 01 unscramble 4: a position is forced where any override forces it high or low
 forcedAt s p = highAt s p || names (s .«num_overrides») (s .overrides) 2 (addrBase s + p)
 
 unfoldable pub readingOf : StoredSlot → ChipSetType → Reading

@@ -9,13 +9,13 @@ use Rattle.build_args.proofs.faults.build_fault.Statement.{statement}
 use Rattle.build_args.proofs.faults.build_fault.Tie as tie
 
 -- the numbers that the domain bounds
-numbers : (c : tie.Start) → (1 ≤ c .args .d .«word_bytes») × (c .args .d .«word_bytes» ≤ 2)
-numbers c = word-bytes (c .args .d) (described (c .args .d) (c .args .a) (c .args .c) (c .pre))
+numbers : (c : tie.Start) → (1 ≤ c .args .b .description .«word_bytes») × (c .args .b .description .«word_bytes» ≤ 2)
+numbers c = word-bytes (c .args .b .description) (described (c .args .b) (c .pre))
 
 too-large-requires : tie.Need-too-large-requires
 too-large-requires c κs =
-    let s = c .before in
-    let size = image-size (s .args .d) (described (s .args .d) (s .args .a) (s .args .c) (s .pre)) in
+    let s = c .before .before .before .before .before in
+    let size = image-size (s .args .b .description) (described (s .args .b) (s .pre)) in
     (size .1, numbers s .0, numbers s .1)
 
 returns : tie.Need-returns
@@ -24,12 +24,12 @@ returns c = rw (← c .before .too-large .ensures .0, c .if1 .taken)
 
 lines-fault-requires : tie.Need-lines-fault-requires
 lines-fault-requires c κs =
-    let s = c .before .before .before in
-    omega (arith, data-base (s .args .c) (selected (s .args .d) (s .args .a) (s .args .c) (s .pre)))
+    let s = c .before .before .before .before .before .before .before in
+    omega (arith, data-base (s .args .b .«cs_data») (selected (s .args .b) (s .pre)))
 
 lent-fault-requires : tie.Need-lent-fault-requires
 lent-fault-requires c κs =
-    let s = c .before .before .before .before in
+    let s = c .before .before .before .before .before .before .before .before in
     (c .before .before .too-large .ensures .1 (c .before .if1 .left), numbers s .1)
 
 returns-2 : tie.Need-returns-2

@@ -6,20 +6,16 @@ use Rattle.build_args.proofs.faults.lent_fault.Tie as tie
 returns : tie.Need-returns
 returns c =
     rw (
-      c .or-else2 .ensures,
-      c .before .or-else .ensures,
-      c .before .before .short .ensures,
-      c .before .before .before .missing .ensures,
-      c .before .before .before .before .fault-if .ensures,
-      c .before .before .before .before .before .table-size .ensures .0,
+      c .or-else .ensures,
+      c .before .images-fault .ensures,
+      c .before .before .fault-if .ensures,
+      c .before .before .before .table-size .ensures .0,
     )
 
 pub lent-fault-spec : {M : Type 1} → statement M
 lent-fault-spec =
     tie.close
     (tie.spec
-    (λ c κs. search needs)
-    (λ c κs. search needs)
     (λ c κs. search needs)
     (λ c κs. search needs)
     (λ c κs. search needs)

@@ -13,6 +13,7 @@ use Rattle.table_fill.specs.declared.sources.Source.{Source}
 use Rattle.slot.specs.declared.description.Description.{Description}
 use Rattle.addr_layout.specs.declared.layout.AddrLayout.{AddrLayout}
 use Rattle.cs_data_layout.specs.declared.layout.CsDataLayout.{CsDataLayout}
+use Rattle.build_args.specs.Args.{argsOf}
 use Rattle.build_args.proofs.Facts.{selected, data-base}
 use Rattle.build_args.specs.Faults.{entriesOf, tableSize}
 use Rattle.build_args.specs.declared.images.ImageSpan.{ImageSpan}
@@ -24,25 +25,25 @@ use Rattle.rom_image.proofs.Past.{entries-few, pins-few, table-fits, bu
 use Rattle.rom_image.proofs.table.fill.Statement.{statement}
 use Rattle.rom_image.proofs.table.fill.Tie as tie
 
-can : (s : tie.Start) → Buildable (s .args .d) (s .args .a) (s .args .c) (s .args .images .now) (s .args .spans)
-can s = buildable (s .args .d) (s .args .a) (s .args .c) (s .args .images .now) (s .args .spans) _ (s .pre .0) (s .pre .1)
+can : (s : tie.Start) → Buildable (s .args .b .description) (s .args .b .addr) (s .args .b .«cs_data») (s .args .images .now) (s .args .b .spans)
+can s = buildable (s .args .b .description) (s .args .b .addr) (s .args .b .«cs_data») (s .args .images .now) (s .args .b .spans) _ (s .pre .0) (s .pre .1)
 
 pad-word-requires : tie.Need-pad-word-requires
-pad-word-requires c κs = can (c .before .before .before) .bytes
+pad-word-requires c κs = can (c .before .before .before .before .before .before .before) .bytes
 
 wiring-requires : tie.Need-wiring-requires
 wiring-requires c κs =
-    let s = c .before .before .before .before in
-    omega (arith, data-base (s .args .c) (selected (s .args .d) (s .args .a) (s .args .c) (s .pre .0)))
+    let s = c .before .before .before .before .before .before .before .before in
+    omega (arith, data-base (s .args .b .«cs_data») (selected (s .args .b) (s .pre .0)))
 
 sources-requires : tie.Need-sources-requires
-sources-requires c κs = can (c .before .before .before .before .before) .some-bytes
+sources-requires c κs = can (c .before .before .before .before .before .before .before .before .before) .some-bytes
 
-few-pins : (s : tie.Start) → s .args .a .«num_addr_pins» < 32
-few-pins s = pins-few (s .args .d) (s .args .a) (s .args .c) (s .args .images .now) (s .args .spans) _ (s .pre .0) (s .pre .1)
+few-pins : (s : tie.Start) → s .args .b .addr .«num_addr_pins» < 32
+few-pins s = pins-few (s .args .b .description) (s .args .b .addr) (s .args .b .«cs_data») (s .args .images .now) (s .args .b .spans) _ (s .pre .0) (s .pre .1)
 
 shl-fill-by : tie.Need-shl-fill-by
-shl-fill-by c = few-pins (c .before .before .before .before .before .before .before)
+shl-fill-by c = few-pins (c .before .before .before .before .before .before .before .before .before .before .before)
 
 entries : (pins : ℕ) → pins < 32 → (1 * 2 ^ pins) % 2 ^ 32 ≡ 2 ^ pins
 entries pins h = shifted-one pins 32 (omega arith)
@@ -55,22 +56,22 @@ module _ (d : Description) (a : AddrLayout) (l : CsDataLayout) (images : List �
   unfolding wiringOf
   ready room f r = rw (ew, es, ep, en) ((wiring-in d a l images spans b, sources-in d a l images spans b, pad-lt (d .«word_bytes») padByte (omega arith)), (f, r))
 
-  done : (old new : List ℕ) → new ≡ tableBy w ss pad images n old → new ≡ tableOf d a l images spans ++ drop (tableSize d a) old
+  done : (old new : List ℕ) → new ≡ tableBy w ss pad images n old → new ≡ tableOf (argsOf d a l spans) images ++ drop (tableSize d a) old
   done old new e = rw (ew, es, ep, en, table-is d a l images spans b old) at e
 
 fill-by-requires : tie.Need-fill-by-requires
 fill-by-requires c κs =
-    let s = c .before .before .before .before .before .before .before .before in
-    ready (s .args .d) (s .args .a) (s .args .c) (s .args .images .now) (s .args .spans) (can s) _ _ _ _ (c .before .before .before .wiring .ensures) (c .before .before .sources .ensures) (c .before .before .before .before .pad-word .ensures .0)
-    (entries (s .args .a .«num_addr_pins») (few-pins s)) _
-    (entries-few (s .args .d) (s .args .a) (s .args .c) (s .args .images .now) (s .args .spans) _ (s .pre .0) (s .pre .1))
-    (table-fits (s .args .d) (s .args .a) (s .args .c) (s .args .images .now) (s .args .spans) _ (s .pre .0) (s .pre .1))
+    let s = c .before .before .before .before .before .before .before .before .before .before .before .before in
+    ready (s .args .b .description) (s .args .b .addr) (s .args .b .«cs_data») (s .args .images .now) (s .args .b .spans) (can s) _ _ _ _ (c .before .before .before .wiring .ensures) (c .before .before .sources .ensures) (c .before .before .before .before .pad-word .ensures .0)
+    (entries (s .args .b .addr .«num_addr_pins») (few-pins s)) _
+    (entries-few (s .args .b .description) (s .args .b .addr) (s .args .b .«cs_data») (s .args .images .now) (s .args .b .spans) _ (s .pre .0) (s .pre .1))
+    (table-fits (s .args .b .description) (s .args .b .addr) (s .args .b .«cs_data») (s .args .images .now) (s .args .b .spans) _ (s .pre .0) (s .pre .1))
 
 returns : tie.Need-returns
 returns c =
-    let s = c .before .before .before .before .before .before .before .before .before .before .before in
-    done (s .args .d) (s .args .a) (s .args .c) (s .args .images .now) (s .args .spans) (can s) _ _ _ _ (c .before .before .before .before .before .before .wiring .ensures) (c .before .before .before .before .before .sources .ensures) (c .before .before .before .before .before .before .before .pad-word .ensures .0)
-    (entries (s .args .a .«num_addr_pins») (few-pins s)) _ _ (c .before .before .fill-by .ensures)
+    let s = c .before .before .before .before .before .before .before .before .before .before .before .before .before .before .before in
+    done (s .args .b .description) (s .args .b .addr) (s .args .b .«cs_data») (s .args .images .now) (s .args .b .spans) (can s) _ _ _ _ (c .before .before .before .before .before .before .wiring .ensures) (c .before .before .before .before .before .sources .ensures) (c .before .before .before .before .before .before .before .pad-word .ensures .0)
+    (entries (s .args .b .addr .«num_addr_pins») (few-pins s)) _ _ (c .before .before .fill-by .ensures)
 
 pub fill-spec : {M : Type 1} → statement M
 fill-spec =

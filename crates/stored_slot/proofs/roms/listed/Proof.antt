@@ -1,4 +1,4 @@
--- `listed` meets its contract. The invariant: `n` is how many of the entries passed are mapLines. Assumes nothing.
+-- `listed` meets its contract. The invariant: `n` is how many of the entries passed are listed. Assumes nothing.
 use mathlib.Core.Path.{_≡_}
 use Prim.Native.Nat.{_≤_, _-_}
 use native.Mathlib.Omega.{arith}

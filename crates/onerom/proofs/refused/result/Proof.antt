@@ -1,7 +1,7 @@
 -- `result` meets its contract. Assumes nothing.
 use borrow.Author.Needs.{needs}
-use Rattle.onerom.proofs.build.result.Statement.{statement}
-use Rattle.onerom.proofs.build.result.Tie as tie
+use Rattle.onerom.proofs.refused.result.Statement.{statement}
+use Rattle.onerom.proofs.refused.result.Tie as tie
 
 returns : tie.Need-returns
 returns c = rw (c .enum-told .given .1)
