@@ -2,5 +2,4 @@ pub mod Lines
 pub mod Layout
 pub mod Choices
 pub mod Search
-pub mod Law
 pub mod design

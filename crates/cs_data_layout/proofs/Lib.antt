@@ -1,7 +1,2 @@
 pub mod Bounds
 pub mod Searched
-pub mod Scores
-pub mod Why
-pub mod Law
-pub mod Fields
-pub mod Sound

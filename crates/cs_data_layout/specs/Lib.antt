@@ -1,4 +1,3 @@
 pub mod Layout
 pub mod Choices
 pub mod Search
-pub mod Law

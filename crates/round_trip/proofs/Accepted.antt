@@ -24,7 +24,7 @@ use Rattle.refusal.specs.First.{orElse, faultIf}
 use Rattle.listing.specs.Choice.{CandidateOf}
 use Rattle.refusal.specs.declared.first.FirstFault.{FirstFault}
 use Rattle.refusal.specs.declared.first.FirstFault.the-variants.{None}
-use Rattle.addr_layout.specs.Law.{InWindow, SoundLayout}
+use Rattle.addr_law.specs.Law.{InWindow, SoundLayout}
 use Rattle.addr_layout.specs.declared.layout.AddrLayout.{AddrLayout}
 use Rattle.cs_data_layout.specs.declared.layout.CsDataLayout.{CsDataLayout}
 use Rattle.build_args.specs.Positions.{dataBase}

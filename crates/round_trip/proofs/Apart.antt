@@ -17,7 +17,7 @@ use Rattle.listing.specs.Choice.{CandidateOf}
 use Rattle.listing.specs.Lines.{pinSocket}
 use Rattle.addr_layout.specs.Lines.{lineSocket, offBefore}
 use Rattle.addr_layout.specs.Choices.{inRange}
-use Rattle.addr_layout.specs.Law.{InWindow, XLaid, SoundLayout}
+use Rattle.addr_law.specs.Law.{InWindow, XLaid, SoundLayout}
 use Rattle.gpio.specs.declared.line.LineGpio.{LineGpio}
 use Rattle.gpio.specs.declared.line.LineGpio.the-variants.{At}
 use Rattle.addr_layout.specs.declared.layout.AddrLayout.{AddrLayout}

@@ -17,7 +17,7 @@ use Rattle.slot.specs.declared.description.ChipSetType.{ChipSetType}
 use Rattle.slot.specs.declared.description.ChipSetType.the-variants.{Single, Banked, Multi}
 use Rattle.slot.specs.declared.description.Description.{Description}
 use Rattle.listing.specs.Choice.{CandidateOf}
-use Rattle.addr_layout.specs.Law.{InWindow, XLaid, SoundLayout}
+use Rattle.addr_law.specs.Law.{InWindow, XLaid, SoundLayout}
 use Rattle.gpio.specs.declared.line.LineGpio.{LineGpio}
 use Rattle.addr_layout.specs.declared.layout.AddrLayout.{AddrLayout}
 use Rattle.cs_data_layout.specs.declared.layout.CsDataLayout.{CsDataLayout}

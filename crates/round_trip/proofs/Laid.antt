@@ -16,8 +16,8 @@ use Rattle.addr_layout.specs.Layout as addr-layout
 use Rattle.addr_layout.specs.Lines.{addrListed}
 use Rattle.addr_layout.specs.Choices as addr-choices
 use Rattle.addr_layout.specs.Search as addr-search
-use Rattle.addr_layout.specs.Law as addr
-use Rattle.addr_layout.proofs.Sound as addr-sound
+use Rattle.addr_law.specs.Law as addr
+use Rattle.addr_law.proofs.Sound as addr-sound
 use Rattle.addr_layout.specs.declared.layout.AddrLayout.{AddrLayout}
 use Rattle.addr_layout.specs.declared.layout.AddrOutcome.{AddrOutcome}
 use Rattle.addr_layout.specs.declared.layout.AddrAnswer.{AddrAnswer}
@@ -25,9 +25,9 @@ use Rattle.cs_pins.specs.Pins.{numbered, csSearchIn}
 use Rattle.cs_data_layout.specs.Layout as cs-layout
 use Rattle.cs_data_layout.specs.Choices as cs-choices
 use Rattle.cs_data_layout.specs.Search as cs-search
-use Rattle.cs_data_layout.specs.Law as cs
-use Rattle.cs_data_layout.proofs.Law as cs-law
-use Rattle.cs_data_layout.proofs.Sound as cs-sound
+use Rattle.cs_data_law.specs.Law as cs
+use Rattle.cs_data_law.proofs.Law as cs-law
+use Rattle.cs_data_law.proofs.Sound as cs-sound
 use Rattle.cs_data_layout.specs.declared.layout.GivenLayout.{GivenLayout}
 use Rattle.cs_data_layout.specs.declared.layout.CsDataLayout.{CsDataLayout}
 use Rattle.cs_data_layout.specs.declared.layout.CsDataOutcome.{CsDataOutcome}

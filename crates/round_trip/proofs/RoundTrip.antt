@@ -28,7 +28,7 @@ use Rattle.domain.proofs.Bounds.{board-in, chip-count}
 use Rattle.refusal.specs.First.{orElse}
 use Rattle.refusal.specs.declared.first.FirstFault.{FirstFault}
 use Rattle.refusal.specs.declared.first.FirstFault.the-variants.{None, Of}
-use Rattle.addr_layout.specs.Law as addr
+use Rattle.addr_law.specs.Law as addr
 use Rattle.addr_layout.specs.declared.layout.AddrLayout.{AddrLayout}
 use Rattle.cs_data_layout.specs.declared.layout.CsDataLayout.{CsDataLayout}
 use Rattle.build_args.specs.Args.{argsOf}

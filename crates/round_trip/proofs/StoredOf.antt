@@ -13,7 +13,7 @@ use Rattle.slot.specs.declared.description.Description.{Description}
 use Rattle.domain.proofs.Bounds.{chip-count, word-bytes}
 use Rattle.gpio.specs.declared.line.LineGpio.the-variants.{At}
 use Rattle.addr_layout.specs.declared.layout.AddrLayout.{AddrLayout}
-use Rattle.cs_data_layout.specs.Law as cs
+use Rattle.cs_data_law.specs.Law as cs
 use Rattle.cs_data_layout.proofs.Bounds.{line-in}
 use Rattle.cs_data_layout.specs.declared.layout.CsDataLayout.{CsDataLayout}
 use Rattle.build_args.specs.Args.{argsOf}

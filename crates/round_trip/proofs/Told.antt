@@ -17,11 +17,11 @@ use Rattle.listing.specs.Choice.{CandidateOf}
 use Rattle.listing.specs.Lines.{kindPin, pinSocket, socketCandidates, pinCandidates}
 use Rattle.addr_layout.specs.Lines.{addrListed}
 use Rattle.addr_layout.specs.Choices.{kindCandidates, addrLayoutOf}
-use Rattle.addr_layout.specs.Law as addr
-use Rattle.addr_layout.specs.Law.Spanned.{of-select}
+use Rattle.addr_law.specs.Law as addr
+use Rattle.addr_law.specs.Law.Spanned.{of-select}
 use Rattle.gpio.specs.declared.line.LineGpio.the-variants.{At}
 use Rattle.addr_layout.specs.declared.layout.AddrLayout.{AddrLayout}
-use Rattle.cs_data_layout.specs.Law as cs
+use Rattle.cs_data_law.specs.Law as cs
 use Rattle.cs_data_layout.specs.declared.layout.CsDataLayout.{CsDataLayout}
 use Rattle.build_args.specs.Positions.{dataPosition}
 use Rattle.build_args.specs.Picks.{firstSelect}

@@ -13,7 +13,7 @@ use Rattle.listing.specs.Choice.{CandidateOf}
 use Rattle.listing.specs.Lines.{kindPin, pinCandidates}
 use Rattle.addr_layout.specs.Lines.{firstPin}
 use Rattle.addr_layout.specs.Choices.{inRange}
-use Rattle.addr_layout.specs.Law.{InWindow}
+use Rattle.addr_law.specs.Law.{InWindow}
 use Rattle.gpio.specs.declared.line.LineGpio.the-variants.{At}
 use Rattle.addr_layout.specs.declared.layout.AddrLayout.{AddrLayout}
 use Rattle.cs_data_layout.specs.Choices.{numData}

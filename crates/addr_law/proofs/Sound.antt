@@ -31,12 +31,12 @@ use Rattle.listing.specs.declared.Listed.{Listed}
 use Rattle.listing.proofs.Candidate.{candidate-at}
 use Rattle.listing.proofs.Faults.{no-fault-at}
 use Rattle.search.specs.declared.Trial.the-variants.{Misfit, Score}
 use Rattle.addr_layout.specs.Lines.{lines, lineListed, addrListed}
 use Rattle.addr_layout.specs.Choices.{reach, inRange, widenedFirst, kindCandidates, selectSpan, fixedSpan, spanned, spanUpTo, choiceSpan, spanWidth, paddedPins, spanTrial, addrTrial, addrLayoutOf}
-use Rattle.addr_layout.specs.Law.{FirstOf, PastTests, Spanned, of-pin, of-select, of-commoned, InWindow, XLaid, SoundLayout, Sound}
+use Rattle.addr_law.specs.Law.{FirstOf, PastTests, Spanned, of-pin, of-select, of-commoned, InWindow, XLaid, SoundLayout, Sound}
 use Rattle.gpio.specs.declared.line.LineGpio.{LineGpio}
 use Rattle.gpio.specs.declared.line.LineGpio.the-variants.{At}
 use Rattle.addr_layout.specs.declared.layout.AddrLayout.{AddrLayout}
 
 -- a GPIO within a span
 abbrev Within : Span → ℕ → Type 0

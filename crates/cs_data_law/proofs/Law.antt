@@ -24,15 +24,15 @@ use Rattle.cs_choices.specs.Verdict.{verdictTrial}
 use Rattle.cs_choices.specs.Nothing.{interior, lastRefused}
 use Rattle.cs_choices.specs.declared.verdict.Verdict.{Verdict}
 use Rattle.cs_choices.specs.declared.verdict.Verdict.the-variants.{DataGap, SelectGap, OutsideWindow, Fits}
 use Rattle.cs_data_layout.specs.Layout.{csDataRefused, handed}
 use Rattle.cs_data_layout.specs.Choices.{numData, qualifierSet, ignoredSet}
 use Rattle.cs_data_layout.specs.Search.{csBest, orNoLayout, noneFits, csDataAnswerOf, csDataAnswer}
-use Rattle.cs_data_layout.specs.Law.{PastTests, choices, verdictAt, LaidOutBest, NoneFits, selectSetAt, preferenceAt, allAt, totalSpan, NoWorse, BestOrdered, seenIn, Sees, FirstSeen, LastRefused, NoneSeen, NoneRefused, WhyNone, eight, seven, nine}
+use Rattle.cs_data_law.specs.Law.{PastTests, choices, verdictAt, LaidOutBest, NoneFits, selectSetAt, preferenceAt, allAt, totalSpan, NoWorse, BestOrdered, seenIn, Sees, FirstSeen, LastRefused, NoneSeen, NoneRefused, WhyNone, eight, seven, nine}
 use Rattle.cs_data_layout.specs.declared.layout.GivenLayout.{GivenLayout}
 use Rattle.cs_data_layout.specs.declared.layout.CsDataOutcome.the-variants.{LaidOut, Refused}
 use Rattle.cs_data_layout.specs.declared.layout.CsDataAnswer.{CsDataAnswer}
-use Rattle.cs_data_layout.proofs.Scores.{fits-only, width-most, score-order, order-score}
-use Rattle.cs_data_layout.proofs.Why.{first-is, FirstIs, last-is, LastIs}
+use Rattle.cs_data_law.proofs.Scores.{fits-only, width-most, score-order, order-score}
+use Rattle.cs_data_law.proofs.Why.{first-is, FirstIs, last-is, LastIs}
 
 -- a choice has a score exactly if it fits
 fits-scores : (v : Verdict) (t : ℕ) → v ≡ Fits t → verdictTrial v ≡ Score t

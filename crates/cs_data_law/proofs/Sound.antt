@@ -18,13 +18,13 @@ use Rattle.cs_pins.specs.Pins.{dataListed, activeListed, kindListed, selectList
 use Rattle.cs_pins.specs.Checked.{orNoActive, ignoredListed, multiChecked, checked}
 use Rattle.cs_choices.specs.Sets.{dataSet}
 use Rattle.cs_choices.specs.declared.verdict.Verdict.the-variants.{Fits}
 use Rattle.cs_data_layout.specs.Layout.{handed}
 use Rattle.cs_data_layout.specs.Choices.{numData, qualifierSet}
 use Rattle.cs_data_layout.specs.Search.{missingLayout, romTooLarge, earlier}
-use Rattle.cs_data_layout.specs.Law.{PastTests, verdictAt, selectSetAt, Sound}
+use Rattle.cs_data_law.specs.Law.{PastTests, verdictAt, selectSetAt, Sound}
 use Rattle.cs_data_layout.specs.declared.layout.GivenLayout.{GivenLayout}
-use Rattle.cs_data_layout.proofs.Scores.{fits-only}
-use Rattle.cs_data_layout.proofs.Fields.{sound-layout}
+use Rattle.cs_data_law.proofs.Scores.{fits-only}
+use Rattle.cs_data_law.proofs.Fields.{sound-layout}
 
 -- the pins of a list that must not be empty
 active-none : (ls : List Listed) → firstFault (orNoActive ls) ≡ None → firstFault ls ≡ None

@@ -10,12 +10,12 @@ use Rattle.search.specs.declared.Trial.the-variants.{Score}
 use Rattle.search.specs.declared.Found.{Found}
 use Rattle.search.specs.declared.Found.the-variants.{Nothing, At}
 use Rattle.search.proofs.Law.{best-right}
 use Rattle.addr_layout.specs.Layout.{addrRefused}
 use Rattle.addr_layout.specs.Choices.{addrTrial}
 use Rattle.addr_layout.specs.Search.{addrBest, addrAnswerOf, addrAnswer}
-use Rattle.addr_layout.specs.Law.{PastTests, choices, LaidOutBest}
+use Rattle.addr_law.specs.Law.{PastTests, choices, LaidOutBest}
 use Rattle.addr_layout.specs.declared.layout.AddrOutcome.the-variants.{LaidOut, Refused}
 use Rattle.addr_layout.specs.declared.layout.AddrAnswer.{AddrAnswer}
 
 module _ (d : Description) (past : PastTests d) where
   searched : addrAnswer d ≡ addrAnswerOf d (addrBest d)

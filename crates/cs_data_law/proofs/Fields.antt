@@ -30,15 +30,15 @@ use Rattle.cs_pins.proofs.InDomain.{numbered-in}
 use Rattle.cs_pins.proofs.Counts.{few-roles, numbered-length, data-pin, select-pin, kind-on}
 use Rattle.cs_choices.specs.Sets.{dataSet}
 use Rattle.cs_choices.specs.Verdict.{baseOf, inOneWindow}
 use Rattle.cs_data_layout.specs.Layout.{line, handed}
 use Rattle.cs_data_layout.specs.Choices.{numData, numCommoned, excessGpio, excessSet, qualifierSet, selectLine, commonedLine, csDataLayoutOf}
 use Rattle.cs_data_layout.specs.Search.{givenIn}
-use Rattle.cs_data_layout.specs.Law.{PastTests, selectSetAt, allAt, dataGpio, selectGpio, commonedGpio, SoundLayout}
+use Rattle.cs_data_law.specs.Law.{PastTests, selectSetAt, allAt, dataGpio, selectGpio, commonedGpio, SoundLayout}
 use Rattle.cs_data_layout.specs.declared.layout.GivenLayout.{GivenLayout}
 use Rattle.cs_data_layout.specs.declared.layout.SelectLine.{SelectLine}
 use Rattle.cs_data_layout.specs.declared.layout.CsDataLayout.{CsDataLayout}
 use Rattle.cs_data_layout.proofs.Bounds.{described, few-lines, excess-in, qualifier-line-in}
 use Rattle.cs_data_layout.proofs.Searched.{handed-in, qualifiers-in}
 
 -- a window's base is 0 or 16, and no higher than what it is taken over
 base-over : (x : ℕ) (t : Bool) → ltb x 16 ≡ t → (_≡_ {A = ℕ} (cond t 0 16) 0 ⊎ _≡_ {A = ℕ} (cond t 0 16) 16) × (cond t 0 16 ≤ x)

@@ -1,0 +1,5 @@
+pub mod Scores
+pub mod Why
+pub mod Law
+pub mod Fields
+pub mod Sound
