@@ -11,7 +11,7 @@ use Rattle.search.specs.declared.Found.{Found}
 use Rattle.search.specs.declared.Found.the-variants.{Nothing, At}
 use Rattle.search.proofs.Law.{best-right}
 use Rattle.addr_layout.specs.Layout.{addrRefused}
-use Rattle.addr_layout.specs.Choices.{addrTrial}
+use Rattle.addr_choices.specs.Choices.{addrTrial}
 use Rattle.addr_layout.specs.Search.{addrBest, addrAnswerOf, addrAnswer}
 use Rattle.addr_law.specs.Law.{PastTests, choices, LaidOutBest}
 use Rattle.addr_layout.specs.declared.layout.AddrOutcome.the-variants.{LaidOut, Refused}

@@ -12,8 +12,10 @@ use Rattle.listing.specs.Listing.{twos, firstFault}
 use Rattle.listing.specs.Choice.{CandidateOf, pinAt, gpioAt}
 use Rattle.refusal.specs.declared.first.FirstFault.the-variants.{None}
 use Rattle.search.specs.Law.{Best}
-use Rattle.addr_layout.specs.Lines.{lines, lineListed, addrListed}
-use Rattle.addr_layout.specs.Choices.{inRange, kindCandidates, spanned, addrTrial, addrLayoutOf}
+use Rattle.addr_lines.specs.Lines.{lines, lineListed, addrListed}
+use Rattle.addr_lines.specs.Range.{inRange}
+use Rattle.addr_choices.specs.Choices.{kindCandidates, spanned, addrTrial}
+use Rattle.addr_layout.specs.Layouts.{addrLayoutOf}
 use Rattle.addr_layout.specs.Search.{addrSearchIn, addrAnswer}
 use Rattle.gpio.specs.declared.line.LineGpio.{LineGpio}
 use Rattle.gpio.specs.declared.line.LineGpio.the-variants.{At}

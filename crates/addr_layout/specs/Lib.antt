@@ -1,5 +1,3 @@
-pub mod Lines
 pub mod Layout
-pub mod Choices
+pub mod Layouts
 pub mod Search
-pub mod design

@@ -11,9 +11,10 @@ use Rattle.refusal.specs.declared.first.FirstFault.the-variants.{None, Of}
 use Rattle.search.specs.Search.{best}
 use Rattle.search.specs.declared.Found.{Found}
 use Rattle.search.specs.declared.Found.the-variants.{Nothing, At}
-use Rattle.addr_layout.specs.Lines.{addrListed}
+use Rattle.addr_lines.specs.Lines.{addrListed}
 use Rattle.addr_layout.specs.Layout.{addrRefused}
-use Rattle.addr_layout.specs.Choices.{addrTrial, addrLayoutOf}
+use Rattle.addr_choices.specs.Choices.{addrTrial}
+use Rattle.addr_layout.specs.Layouts.{addrLayoutOf}
 use Rattle.addr_layout.specs.declared.layout.AddrOutcome.the-variants.{LaidOut}
 use Rattle.addr_layout.specs.declared.layout.AddrAnswer.{AddrAnswer}
 

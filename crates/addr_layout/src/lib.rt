@@ -1,9 +1,9 @@
 // The address search: which GPIOs the address lines of a slot take, so that one PIO window holds them and the table that
 // they index is the smallest.
 pub mod layout; // the layout, and the search's answer
-pub mod lines; // the pins that the search lists, in order
-pub mod choices; // the score of a choice, and the best
+mod layouts; // the layout that a choice makes
 
+use addr_choices::best;
 use domain::description::description_in;
 use layout::AddrAnswer;
 use layout::refused;
@@ -21,16 +21,16 @@ pub fn derive_addr_layout(d: Description) -> AddrAnswer
     if !description_in(d) {
         return refused(Refusal::OutOfDomain);
     }
-    let l = lines::list(d);
+    let l = addr_lines::list(d);
     let bits = listing::choice_bits(l);
     if 16 < bits {
         return refused(Refusal::OutOfDomain);
     }
     match listing::first_fault(l) {
         FirstFault::Of(fault) => refused(fault),
-        FirstFault::None => match choices::best(d, l, bits) {
+        FirstFault::None => match best(d, l, bits) {
             Found::Nothing => refused(Refusal::NoValidLayout),
-            Found::At(choice, score) => choices::laid_out(d, l, choice, score),
+            Found::At(choice, score) => layouts::laid_out(d, l, choice, score),
         },
     }
 }

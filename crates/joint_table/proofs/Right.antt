@@ -11,9 +11,10 @@ use Rattle.search.specs.Search.{best}
 use Rattle.listing.specs.Listing.{twos, faultFrom}
 use Rattle.listing.specs.Choice.{restAt, gpioAt}
 use Rattle.listing.specs.Lines.{pinCandidates}
-use Rattle.addr_layout.specs.Lines.{lineSocket, lineListed, addrListed}
+use Rattle.addr_lines.specs.Lines.{lineSocket, lineListed, addrListed}
 use Rattle.addr_layout.specs.Layout.{layoutIn}
-use Rattle.addr_layout.specs.Choices.{reach, fixedSpan, spanUpTo, spanTrial}
+use Rattle.addr_lines.specs.Range.{reach}
+use Rattle.addr_choices.specs.Choices.{fixedSpan, spanUpTo, spanTrial}
 use Rattle.addr_layout.specs.Search.{addrBest}
 use Rattle.cs_pins.specs.Pins.{pinListed, dataListed, activeListed, selectListed, commonedListed, numbered, csSearchIn}
 use Rattle.cs_pins.specs.Checked.{orNoActive, checked}

@@ -15,8 +15,8 @@ use Rattle.slot.specs.declared.slot_context.Socket.{Socket}
 use Rattle.slot.specs.declared.slot_context.Socket.the-variants.{On, Off}
 use Rattle.listing.specs.Choice.{CandidateOf}
 use Rattle.listing.specs.Lines.{pinSocket}
-use Rattle.addr_layout.specs.Lines.{lineSocket, offBefore}
-use Rattle.addr_layout.specs.Choices.{inRange}
+use Rattle.addr_lines.specs.Lines.{lineSocket, offBefore}
+use Rattle.addr_lines.specs.Range.{inRange}
 use Rattle.addr_law.specs.Law.{InWindow, XLaid, SoundLayout}
 use Rattle.gpio.specs.declared.line.LineGpio.{LineGpio}
 use Rattle.gpio.specs.declared.line.LineGpio.the-variants.{At}

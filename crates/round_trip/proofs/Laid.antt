@@ -13,8 +13,9 @@ use Rattle.search.specs.declared.Found.{Found}
 use Rattle.search.specs.declared.Found.the-variants.{Nothing, At}
 use Rattle.search.proofs.Law.{found-best}
 use Rattle.addr_layout.specs.Layout as addr-layout
-use Rattle.addr_layout.specs.Lines.{addrListed}
-use Rattle.addr_layout.specs.Choices as addr-choices
+use Rattle.addr_lines.specs.Lines.{addrListed}
+use Rattle.addr_choices.specs.Choices as addr-choices
+use Rattle.addr_layout.specs.Layouts as addr-layouts
 use Rattle.addr_layout.specs.Search as addr-search
 use Rattle.addr_law.specs.Law as addr
 use Rattle.addr_law.proofs.Sound as addr-sound
@@ -49,7 +50,7 @@ refused-not-laid why l e = let z : _≡_ {A = ℕ} 0 1 = ap (λ (r : AddrAnswer)
 pub record Found-at (d : Description) (l : AddrLayout) : Type 0 where
   pub choice : ℕ
   pub sound : addr.Sound d choice
-  pub is : l ≡ addr-choices.addrLayoutOf d (addrListed d) choice
+  pub is : l ≡ addr-layouts.addrLayoutOf d (addrListed d) choice
 
 module _ (d : Description) (l : AddrLayout) where
   by-found : addr.PastTests d → (f : Found) → addr-search.addrBest d ≡ f → addr-search.addrAnswerOf d f ≡ laidOut l → Found-at d l

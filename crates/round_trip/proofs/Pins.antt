@@ -20,7 +20,7 @@ use Rattle.slot.specs.declared.slot_context.Socket.the-variants.{On, Off}
 use Rattle.listing.specs.Listing.{listed, xListed}
 use Rattle.listing.specs.Choice.{CandidateOf}
 use Rattle.listing.specs.Lines.{pinSocket}
-use Rattle.addr_layout.specs.Lines.{lineSocket, isOff, offBefore, flyLead, atSocket, lineListed}
+use Rattle.addr_lines.specs.Lines.{lineSocket, isOff, offBefore, flyLead, atSocket, lineListed}
 use Rattle.round_trip.specs.WellWired.{BoardPin, candidatesOf, addressPin}
 use Rattle.round_trip.specs.WellWired.BoardPin.{socket, x1, x2}
 

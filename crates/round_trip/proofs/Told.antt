@@ -15,8 +15,9 @@ use Rattle.slot.specs.declared.slot_context.Socket.{Socket}
 use Rattle.slot.specs.declared.slot_context.Socket.the-variants.{On, Off}
 use Rattle.listing.specs.Choice.{CandidateOf}
 use Rattle.listing.specs.Lines.{kindPin, pinSocket, socketCandidates, pinCandidates}
-use Rattle.addr_layout.specs.Lines.{addrListed}
-use Rattle.addr_layout.specs.Choices.{kindCandidates, addrLayoutOf}
+use Rattle.addr_lines.specs.Lines.{addrListed}
+use Rattle.addr_choices.specs.Choices.{kindCandidates}
+use Rattle.addr_layout.specs.Layouts.{addrLayoutOf}
 use Rattle.addr_law.specs.Law as addr
 use Rattle.addr_law.specs.Law.Spanned.{of-select}
 use Rattle.gpio.specs.declared.line.LineGpio.the-variants.{At}

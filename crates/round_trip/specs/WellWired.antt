@@ -11,8 +11,8 @@ use Rattle.slot.specs.declared.description.Description.{Description}
 use Rattle.listing.specs.Listing.{candidatesAt}
 use Rattle.listing.specs.Choice.{CandidateOf}
 use Rattle.listing.specs.Lines.{kindPin, pinCandidates}
-use Rattle.addr_layout.specs.Lines.{firstPin}
-use Rattle.addr_layout.specs.Choices.{inRange}
+use Rattle.addr_lines.specs.Lines.{firstPin}
+use Rattle.addr_lines.specs.Range.{inRange}
 use Rattle.addr_law.specs.Law.{InWindow}
 use Rattle.gpio.specs.declared.line.LineGpio.the-variants.{At}
 use Rattle.addr_layout.specs.declared.layout.AddrLayout.{AddrLayout}

@@ -11,7 +11,7 @@ use Rattle.slot.specs.Description.{isSingle, isMulti}
 use Rattle.slot.specs.declared.description.Board.{Board}
 use Rattle.slot.specs.declared.description.Description.{Description}
 use Rattle.listing.specs.Lines.{pinCandidates}
-use Rattle.addr_layout.specs.Choices.{inRange}
+use Rattle.addr_lines.specs.Range.{inRange}
 use Rattle.addr_layout.specs.declared.layout.AddrLayout.{AddrLayout}
 use Rattle.cs_data_layout.specs.Choices.{numData}
 use Rattle.round_trip.specs.WellWired.{BoardPin, candidatesOf, addressPin, dataPin, selectPin}

@@ -6,9 +6,9 @@ mod apart; // lines on different pins
 use crate::apart::apart;
 use crate::apart::none_on;
 use crate::board::unshared;
-use addr_layout::choices::in_range;
 use addr_layout::layout::AddrLayout;
-use addr_layout::lines::first_pin;
+use addr_lines::first_pin;
+use addr_lines::range::in_range;
 use gpio::candidates::Candidates;
 use listing::lines::kind_pin;
 use listing::lines::pin_candidates;

@@ -19,9 +19,11 @@ use Rattle.search.specs.Search.{best}
 use Rattle.search.specs.declared.Trial.{Trial}
 use Rattle.search.specs.declared.Found.{Found}
 use Rattle.search.proofs.Law.{found-best}
-use Rattle.addr_layout.specs.Lines.{lines, addrListed}
+use Rattle.addr_lines.specs.Lines.{lines, addrListed}
 use Rattle.addr_layout.specs.Layout.{addrRefused}
-use Rattle.addr_layout.specs.Choices.{inRange, fixedSpan, choiceSpan, spanTrial, addrLayoutOf}
+use Rattle.addr_lines.specs.Range.{inRange}
+use Rattle.addr_choices.specs.Choices.{fixedSpan, choiceSpan, spanTrial}
+use Rattle.addr_layout.specs.Layouts.{addrLayoutOf}
 use Rattle.addr_layout.specs.Search.{addrBest, addrAnswerOf, afterFaults, addrAnswer}
 use Rattle.addr_layout.specs.declared.layout.AddrOutcome.the-variants.{LaidOut}
 use Rattle.addr_layout.specs.declared.layout.AddrAnswer.{AddrAnswer}

@@ -1,0 +1,35 @@
+-- `best_in_row` meets its contract. The loop's invariant: `found` is the best of what was found before and of the choices passed. Assumes nothing.
+use mathlib.Core.Path.{_≡_, refl, _∙_}
+use Prim.Native.Nat.{_≤_, _-_}
+use native.Mathlib.Omega.{arith}
+use lib.ListN.{length, getD}
+use Rattle.gpio.specs.design.Span.{spansJoined}
+use Rattle.search.specs.design.Rows.{bestOnward}
+use Rattle.search.proofs.Rows.{onward-turn, onward-done}
+use Rattle.addr_choices.specs.Choices.{spanTrial}
+use Rattle.addr_choices.specs.design.Parts.{pastSpans}
+use borrow.Author.Needs.{needs}
+use Rattle.addr_choices.proofs.best_in_row.Statement.{statement}
+use Rattle.addr_choices.proofs.best_in_row.Tie as tie
+
+abbrev Inv-loop : tie.InvT-loop
+Inv-loop high first len lows found₀ q₀ found q =
+    (q ≤ len) × (length lows ≡ 64) × (found ≡ bestOnward found₀ (λ j. spanTrial (spansJoined (getD lows j pastSpans) high)) first q)
+
+abbrev μ-loop : tie.MeasureT-loop
+μ-loop high first len lows found₀ q₀ found q = len - q
+
+loop-holds : tie.Need-loop-holds Inv-loop μ-loop
+unfolding bestOnward
+loop-holds c = (omega arith, search needs, refl)
+
+loop-again : tie.Need-loop-again Inv-loop μ-loop
+loop-again c =
+    let v = c .before .before .before .before .before .loop in
+    (omega arith, v .inv .1, onward-turn _ _ _ _ _ _ _ (v .inv .2) (c .before .trial .ensures ∙ rw (c .before .before .join .ensures)) (c .better .ensures))
+
+returns : tie.Need-returns Inv-loop μ-loop
+returns c = let v = c .before .loop in onward-done _ _ _ _ _ _ (omega arith) (v .inv .2)
+
+pub best-in-row-spec : {M : Type 1} → statement M
+best-in-row-spec = tie.close (tie.spec Inv-loop μ-loop loop-holds (λ c. search needs) (λ c. search needs) (λ c. search needs) (λ c. search needs) (λ c κs. search needs) (λ c κs. search needs) (λ c κs. search needs) (λ c. search needs) (λ c. search needs) loop-again returns)

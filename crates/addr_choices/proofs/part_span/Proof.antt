@@ -1,0 +1,71 @@
+-- `part_span` meets its contract. The loop's invariant: `rest` is what the pins passed left of the choice, `bit` the next pin's bit, and `s` spans those that count. Assumes nothing.
+use mathlib.Core.Path.{_≡_, refl}
+use mathlib.Core.Bool.{Bool, _&&_, cond}
+use mathlib.Core.List.{List}
+use Prim.Native.Nat.{ℕ, _+_, _≤_, _<_, _-_}
+use native.Mathlib.Numerals.{add-one}
+use native.Mathlib.Omega.{arith}
+use lib.ListN.{length, take, length-take}
+use Rattle.gpio.specs.Span.{widened}
+use Rattle.gpio.specs.declared.candidates.Candidates.{Candidates}
+use Rattle.gpio.specs.declared.span.Span.{Span}
+use Rattle.lists.proofs.Lists.{mapped-length}
+use Rattle.listing.specs.Listing.{listOf}
+use Rattle.listing.specs.Choice.{chosen, leftBy, pinAt, restAt, gpioAt, bitOf}
+use Rattle.listing.specs.design.Parts.{inPart}
+use Rattle.lists.proofs.Each.{tally-none}
+use Rattle.listing.proofs.Walked.{pin-taken, rest-left, bit-served}
+use Rattle.listing.specs.declared.Listed.{Listed}
+use Rattle.listing.specs.declared.choice.Picked.{Picked}
+use Rattle.addr_choices.specs.Choices.{spanned}
+use Rattle.addr_choices.specs.design.Parts.{spanPartAt}
+use borrow.Author.Needs.{needs}
+use Rattle.addr_choices.proofs.part_span.Statement.{statement}
+use Rattle.addr_choices.proofs.part_span.Tie as tie
+
+wider : (ls : List Listed) (u n split c k r t : ℕ) (low : Bool) (fixed s s' : Span) (g : Candidates) (p : Picked) (b : Bool) → r ≡ restAt ls c k → t ≡ bitOf ls k → g ≡ pinAt ls k
+    → p ≡ record { gpio = chosen g r; rest = leftBy g r } → b ≡ inPart low split t → s ≡ spanPartAt ls u n fixed low split c k → s' ≡ cond (spanned u n k && b) (widened s (p .gpio)) s
+    → s' ≡ spanPartAt ls u n fixed low split c (k + 1)
+unfolding spanPartAt gpioAt
+wider ls u n split c k r t low fixed s s' g p b e f h i j m o = rw (o, j, i, h, e, f, m, add-one)
+
+done : (ls : List Listed) (u n split c k m : ℕ) (low : Bool) (fixed s : Span) → k ≡ m → s ≡ spanPartAt ls u n fixed low split c k → s ≡ spanPartAt ls u n fixed low split c m
+done ls u n split c k m low fixed s e h = rw e at h
+
+abbrev Inv-loop : tie.InvT-loop
+Inv-loop in-range lines low split choice pins count s₀ rest₀ bit₀ k₀ s rest bit k =
+    (k ≤ count) × (count ≤ 30) × (bit ≤ k) × (length pins ≡ 30) × (rest ≡ restAt (take count pins) choice k)
+    × (bit ≡ bitOf (take count pins) k) × (s ≡ spanPartAt (take count pins) in-range lines s₀ low split choice k)
+
+abbrev μ-loop : tie.MeasureT-loop
+μ-loop in-range lines low split choice pins count s₀ rest₀ bit₀ k₀ s rest bit k = count - k
+
+loop-holds : tie.Need-loop-holds Inv-loop μ-loop
+unfolding restAt spanPartAt
+loop-holds c = (omega arith, omega arith, omega arith, search (mapped-length, needs), refl, tally-none _, refl)
+
+loop-again : tie.Need-loop-again Inv-loop μ-loop
+loop-again c =
+    let a = c .before .before .before .before .before .before .before .before .args in
+    let v = c .before .before .before .before .before .before .loop in
+    let pick = c .before .before .before .pick .ensures in
+    let h : v .k < a .l .count = omega arith in
+    let g = pin-taken (a .l .pins) (a .l .count) (v .k) h in (
+      omega arith,
+      omega arith,
+      omega arith,
+      v .inv .3,
+      rest-left _ _ _ _ _ _ (v .inv .4) g pick,
+      bit-served (listOf (a .l)) (v .k) _ _ _ (v .inv .5) g (c .bits .ensures .0),
+      wider _ _ _ _ _ _ _ _ _ _ _ _ _ _ _ (v .inv .4) (v .inv .5) g pick (c .before .before .in-part .ensures) (v .inv .6) (c .before .widen-if .ensures),
+    )
+
+returns : tie.Need-returns Inv-loop μ-loop
+returns c =
+    let a = c .before .before .before .args in
+    let v = c .before .loop in
+    let e : v .k ≡ length (listOf (a .l)) = simp length-take (omega arith) in
+    done (listOf (a .l)) (a .in-range) (a .lines) (a .split) (a .choice) (v .k) (length (listOf (a .l))) (a .low) (a .fixed) (v .s) e (v .inv .6)
+
+pub part-span-spec : {M : Type 1} → statement M
+part-span-spec = tie.close (tie.spec Inv-loop μ-loop loop-holds (λ c. search needs) (λ c. search needs) (λ c κs. search needs) (λ c κs. search needs) (λ c κs. search needs) (λ c κs. search needs) (λ c. search needs) (λ c. search needs) (λ c. search needs) loop-again returns)

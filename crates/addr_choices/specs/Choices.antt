@@ -1,0 +1,70 @@
+-- addr_layout.rs: what a choice spans, and its score. Assumes nothing.
+use Prim.Native.Nat.{ℕ, zero, suc, _+_, _-_, _*_}
+use mathlib.Core.Bool.{Bool, _||_, cond}
+use mathlib.Core.List.{List}
+use lib.Dec.{leb, ltb, eqb}
+use lib.ListN.{length, getD}
+use Rattle.gpio.specs.Window.{fits}
+use Rattle.gpio.specs.Span.{empty, widened}
+use Rattle.gpio.specs.declared.candidates.Candidates.{Candidates}
+use Rattle.gpio.specs.declared.candidates.Candidates.the-variants.{Absent, One, Two}
+use Rattle.gpio.specs.declared.span.Span.{Span}
+use Rattle.slot.specs.Description.{isMulti}
+use Rattle.slot.specs.declared.description.Description.{Description}
+use Rattle.listing.specs.Choice.{gpioAt}
+use Rattle.listing.specs.Lines.{kindPin, pinCandidates}
+use Rattle.listing.specs.declared.Listed.{Listed}
+use Rattle.search.specs.declared.Trial.{Trial}
+use Rattle.search.specs.declared.Trial.the-variants.{Misfit, Score}
+use Rattle.addr_lines.specs.Lines.{lines, addrListed}
+use Rattle.addr_lines.specs.Range.{inRange}
+
+-- 01 addr_layout 8: a select or commoned line widens the span by its first candidate, or not at all if it has none
+abbrev pub widenedFirst : Span → Candidates → Span
+widenedFirst s Absent = s
+widenedFirst s (One g) = widened s g
+widenedFirst s (Two g h) = widened s g
+
+-- 01 addr_layout 8: a line that chip 0 lacks has no candidates, nor has one whose pin is off the socket
+abbrev pub kindCandidates : Description → ℕ → Candidates
+kindCandidates d kind = cond (eqb (kindPin d kind) 0) Absent (pinCandidates d (kindPin d kind))
+
+-- 01 addr_layout 8: the span of the select line and of the first k commoned lines
+unfoldable pub selectSpan : Description → ℕ → Span
+selectSpan d zero = widenedFirst empty (kindCandidates d (d .multi .select))
+selectSpan d (suc k) = widenedFirst (selectSpan d k) (kindCandidates d (getD (d .multi .commoned) k 0))
+
+-- 01 addr_layout 8: select and commoned lines are spanned in Multi only
+unfoldable pub fixedSpan : Description → Span
+fixedSpan d = cond (isMulti (d .«set_type»)) (selectSpan d (d .multi .«num_commoned»)) empty
+
+-- 01 addr_layout 8: of n lines the first r are in range and are spanned, as are the X pins behind the n; excess lines are not
+abbrev pub spanned : ℕ → ℕ → ℕ → Bool
+spanned r n k = ltb k r || leb n k
+
+-- the GPIOs that a choice spans, the first k listed pins passed
+unfoldable pub spanUpTo : List Listed → ℕ → ℕ → Span → ℕ → ℕ → Span
+spanUpTo ls r n fixed c zero = fixed
+spanUpTo ls r n fixed c (suc k) =
+    cond (spanned r n k) (widened (spanUpTo ls r n fixed c k) (gpioAt ls c k)) (spanUpTo ls r n fixed c k)
+
+abbrev pub choiceSpan : List Listed → ℕ → ℕ → Span → ℕ → Span
+choiceSpan ls r n fixed c = spanUpTo ls r n fixed c (length ls)
+
+-- 01 addr_layout 8: the span is how many GPIOs there are from the lowest to the highest
+abbrev pub spanWidth : Span → ℕ
+spanWidth s = s .high - s .low + 1
+
+-- 01 addr_layout 8: the pins are as many as the span, but never fewer than 8
+abbrev pub paddedPins : Span → ℕ
+paddedPins s = cond (ltb 8 (spanWidth s)) (spanWidth s) 8
+
+-- 01 gpio_window 1: a choice fits if one window holds its pins, counted from its base
+-- 01 addr_layout 9: the base of a choice is the lowest of the GPIOs that it spans
+-- 01 addr_layout 10: a choice scores 1000 for each pin, and its base on top
+unfoldable pub spanTrial : Span → Trial
+spanTrial s = cond (fits (s .low) (paddedPins s)) (Score (paddedPins s * 1000 + s .low)) Misfit
+
+-- what choice c of a description comes to
+abbrev pub addrTrial : Description → ℕ → Trial
+addrTrial d c = spanTrial (choiceSpan (addrListed d) (inRange d) (lines d) (fixedSpan d) c)

@@ -1,0 +1,208 @@
+// The address search's choices of candidates: the GPIOs that one spans, its score, and which choice is the best.
+use addr_lines::num_lines;
+use addr_lines::range::in_range;
+use gpio::candidates::Candidates;
+use gpio::span::Span;
+use gpio::window::Window;
+use listing::Listing;
+use listing::choice::in_part;
+use listing::choice::pick;
+use listing::lines::commoned_kind;
+use listing::lines::kind_pin;
+use listing::lines::pin_candidates;
+use search::Found;
+use search::Trial;
+use search::better;
+use search::row_bits;
+use slot::description::Description;
+ghost use mathlib.Core.Path.{_≡_};
+ghost use mathlib.Core.Bool.{true, cond};
+ghost use Prim.Native.Nat.{_+_, _^_, _≤_};
+ghost use lib.ListN.{getD, take};
+ghost use Rattle.lists.specs.Tab.{tab};
+ghost use Rattle.gpio.specs.Span.{widened};
+ghost use Rattle.gpio.specs.design.Span.{spansJoined};
+ghost use Rattle.listing.specs.Listing.{listOf};
+ghost use Rattle.search.specs.Search.{best};
+ghost use Rattle.search.specs.design.Rows.{bestOnward};
+ghost use Rattle.addr_lines.specs.Lines.{lines};
+ghost use Rattle.addr_lines.specs.Range.{inRange};
+ghost use Rattle.addr_choices.specs.Choices.{widenedFirst, kindCandidates, selectSpan, fixedSpan, choiceSpan, spanWidth, paddedPins, spanTrial};
+ghost use Rattle.addr_choices.specs.design.Parts.{partSpan, pastSpans};
+
+fn widen_first(s: Span, gpios: Candidates) -> Span
+    ensures { λ r. ⌜ r ≡ widenedFirst s gpios ⌝ }
+{
+    match gpios {
+        Candidates::Absent => s,
+        Candidates::One(g) => s.widen(g),
+        Candidates::Two(g, _) => s.widen(g),
+    }
+}
+
+// The candidates of chip 0's line of a kind: none where it is not on the chip or off the socket.
+fn kind_candidates(d: Description, kind: u8) -> Candidates
+    ensures { λ r. ⌜ r ≡ kindCandidates d kind ⌝ }
+{
+    let pin = kind_pin(d, kind);
+    if pin == 0 {
+        return Candidates::Absent;
+    }
+    pin_candidates(d, pin)
+}
+
+// The select and commoned lines of a Multi set, each by its first candidate: the index reads them too.
+fn select_span(d: Description) -> Span
+    ensures { λ r. ⌜ r ≡ selectSpan d (d .multi .«num_commoned») ⌝ }
+{
+    let multi = d.multi;
+    let count = multi.num_commoned as usize;
+    let mut s = widen_first(Span::empty(), kind_candidates(d, multi.select));
+    let mut k: usize = 0;
+    while k < count {
+        s = widen_first(s, kind_candidates(d, commoned_kind(d, k)));
+        k += 1;
+    }
+    s
+}
+
+// The GPIOs that every choice spans.
+pub fn fixed_span(d: Description) -> Span
+    ensures { λ r. ⌜ r ≡ fixedSpan d ⌝ }
+{
+    let set_type = d.set_type;
+    if set_type.is_multi() {
+        return select_span(d);
+    }
+    Span::empty()
+}
+
+fn widen_if(s: Span, wanted: bool, g: u8) -> Span
+    ensures { λ r. ⌜ r ≡ cond wanted (widened s g) s ⌝ }
+{
+    if wanted { s.widen(g) } else { s }
+}
+
+// The GPIOs that one part of a choice number spans, the bits below `split` or those from it on: of the pins that they
+// serve, the first `in_range` of `lines` lines, and the X pins behind the lines.
+fn part_span(
+    l: Listing,
+    in_range: usize,
+    lines: usize,
+    fixed: Span,
+    low: bool,
+    split: u32,
+    choice: u32,
+) -> Span
+    requires { ⌜ l .count ≤ 30 ⌝ }
+    ensures { λ r. ⌜ r ≡ partSpan (listOf l) «in_range» lines fixed low split choice ⌝ }
+{
+    let pins = l.pins;
+    let count = l.count;
+    let mut s = fixed;
+    let mut rest = choice;
+    let mut bit: u32 = 0;
+    let mut k: usize = 0;
+    while k < count {
+        let pin = pins[k];
+        let gpios = pin.gpios;
+        let picked = pick(gpios, rest);
+        let counts = (k < in_range) | (lines <= k);
+        s = widen_if(s, counts & in_part(low, split, bit), picked.gpio);
+        rest = picked.rest;
+        bit += listing::bits(pin);
+        k += 1;
+    }
+    s
+}
+
+// The GPIOs that a choice spans.
+pub fn span_of(l: Listing, in_range: usize, lines: usize, fixed: Span, choice: u32) -> Span
+    requires { ⌜ l .count ≤ 30 ⌝ }
+    ensures { λ r. ⌜ r ≡ choiceSpan (listOf l) «in_range» lines fixed choice ⌝ }
+{
+    part_span(l, in_range, lines, fixed, false, 0, choice)
+}
+
+fn width(s: Span) -> u32
+    ensures { λ r. ⌜ r ≡ spanWidth s ⌝ }
+{
+    if s.high < s.low {
+        return 1;
+    }
+    s.high as u32 - s.low as u32 + 1
+}
+
+// The PIO reads at least 8 GPIOs.
+pub fn pins(s: Span) -> u32
+    ensures { λ r. ⌜ r ≡ paddedPins s ⌝ }
+{
+    let w = width(s);
+    if 8 < w { w } else { 8 }
+}
+
+// The score of a choice with a span, if one window holds it.
+fn trial(s: Span) -> Trial
+    ensures { λ r. ⌜ r ≡ spanTrial s ⌝ }
+{
+    let n = pins(s);
+    if 48 < n {
+        return Trial::Misfit;
+    }
+    if Window::fits(s.low, n as u8) {
+        return Trial::Score(n * 1000 + s.low as u32);
+    }
+    Trial::Misfit
+}
+
+// The spans of the bits below `split`.
+fn low_spans(l: Listing, in_range: usize, lines: usize, fixed: Span, split: u32) -> [Span; 64]
+    requires { ⌜ (l .count ≤ 30) × (split ≤ 6) ⌝ }
+    ensures { λ r. ⌜ take (2 ^ split) r ≡ tab (2 ^ split) (λ q. partSpan (listOf l) «in_range» lines fixed true split q) ⌝ }
+{
+    let count = 1usize << split;
+    let mut out = [fixed; 64];
+    let mut q: usize = 0;
+    while q < count {
+        out[q] = part_span(l, in_range, lines, fixed, true, split, q as u32);
+        q += 1;
+    }
+    out
+}
+
+// The better of what was found and of a row of choices from `first` on.
+fn best_in_row(before: Found, lows: [Span; 64], high: Span, first: u32, len: u32) -> Found
+    requires { ⌜ (len ≤ 64) × (first + len ≤ 65536) ⌝ }
+    ensures { λ r. ⌜ r ≡ bestOnward before (λ q. spanTrial (spansJoined (getD lows q pastSpans) high)) first len ⌝ }
+{
+    let mut found = before;
+    let mut q: u32 = 0;
+    while q < len {
+        let low = lows[q as usize];
+        found = better(found, first + q, trial(low.join(high)));
+        q += 1;
+    }
+    found
+}
+
+// The best of the choices that `bits` two-candidate pins leave.
+pub fn best(d: Description, l: Listing, bits: u32) -> Found
+    requires { ⌜ (l .count ≤ 30) × (bits ≤ 16) ⌝ }
+    ensures { λ r. ⌜ r ≡ best (λ c. spanTrial (choiceSpan (listOf l) (inRange d) (lines d) (fixedSpan d) c)) (2 ^ bits) ⌝ }
+{
+    let used = in_range(d) as usize;
+    let all = num_lines(d) as usize;
+    let fixed = fixed_span(d);
+    let split = row_bits(bits);
+    let lows = low_spans(l, used, all, fixed, split);
+    let rows = 1u32 << (bits - split);
+    let mut found = Found::Nothing;
+    let mut row: u32 = 0;
+    while row < rows {
+        let first = row << split;
+        let high = part_span(l, used, all, fixed, false, split, first);
+        found = best_in_row(found, lows, high, first, 1 << split);
+        row += 1;
+    }
+    found
+}

@@ -1,0 +1,85 @@
+// The layout that a choice makes.
+use crate::layout::AddrAnswer;
+use crate::layout::AddrLayout;
+use crate::layout::AddrOutcome;
+use addr_choices::fixed_span;
+use addr_choices::pins;
+use addr_choices::span_of;
+use addr_lines::num_lines;
+use addr_lines::range::in_range;
+use gpio::line::LineGpio;
+use gpio::span::Span;
+use listing::Listing;
+use listing::choice::gpio_if;
+use listing::choice::resolve;
+use search::Trial;
+use slot::description::Description;
+ghost use mathlib.Core.Path.{_≡_};
+ghost use mathlib.Core.Bool.{cond};
+ghost use Prim.Native.Nat.{_≤_};
+ghost use lib.Dec.{ltb};
+ghost use lib.ListN.{getD};
+ghost use Rattle.lists.specs.Tab.{tab};
+ghost use Rattle.listing.specs.Listing.{listOf};
+ghost use Rattle.addr_lines.specs.Lines.{lines};
+ghost use Rattle.addr_lines.specs.Range.{inRange};
+ghost use Rattle.addr_choices.specs.Choices.{fixedSpan, choiceSpan, paddedPins, spanTrial};
+ghost use Rattle.addr_layout.specs.Layouts.{lineGpio, addrLayoutFrom, addrLayoutOf};
+
+// The GPIOs of the lines, 0 past them.
+fn line_gpios(all: [u8; 30], lines: usize) -> [u8; 24]
+    ensures { λ r. ⌜ r ≡ tab 24 (λ k. cond (ltb k lines) (getD all k 0) 0) ⌝ }
+{
+    let mut out = [0u8; 24];
+    let mut k: usize = 0;
+    while k < 24 {
+        out[k] = gpio_if(k < lines, all[k]);
+        k += 1;
+    }
+    out
+}
+
+fn x_gpio(used: bool, g: u8) -> LineGpio
+    ensures { λ r. ⌜ r ≡ lineGpio used g ⌝ }
+{
+    if used {
+        LineGpio::At(g)
+    } else {
+        LineGpio::Unused
+    }
+}
+
+// The layout of resolved pins: the lines' GPIOs, then those of X1 and X2 where they pick a bank or a chip.
+fn layout(span: Span, all: [u8; 30], one: bool, both: bool, lines: u8, used: u8) -> AddrLayout
+    requires { ⌜ (paddedPins span ≤ 255) × (used ≤ lines) × (lines ≤ 24) ⌝ }
+    ensures { λ r. ⌜ r ≡ addrLayoutFrom span (λ k. getD all k 0) one both lines used ⌝ }
+{
+    let n = lines as usize;
+    AddrLayout {
+        gpio_base: span.low,
+        num_addr_pins: pins(span) as u8,
+        x1_gpio: x_gpio(one, all[n]),
+        x2_gpio: x_gpio(both, all[n + 1]),
+        gpios: line_gpios(all, n),
+        num_lines: used,
+        num_excess: lines - used,
+    }
+}
+
+// The layout that a choice makes which fits.
+pub fn laid_out(d: Description, l: Listing, choice: u32, score: u32) -> AddrAnswer
+    requires { ⌜ (l .count ≤ 30) × (lines d ≤ 24) × (spanTrial (choiceSpan (listOf l) (inRange d) (lines d) (fixedSpan d) choice) ≡ Trial.Score score) ⌝ }
+    ensures { λ r. ⌜ r ≡ record { outcome = AddrOutcome.LaidOut; layout = addrLayoutOf d (listOf l) choice } ⌝ }
+{
+    let used = in_range(d);
+    let all = num_lines(d);
+    let span = span_of(l, used as usize, all as usize, fixed_span(d), choice);
+    let gpios = resolve(l, choice);
+    let set_type = d.set_type;
+    let one = !set_type.is_single();
+    let layout = layout(span, gpios, one, one & (3 <= d.num_chips), all, used);
+    AddrAnswer {
+        outcome: AddrOutcome::LaidOut,
+        layout,
+    }
+}
