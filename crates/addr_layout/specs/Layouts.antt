@@ -40,7 +40,6 @@ addrLayoutFrom s gpio one both n u = record {
 -- 01 Well wired 1: a layout uses as many lines as are in range
 -- 01 addr_layout 5: X1 is behind the lines in any set but Single, and X2 behind X1 if there are at least 3 chips
 abbrev pub addrLayoutOf : Description → List Listed → ℕ → AddrLayout
--- 01 cs_data_layout 3: the layout that choice c makes has the base of the window that holds all its GPIOs
 addrLayoutOf d ls c =
     addrLayoutFrom (choiceSpan ls (inRange d) (lines d) (fixedSpan d) c) (λ k. gpioAt ls c k) (not (isSingle (d .«set_type»)))
     (not (isSingle (d .«set_type»)) && leb 3 (d .«num_chips»)) (lines d) (inRange d)
