@@ -53,10 +53,10 @@ module _ (d : Description) (images : List ℕ) (spans : List ImageSpan) where
   abbrev pub Lent : Picked → Type 0
   Lent p = (k : ℕ) → p ≡ Chip k → getD (d .chips) k noChip .size ≤ length (chipBytes images (chipSpan spans k))
 
-  pub raw-word : (p : Picked) (n : ℕ) → Lent p → rawFrom images (d .«word_bytes») (sourceOf d spans p) (padOf d) n ≡ wordOf d images spans p n
-  raw-word NoChip n h = rw (le-ltb n 0 (omega arith))
-  raw-word (Chip k) n h =
-      chip-raw images (chipSpan spans k) (d .«word_bytes») (getD (d .chips) k noChip .size) (h k refl) (padOf d) n
+  pub raw-word : (pad : ℕ) (p : Picked) (n : ℕ) → Lent p → rawFrom images (d .«word_bytes») (sourceOf d spans p) (padOf pad d) n ≡ wordOf pad d images spans p n
+  raw-word pad NoChip n h = rw (le-ltb n 0 (omega arith))
+  raw-word pad (Chip k) n h =
+      chip-raw images (chipSpan spans k) (d .«word_bytes») (getD (d .chips) k noChip .size) (h k refl) (padOf pad d) n
       (ltb n (wordCount d k)) (powerOfTwo (wordCount d k)) refl refl
 
   pub source-in : (p : Picked) → 1 ≤ d .«word_bytes» → Lent p → SourceIn images (d .«word_bytes») (sourceOf d spans p)

@@ -65,12 +65,12 @@ module _ (d : Description) (a : AddrLayout) (c : CsDataLayout) (images : List �
   sources-in bits few = rw (source-at bits few) (source-in d images spans (picked d bits) (b .some-bytes) (picked-lent bits few))
 
   -- the entry at an index, and the table
-  pub entry-is : (i : ℕ) → entryBy (wiringOf d a c) (sourcesOf d spans) (padOf d) images i ≡ entryAt (argsOf d a c spans) images i
+  pub entry-is : (pad i : ℕ) → entryBy (wiringOf d a c) (sourcesOf d spans) (padOf pad d) images i ≡ entryAt pad (argsOf d a c spans) images i
   unfolding wiringOf entryBy entryAt chipPicked
-  entry-is i =
+  entry-is pad i =
       let few = gather-lt (numPicks d) (pickPosition d a c) i in
-      rw (picks-are i, address-is i, source-at _ few, raw-word d images spans _ (chipAddress a i) (picked-lent _ few)) (scrambled-is _)
+      rw (picks-are i, address-is i, source-at _ few, raw-word d images spans pad _ (chipAddress a i) (picked-lent _ few)) (scrambled-is _)
 
-  pub table-is : (lent : List ℕ) → tableBy (wiringOf d a c) (sourcesOf d spans) (padOf d) images (entriesOf a) lent ≡ tableOf (argsOf d a c spans) images ++ drop (tableSize d a) lent
+  pub table-is : (pad : ℕ) (lent : List ℕ) → tableBy (wiringOf d a c) (sourcesOf d spans) (padOf pad d) images (entriesOf a) lent ≡ tableOf pad (argsOf d a c spans) images ++ drop (tableSize d a) lent
   unfolding wiringOf tableOf
-  table-is lent = rw (words-cong (d .«word_bytes») (entryBy (wiringOf d a c) (sourcesOf d spans) (padOf d) images) (entryAt (argsOf d a c spans) images) (entriesOf a) (λ i l. entry-is i))
+  table-is pad lent = rw (words-cong (d .«word_bytes») (entryBy (wiringOf d a c) (sourcesOf d spans) (padOf pad d) images) (entryAt pad (argsOf d a c spans) images) (entriesOf a) (λ i l. entry-is pad i))

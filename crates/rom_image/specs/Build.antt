@@ -12,6 +12,10 @@ use Rattle.build_args.specs.declared.BuildArgs.{BuildArgs}
 use Rattle.rom_image.specs.Entry.{tableOf}
 use Rattle.refusal.specs.declared.Answer.{Answer}
 
+-- 01 rom_image 6: pads are made of the byte hex AA
+abbrev pub padByte : ℕ
+padByte = 0xAA
+
 pub record Built : Type 0 where
   pub answer : Answer
   pub table : List ℕ
@@ -23,7 +27,7 @@ built a t = record { answer = a; table = t }
 -- 01 Numbers 7: a build that succeeds leaves the lent bytes behind its table as they were
 abbrev pub buildAfter : BuildArgs → List ℕ → List ℕ → FirstFault → Built
 buildAfter b images lent (Of why) = built (Answer.Refused why) lent
-buildAfter b images lent None = built Answer.Done (tableOf b images ++ drop (tableSize (b .description) (b .addr)) lent)
+buildAfter b images lent None = built Answer.Done (tableOf padByte b images ++ drop (tableSize (b .description) (b .addr)) lent)
 
 -- 01 Number 1: the description or a layout is outside of the domain
 -- 01 Numbers 2: the domain is tested before all else that a build is refused for

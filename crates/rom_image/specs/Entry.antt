@@ -5,8 +5,8 @@ use mathlib.Core.List.{List}
 use lib.Count.{ones}
 use lib.Dec.{ltb, eqb}
 use lib.ListN.{getD}
-use Rattle.bits.specs.Bits.{gather, scatter}
-use Rattle.words.specs.Words.{word, padWord, wordsBytes}
+use Rattle.bits.specs.Bits.{gather, indexAddress, scatter}
+use Rattle.words.specs.Words.{word, padWord, chipWord, entriesBytes}
 use Rattle.slot.specs.Description.{noChip}
 use Rattle.slot.specs.declared.description.Description.{Description}
 use Rattle.addr_layout.specs.declared.layout.AddrLayout.{AddrLayout}
@@ -20,9 +20,9 @@ use Rattle.picks.specs.declared.Picked.{Picked}
 use Rattle.picks.specs.declared.Picked.the-variants.{NoChip, Chip}
 use Rattle.build_args.specs.declared.BuildArgs.{BuildArgs}
 
--- 01 rom_image 2: bit n of the address stands in the index at the position of line n
+-- 01 rom_image 2: a chip's address is read by the positions of the lines in use
 unfoldable pub chipAddress : AddrLayout → ℕ → ℕ
-chipAddress a i = gather (a .«num_lines») (linePosition a) i
+chipAddress a i = indexAddress (a .«num_lines») (linePosition a) i
 
 -- the chip that an index picks
 unfoldable pub chipPicked : Description → AddrLayout → CsDataLayout → ℕ → Picked
@@ -41,34 +41,31 @@ powerOfTwo n = eqb (ones n) 1
 abbrev pub wordOrPad : ℕ → ℕ → (ℕ → ℕ) → ℕ → ℕ
 wordOrPad pad count wordAt n = cond (ltb n count) (wordAt n) (cond (powerOfTwo count) (wordAt (n % count)) pad)
 
--- 01 rom_image 6: pads are made of the byte hex AA
-abbrev pub padByte : ℕ
-padByte = 0xAA
-
--- 01 rom_image 6: the pad is w bytes of padByte
-abbrev pub padOf : Description → ℕ
-padOf d = padWord (d .«word_bytes») padByte
+-- 01 rom_image 6: the pad is w bytes of the pad byte
+abbrev pub padOf : ℕ → Description → ℕ
+padOf pad d = padWord (d .«word_bytes») pad
 
 -- the word of the chip that is picked, at an address
 -- 01 rom_image 6: where no chip is picked the word is the pad
-abbrev pub wordOf : Description → List ℕ → List ImageSpan → Picked → ℕ → ℕ
-wordOf d images spans NoChip n = padOf d
-wordOf d images spans (Chip k) n =
-    wordOrPad (padOf d) (wordCount d k) (λ m. word (d .«word_bytes») (chipBytes images (chipSpan spans k)) m) n
+abbrev pub wordOf : ℕ → Description → List ℕ → List ImageSpan → Picked → ℕ → ℕ
+wordOf pad d images spans NoChip n = padOf pad d
+wordOf pad d images spans (Chip k) n =
+    wordOrPad (padOf pad d) (wordCount d k) (λ m. chipWord (d .«word_bytes») (chipBytes images (chipSpan spans k)) m) n
 
 -- 01 rom_image 8: each data line carries its bit of the word to its position; where several meet the bits are or-ed, and a bit for
 -- position 8w or above is dropped
 unfoldable pub scrambled : Description → CsDataLayout → ℕ → ℕ
 scrambled d c v = scatter (c .«num_data_pins») (dataPosition c) (8 * d .«word_bytes») v
 
--- the entry at an index
+-- the entry at an index, over the pad byte
 -- 01 rom_image 6: a pad is scrambled as a word is
-unfoldable pub entryAt : BuildArgs → List ℕ → ℕ → ℕ
-entryAt b images i =
+unfoldable pub entryAt : ℕ → BuildArgs → List ℕ → ℕ → ℕ
+entryAt pad b images i =
     scrambled (b .description) (b .«cs_data»)
-    (wordOf (b .description) images (b .spans) (chipPicked (b .description) (b .addr) (b .«cs_data») i) (chipAddress (b .addr) i))
+    (wordOf pad (b .description) images (b .spans) (chipPicked (b .description) (b .addr) (b .«cs_data») i) (chipAddress (b .addr) i))
 
+-- the table, over the pad byte
 -- 01 rom_image 1: the table is its 2^pins entries in index order
 -- 01 rom_image 9: an entry's lowest byte is written first
-unfoldable pub tableOf : BuildArgs → List ℕ → List ℕ
-tableOf b images = wordsBytes (b .description .«word_bytes») (entryAt b images) (entriesOf (b .addr))
+unfoldable pub tableOf : ℕ → BuildArgs → List ℕ → List ℕ
+tableOf pad b images = entriesBytes (b .description .«word_bytes») (entryAt pad b images) (entriesOf (b .addr))

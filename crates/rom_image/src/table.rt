@@ -12,17 +12,21 @@ ghost use Rattle.refusal.specs.declared.first.FirstFault.the-variants.{None};
 ghost use Rattle.build_args.specs.Domain.{buildIn};
 ghost use Rattle.build_args.specs.Faults.{tableSize, buildFault};
 ghost use Rattle.rom_image.specs.Entry.{tableOf};
+ghost use Rattle.rom_image.specs.Build.{padByte};
+
+// What an entry's bytes are where no word stands.
+const PAD_BYTE: u8 = 0xAA;
 
 // Writes the table to the front of a buffer.
 pub fn fill(b: BuildArgs, images: &[u8], table: &mut [u8])
     requires { ⌜ (buildIn b ≡ true) × (buildFault b (now images) (length (now table)) ≡ None) ⌝ }
-    ensures { λ _. ⌜ now (table .exit) ≡ tableOf b (now (images .entry)) ++ drop (tableSize (b .description) (b .addr)) (now (table .entry)) ⌝ }
+    ensures { λ _. ⌜ now (table .exit) ≡ tableOf padByte b (now (images .entry)) ++ drop (tableSize (b .description) (b .addr)) (now (table .entry)) ⌝ }
 {
     let d = b.description;
     let a = b.addr;
     let c = b.cs_data;
     let spans = b.spans;
-    let pad = pad_word(d.word_bytes as usize, 0xAA);
+    let pad = pad_word(d.word_bytes as usize, PAD_BYTE);
     fill_by(
         wiring(d, a, c),
         sources(d, spans),

@@ -28,7 +28,7 @@ use Rattle.stored_slot.specs.Stored as stored
 use Rattle.stored_slot.specs.Words as sizes
 use Rattle.unscramble.specs.Words as read
 use Rattle.stored_slot.specs.declared.stored.StoredSlot.{StoredSlot}
-use Rattle.round_trip.specs.WellWired.{OneInside, WellWired, StoredAs}
+use Rattle.round_trip.specs.WellWired.{OneInside, WellWired, StoredAs, Unforced}
 use Rattle.round_trip.proofs.Fitted.{Fitted}
 use Rattle.round_trip.proofs.Apart.{x-few, x-third}
 
@@ -103,14 +103,14 @@ module _ (d : Description) (a : AddrLayout) (c : CsDataLayout) (s : StoredSlot) 
     free-bit p b false true e f = cc
     free-bit p b false false e f = refl
 
-    free-index : (i : ℕ) → stored.free s i ≡ true
+    free-index : Unforced a s → (i : ℕ) → stored.free s i ≡ true
     unfolding stored.free
-    free-index i = each-all _ (stored.storedPins s) (λ p l.
-        let u = g .unforced (stored.addrBase s + p) (omega (arith, g .addr-base), omega (arith, g .addr-base, g .pins, l)) in
+    free-index unforced i = each-all _ (stored.storedPins s) (λ p l.
+        let u = unforced (stored.addrBase s + p) (omega (arith, g .addr-base), omega (arith, g .addr-base, g .pins, l)) in
         free-bit p (bit i p) _ _ (u .1) (u .0))
 
-    pub fitted : Fitted d a c s
-    fitted = record {
+    pub fitted : Unforced a s → Fitted d a c s
+    fitted unforced = record {
       chips = g .roms;
       bytes = g .word-bytes;
       pins = g .pins;
@@ -119,5 +119,5 @@ module _ (d : Description) (a : AddrLayout) (c : CsDataLayout) (s : StoredSlot) 
       line = λ k n l m. ap (λ (v : ℕ). v - stored.addrBase s) (g .rom k l .line n m) ∙ ap (λ (v : ℕ). getD (a .gpios) n 0 - v) (g .addr-base);
       data-line = λ k n l m. ap (λ (v : ℕ). v - stored.storedDataBase s) (g .rom k l .data-line n m) ∙ ap (λ (v : ℕ). getD (c .«data_pin_gpios») n 0 - v) (g .data-base);
       pick = λ k l. pick-position (d .«set_type») refl k l;
-      unforced = free-index;
+      unforced = free-index unforced;
     }

@@ -23,6 +23,7 @@ use Rattle.build_args.specs.declared.images.ImageSpan.{ImageSpan}
 use Rattle.picks.specs.declared.Picked.{Picked}
 use Rattle.picks.specs.declared.Picked.the-variants.{NoChip, Chip}
 use Rattle.refusal.proofs.Firsts.{none-of}
+use Rattle.rom_image.specs.Build.{padByte}
 use Rattle.rom_image.specs.Entry.{tableOf}
 use Rattle.lists.proofs.First.{first-passes, first-found}
 use Rattle.stored_slot.specs.Stored as stored
@@ -49,7 +50,7 @@ module _ (d : Description) (a : AddrLayout) (c : CsDataLayout) (images : List �
     (f : Fitted d a c s) (t : ToldApart d a c) (fit : chipsFit (d .«set_type») (d .«num_chips») ≡ true)
     (bytes : (rom k : ℕ) → getD (chipBytes images (chipSpan spans rom)) k 0 < 256) where
   abbrev table : List ℕ
-  table = tableOf (argsOf d a c spans) images
+  table = tableOf padByte (argsOf d a c spans) images
 
   abbrev wordIn : ℕ → ℕ → ℕ
   wordIn rom n = word (d .«word_bytes») (chipBytes images (chipSpan spans rom)) n

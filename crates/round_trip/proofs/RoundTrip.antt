@@ -37,7 +37,7 @@ use Rattle.build_args.specs.Domain.{buildIn}
 use Rattle.build_args.specs.Faults.{entriesOf, tableSize, buildFault}
 use Rattle.build_args.specs.declared.images.ImageSpan.{ImageSpan}
 use Rattle.rom_image.specs.Entry.{entryAt, tableOf}
-use Rattle.rom_image.specs.Build.{Built, built, buildAfter, buildOf}
+use Rattle.rom_image.specs.Build.{padByte, Built, built, buildAfter, buildOf}
 use Rattle.refusal.specs.declared.Answer.{Answer}
 use Rattle.gpio.specs.declared.line.LineGpio.the-variants.{At}
 use Rattle.stored_slot.specs.Stored as stored
@@ -47,7 +47,7 @@ use Rattle.unscramble.specs.Words as read
 use Rattle.unscramble.specs.Recovered as recover
 use Rattle.unscramble.specs.Recovered.{readBack, front, inconsistent, unserved, recovered, unscrambled}
 use Rattle.stored_slot.specs.declared.stored.StoredSlot.{StoredSlot}
-use Rattle.round_trip.specs.WellWired.{WellWired, StoredAs}
+use Rattle.round_trip.specs.WellWired.{WellWired, StoredAs, Unforced}
 use Rattle.round_trip.proofs.Fitted.{Fitted, ToldApart}
 use Rattle.round_trip.specs.RoundTrip.{Accepted, tableBuilt, chipWords, wordsTo, words, Room, firstBytes, returnedWhole, ReadsBack}
 use Rattle.build_args.proofs.Facts.{described, selected, data-base}
@@ -73,7 +73,7 @@ module _ (d : Description) (a : AddrLayout) (c : CsDataLayout) (images : List �
   pub record Past : Type 0 where
     pub domain : buildIn (argsOf d a c spans) ≡ true
     pub none : buildFault (argsOf d a c spans) images (length lent) ≡ None
-    pub table : buildOf (argsOf d a c spans) images lent .table ≡ tableOf (argsOf d a c spans) images ++ drop (tableSize d a) lent
+    pub table : buildOf (argsOf d a c spans) images lent .table ≡ tableOf padByte (argsOf d a c spans) images ++ drop (tableSize d a) lent
 
   by-fault : (f : FirstFault) → buildFault (argsOf d a c spans) images (length lent) ≡ f → buildIn (argsOf d a c spans) ≡ true
       → buildOf (argsOf d a c spans) images lent ≡ buildAfter (argsOf d a c spans) images lent f → buildAfter (argsOf d a c spans) images lent f .answer ≡ Answer.Done → Past
@@ -164,7 +164,7 @@ words-within x y w size long h l = le-trans (mul-le-mul-right w h) (le-trans (di
 
 module _ (d : Description) (a : AddrLayout) (c : CsDataLayout) (images : List ℕ) (spans : List ImageSpan) (lent : List ℕ) (s : StoredSlot) (output marks : List ℕ)
     (ok : Accepted (argsOf d a c spans) images lent) (bytes : (k : ℕ) → getD images k 0 < 256) (wired : WellWired d a) (given : StoredAs d a c s)
-    (room : Room d a output marks) where
+    (unforced : Unforced a s) (room : Room d a output marks) where
   past : Past d a c images spans lent
   past = build-past d a c images spans lent (ok .build)
 
@@ -190,19 +190,19 @@ module _ (d : Description) (a : AddrLayout) (c : CsDataLayout) (images : List �
       (told-apart d (laid .choice) (selected-at .choice) (laid .sound) c (selected-at .sound) (subst (WellWired d) (laid .is) wired))
 
   same-lines : Fitted d a c s
-  same-lines = fitted d a c s given (laid .choice) sound wired
+  same-lines = fitted d a c s given (laid .choice) sound wired unforced
 
   chip-byte : (rom k : ℕ) → getD (chipBytes images (chipSpan spans rom)) k 0 < 256
   unfolding chipBytes
   chip-byte rom k = part-byte images (chipSpan spans rom .start) (chipSpan spans rom .length) k (ltb k (chipSpan spans rom .length)) refl bytes
 
   -- the table that is read
-  table-long : length (tableOf (argsOf d a c spans) images) ≡ tableSize d a
+  table-long : length (tableOf padByte (argsOf d a c spans) images) ≡ tableSize d a
   unfolding tableOf
-  table-long = words-length (d .«word_bytes») (entryAt (argsOf d a c spans) images) (entriesOf a)
+  table-long = words-length (d .«word_bytes») (entryAt padByte (argsOf d a c spans) images) (entriesOf a)
 
-  table-is : tableBuilt (argsOf d a c spans) images lent ≡ tableOf (argsOf d a c spans) images
-  table-is = ap (take (tableSize d a)) (past .table) ∙ take-at (tableOf (argsOf d a c spans) images) (drop (tableSize d a) lent) (tableSize d a) table-long
+  table-is : tableBuilt (argsOf d a c spans) images lent ≡ tableOf padByte (argsOf d a c spans) images
+  table-is = ap (take (tableSize d a)) (past .table) ∙ take-at (tableOf padByte (argsOf d a c spans) images) (drop (tableSize d a) lent) (tableSize d a) table-long
 
   -- what comes back of a chip
   chip-back : (k : ℕ) → k < d .«num_chips»
@@ -212,7 +212,7 @@ module _ (d : Description) (a : AddrLayout) (c : CsDataLayout) (images : List �
       ∙ words-take (d .«word_bytes») (chipBytes images (chipSpan spans k)) (chipWords d a k) (chip-byte k)
       (words-within (chipWords d a k) 0 (d .«word_bytes») (getD (d .chips) k noChip .size) _ (omega arith) (can .lent k l))
 
-  all-back : recovered s (d .«set_type») (tableOf (argsOf d a c spans) images) ≡ joined (d .«num_chips») (firstBytes (argsOf d a c spans) images)
+  all-back : recovered s (d .«set_type») (tableOf padByte (argsOf d a c spans) images) ≡ joined (d .«num_chips») (firstBytes (argsOf d a c spans) images)
   all-back =
       recovered-words d a c images spans s same-lines told (can .chips) chip-byte
       ∙ joined-cong (d .«num_chips») _ _ (λ k l. chip-back k l)
@@ -238,19 +238,19 @@ module _ (d : Description) (a : AddrLayout) (c : CsDataLayout) (images : List �
       let same : at .gpio ≡ stored.storedSelect s = cc in
       subst (addr.InWindow a) same (subst (λ (x : AddrLayout). addr.InWindow x (at .gpio)) (sym (laid .is)) (at .inside))
 
-  none-before : romsFault s (d .«set_type») (tableOf (argsOf d a c spans) images) (length output) (length marks) ≡ None
+  none-before : romsFault s (d .«set_type») (tableOf padByte (argsOf d a c spans) images) (length output) (length marks) ≡ None
   none-before =
       let x = x-pins-in d in-description in
       let all = all-same d a c s same-lines in
-      none-refused d a c s given small (laid .choice) sound wired (x .0) (x .1) (tableOf (argsOf d a c spans) images) (length output) (length marks) table-long told
+      none-refused d a c s given small (laid .choice) sound wired (x .0) (x .1) (tableOf padByte (argsOf d a c spans) images) (length output) (length marks) table-long told
       (selected-at .sound .data-above) (can .chips) select-window (rw (all, given .word-bytes) (room .for-output)) (rw all (room .for-marks))
 
-  size-right : wrongSize s (tableOf (argsOf d a c spans) images) ≡ false
-  size-right = rw (eq-eqb (length (tableOf (argsOf d a c spans) images)) (s .size) (table-long ∙ sym (given .size)))
+  size-right : wrongSize s (tableOf padByte (argsOf d a c spans) images) ≡ false
+  size-right = rw (eq-eqb (length (tableOf padByte (argsOf d a c spans) images)) (s .size) (table-long ∙ sym (given .size)))
 
   -- so that the entries decide, and none is at fault
   abbrev table : List ℕ
-  table = tableOf (argsOf d a c spans) images
+  table = tableOf padByte (argsOf d a c spans) images
 
   tested : unscrambled s table output marks ≡ recover.ofType s table output marks (s .«slot_type»)
   unfolding unscrambled

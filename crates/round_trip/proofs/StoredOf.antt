@@ -29,7 +29,7 @@ use Rattle.rom_image.proofs.Past.{table-small, table-fits, pins-few}
 use Rattle.stored_slot.specs.Stored as stored
 use Rattle.stored_slot.specs.declared.stored.Rom.{Rom}
 use Rattle.stored_slot.specs.declared.stored.StoredSlot.{StoredSlot}
-use Rattle.round_trip.specs.WellWired.{Mapped, StoredAs}
+use Rattle.round_trip.specs.WellWired.{Mapped, StoredAs, Unforced}
 use Rattle.round_trip.specs.RoundTrip.{Accepted}
 use Rattle.round_trip.specs.Stored.{mapList, storedRom, gpioOr0, storedOf}
 use Rattle.round_trip.proofs.Laid.{Cs-found-at, cs-found}
@@ -116,7 +116,7 @@ module _ (d : Description) (a : AddrLayout) (c : CsDataLayout) (can : Storable d
   word-bytes-is = omega (arith, can .bytes)
 
   pub stored-as-storable : StoredAs d a c s
-  unfolding storedOf stored.names
+  unfolding storedOf
   stored-as-storable = record {
     set-type = refl;
     layout = refl;
@@ -135,8 +135,11 @@ module _ (d : Description) (a : AddrLayout) (c : CsDataLayout) (can : Storable d
     alg-cs = λ m. refl;
     select = select-is;
     overrides = omega arith;
-    unforced = λ g w. (refl, refl);
   }
+
+pub unforced-stored : (d : Description) (a : AddrLayout) (c : CsDataLayout) → Unforced a (storedOf d a c)
+unfolding storedOf stored.names
+unforced-stored d a c g w = (refl, refl)
 
 module _ (d : Description) (a : AddrLayout) (c : CsDataLayout) (images : List ℕ) (spans : List ImageSpan) (lent : List ℕ)
     (ok : Accepted (argsOf d a c spans) images lent) where

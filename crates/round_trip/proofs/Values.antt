@@ -25,6 +25,7 @@ use Rattle.picks.specs.Picks.{picksOf, pickedBy, chipsFit}
 use Rattle.build_args.specs.Faults.{entriesOf}
 use Rattle.build_args.specs.declared.images.ImageSpan.{ImageSpan}
 use Rattle.picks.specs.declared.Picked.the-variants.{Chip}
+use Rattle.rom_image.specs.Build.{padByte}
 use Rattle.rom_image.specs.Entry.{chipAddress, chipPicked, wordCount, scrambled, entryAt, tableOf}
 use Rattle.stored_slot.specs.Stored as stored
 use Rattle.stored_slot.specs.Words as sizes
@@ -66,7 +67,7 @@ module _ (d : Description) (a : AddrLayout) (c : CsDataLayout) (images : List �
 
   -- the entry that picks a chip at an address that is counted holds that word, scrambled
   entry-holds : (rom n i : ℕ) → rom < d .«num_chips» → chipPicked d a c i ≡ Chip rom → chipAddress a i ≡ n → n < wordCount d rom
-      → entryAt (argsOf d a c spans) images i ≡ scrambled d c (wordIn rom n)
+      → entryAt padByte (argsOf d a c spans) images i ≡ scrambled d c (wordIn rom n)
   unfolding entryAt
   entry-holds rom n i l p q r = rw (p, q, lt-ltb n (wordCount d rom) r)
 
@@ -75,22 +76,22 @@ module _ (d : Description) (a : AddrLayout) (c : CsDataLayout) (images : List �
   unfolding scrambled
   unscrambled-word v h = back (c .«num_data_pins») (8 * d .«word_bytes») (dataPosition c) v (t .data-lines) (t .data-in) (t .data-own) h
 
-  entry-lt : (i : ℕ) → entryAt (argsOf d a c spans) images i < 2 ^ (8 * d .«word_bytes»)
+  entry-lt : (i : ℕ) → entryAt padByte (argsOf d a c spans) images i < 2 ^ (8 * d .«word_bytes»)
   unfolding entryAt scrambled
   entry-lt i = scatter-lt (c .«num_data_pins») (dataPosition c) (8 * d .«word_bytes») _
 
-  stored-word : (i : ℕ) → i < entriesOf a → word (d .«word_bytes») (tableOf (argsOf d a c spans) images) i ≡ entryAt (argsOf d a c spans) images i
+  stored-word : (i : ℕ) → i < entriesOf a → word (d .«word_bytes») (tableOf padByte (argsOf d a c spans) images) i ≡ entryAt padByte (argsOf d a c spans) images i
   unfolding tableOf
   stored-word i h =
       ap (λ (b : List ℕ). word (d .«word_bytes») b i) (sym (append-nil _))
-      ∙ word-of-words (d .«word_bytes») (entryAt (argsOf d a c spans) images) (entriesOf a) [] i h (entry-lt i)
+      ∙ word-of-words (d .«word_bytes») (entryAt padByte (argsOf d a c spans) images) (entriesOf a) [] i h (entry-lt i)
 
   pub value-is : (rom n i : ℕ) → rom < d .«num_chips» → i < entriesOf a → read.romPicked s (d .«set_type») i ≡ Chip rom
-      → read.addressAt s rom i ≡ n → n < sizes.romWords s rom → read.valueAt s (tableOf (argsOf d a c spans) images) rom i ≡ wordIn rom n
+      → read.addressAt s rom i ≡ n → n < sizes.romWords s rom → read.valueAt s (tableOf padByte (argsOf d a c spans) images) rom i ≡ wordIn rom n
   unfolding read.valueAt
   value-is rom n i l h p q r =
       let held = entry-holds rom n i l (sym (picked-same i) ∙ p) (sym (address-same rom i l) ∙ q) (counted rom n l r) in
-      ap (λ (w : ℕ). gather (8 * w) (stored.storedDataPosition s rom) (word w (tableOf (argsOf d a c spans) images) i)) (f .bytes)
+      ap (λ (w : ℕ). gather (8 * w) (stored.storedDataPosition s rom) (word w (tableOf padByte (argsOf d a c spans) images) i)) (f .bytes)
       ∙ gather-cong (8 * d .«word_bytes») _ _ _ (λ k m. f .data-line rom k l (rw (t .data-lines) m))
       ∙ ap (gather (8 * d .«word_bytes») (dataPosition c)) (stored-word i h ∙ held)
       ∙ unscrambled-word (wordIn rom n) (word-lt (d .«word_bytes») (chipBytes images (chipSpan spans rom)) (n * d .«word_bytes») (bytes rom))

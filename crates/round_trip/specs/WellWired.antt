@@ -111,6 +111,9 @@ pub record StoredAs (d : Description) (a : AddrLayout) (c : CsDataLayout) (s : S
   pub select : isMulti (d .«set_type») ≡ true → firstSelect c ≡ At (stored.storedSelect s)
   -- no more overrides than there is room for
   pub overrides : s .«num_overrides» ≤ 64
-  -- 01 Well wired 10: of the GPIOs in the address window none is forced low (kind 2) or high (kind 3)
-  pub unforced : (g : ℕ) → InWindow a g
-      → (stored.names (s .«num_overrides») (s .overrides) 2 g ≡ false) × (stored.names (s .«num_overrides») (s .overrides) 3 g ≡ false)
+
+-- 01 Well wired 10: of the GPIOs in the address window none is forced low (kind 2) or high (kind 3)
+abbrev pub Unforced : AddrLayout → StoredSlot → Type 0
+Unforced a s =
+    (g : ℕ) → InWindow a g
+    → (stored.names (s .«num_overrides») (s .overrides) 2 g ≡ false) × (stored.names (s .«num_overrides») (s .overrides) 3 g ≡ false)

@@ -5,7 +5,7 @@ use mathlib.Core.List.{List, _++_}
 use lib.Dec.{ltb, eqb}
 use lib.ListN.{length, drop, replicate}
 use Rattle.lists.specs.Tab.{joined}
-use Rattle.words.specs.Words.{wordsBytes}
+use Rattle.words.specs.Words.{chipWordsBytes}
 use Rattle.lists.specs.First.{firstWhere}
 use Rattle.slot.specs.declared.description.ChipSetType.{ChipSetType}
 use Rattle.refusal.specs.declared.Refusal.{Refusal}
@@ -56,7 +56,7 @@ unserved s set = firstOf (s .«num_roms») (λ rom. firstOf (romWords s rom) (un
 
 -- the bytes of a ROM's words
 abbrev pub romBytes : StoredSlot → ChipSetType → List ℕ → ℕ → List ℕ
-romBytes s set stored rom = wordsBytes (wordBytes s) (keptValue s set stored rom) (romWords s rom)
+romBytes s set stored rom = chipWordsBytes (wordBytes s) (keptValue s set stored rom) (romWords s rom)
 
 -- 01 Shape 2: one output has the bytes of all ROMs, each behind the one before
 unfoldable pub recovered : StoredSlot → ChipSetType → List ℕ → List ℕ

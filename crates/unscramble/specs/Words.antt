@@ -3,8 +3,8 @@ use Prim.Native.Nat.{ℕ, zero, suc, _+_, _-_, _*_, _/_, _^_, min}
 use mathlib.Core.Bool.{Bool, false, cond, _&&_}
 use mathlib.Core.List.{List}
 use lib.Dec.{ltb, eqb}
-use Rattle.bits.specs.Bits.{gather}
-use Rattle.words.specs.Words.{word}
+use Rattle.bits.specs.Bits.{gather, indexAddress}
+use Rattle.words.specs.Words.{word, entryWord}
 use Rattle.slot.specs.declared.description.ChipSetType.{ChipSetType}
 use Rattle.slot.specs.declared.description.ChipSetType.the-variants.{Single, Banked, Multi}
 use Rattle.picks.specs.Picks.{picksOf, pickedBy}
@@ -21,11 +21,11 @@ romPicked s set i = pickedBy set (s .«num_roms») (gather (picksOf set (s .«nu
 -- the address that it has there
 -- 01 unscramble 6: bit k of the address stands in the index at the position of address line k
 unfoldable pub addressAt : StoredSlot → ℕ → ℕ → ℕ
-addressAt s rom i = gather (addrLines (romAt s rom)) (addrPosition s rom) i
+addressAt s rom i = indexAddress (addrLines (romAt s rom)) (addrPosition s rom) i
 
 -- 01 unscramble 6: bit k of the value stands in the entry at the position of data line k
 unfoldable pub valueAt : StoredSlot → List ℕ → ℕ → ℕ → ℕ
-valueAt s stored rom i = gather (8 * wordBytes s) (storedDataPosition s rom) (word (wordBytes s) stored i)
+valueAt s stored rom i = gather (8 * wordBytes s) (storedDataPosition s rom) (entryWord (wordBytes s) stored i)
 
 -- whether it is this ROM that is picked
 abbrev pub picksRom : Picked → ℕ → Bool

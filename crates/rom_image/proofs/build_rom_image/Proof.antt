@@ -13,7 +13,7 @@ use Rattle.build_args.specs.Domain.{buildIn}
 use Rattle.build_args.specs.Faults.{tableSize, buildFault}
 use Rattle.build_args.specs.declared.BuildArgs.{BuildArgs}
 use Rattle.rom_image.specs.Entry.{tableOf}
-use Rattle.rom_image.specs.Build.{Built, built, buildAfter, buildOf}
+use Rattle.rom_image.specs.Build.{padByte, Built, built, buildAfter, buildOf}
 use Rattle.refusal.specs.declared.Answer.{Answer}
 use Rattle.rom_image.proofs.build_rom_image.Statement.{statement}
 use Rattle.rom_image.proofs.build_rom_image.Tie as tie
@@ -46,7 +46,7 @@ module _ (b : BuildArgs) (images lent : List ℕ) (ok : Bool) (e : ok ≡ buildI
   refused-for f why n q t = ap past (sym t ∙ q) ∙ ap tested (sym (was ok false n)) ∙ whole
 
   made : (f : FirstFault) (new : List ℕ) → not ok ≡ false → f ≡ buildFault b images (length lent) → f ≡ None
-      → new ≡ tableOf b images ++ drop (tableSize (b .description) (b .addr)) lent → built Answer.Done new ≡ buildOf b images lent
+      → new ≡ tableOf padByte b images ++ drop (tableSize (b .description) (b .addr)) lent → built Answer.Done new ≡ buildOf b images lent
   made f new n q t h = ap (built Answer.Done) h ∙ ap past (sym t ∙ q) ∙ ap tested (sym (was ok false n)) ∙ whole
 
 returns : tie.Need-returns

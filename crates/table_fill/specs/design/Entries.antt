@@ -6,8 +6,8 @@ use mathlib.Core.Bool.{true, false, cond}
 use mathlib.Core.List.{List, _++_}
 use lib.Dec.{ltb}
 use lib.ListN.{length, drop, getD}
-use Rattle.bits.specs.Bits.{gather, scatter}
-use Rattle.words.specs.Words.{wordFrom, wordsBytes}
+use Rattle.bits.specs.Bits.{gather, indexAddress, scatter}
+use Rattle.words.specs.Words.{wordFrom, entriesBytes}
 use Rattle.table_fill.specs.declared.wiring.Wiring.{Wiring}
 use Rattle.table_fill.specs.declared.wiring.Part.{Part}
 use Rattle.table_fill.specs.declared.sources.Source.{Source}
@@ -23,7 +23,7 @@ pub record WiringIn (w : Wiring) : Type 0 where
 -- bit k of the address is the index bit at the position of line k
 abbrev pub partOf : Wiring → ℕ → Part
 partOf w i = record {
-  address = gather (w .«num_lines») (λ k. getD (w .address) k 0) i;
+  address = indexAddress (w .«num_lines») (λ k. getD (w .address) k 0) i;
   picks = gather (w .«num_picks») (λ k. getD (w .picks) k 0) i;
 }
 
@@ -62,4 +62,4 @@ entryBy w sources pad images i =
 -- behind the entries the buffer keeps what it held
 abbrev pub tableBy : Wiring → List Source → ℕ → List ℕ → ℕ → List ℕ → List ℕ
 tableBy w sources pad images entries old =
-    wordsBytes (w .«word_bytes») (entryBy w sources pad images) entries ++ drop (entries * w .«word_bytes») old
+    entriesBytes (w .«word_bytes») (entryBy w sources pad images) entries ++ drop (entries * w .«word_bytes») old

@@ -4,7 +4,7 @@ use mathlib.Core.Bool.{Bool, true, cond}
 use mathlib.Core.List.{List, _++_, _∷_}
 use lib.Dec.{eqb, ltb}
 use lib.ListN.{getD, take, drop, replicate}
-use Rattle.words.specs.Words.{bytesOf, word}
+use Rattle.words.specs.Words.{bytesOf, word, chipWord}
 use Rattle.table_read.specs.design.Kept.{outputAfter, marksAfter, firstBad, outcomeOf}
 use Rattle.table_read.specs.declared.Outcome.{Outcome}
 use Rattle.table_read.specs.declared.Outcome.the-variants.{Whole, Disagrees, Missing}
@@ -24,7 +24,7 @@ abbrev pub keepWord : ℕ → ℕ → ℕ → List ℕ → List ℕ → Kept Boo
 keepWord w f value output marks =
     cond (eqb (getD marks f 0) 0)
     (kept true (take (f * w) output ++ bytesOf w value ++ drop (f * w + w) output) (take f marks ++ (1 ∷ drop (f + 1) marks)))
-    (kept (eqb (word w output f) value) output marks)
+    (kept (eqb (chipWord w output f) value) output marks)
 
 -- the words at the front after m entries, and what stood past them
 abbrev pub outputHeld : ℕ → (ℕ → ℕ) → (ℕ → ℕ) → ℕ → ℕ → List ℕ → List ℕ

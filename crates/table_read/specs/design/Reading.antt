@@ -6,7 +6,7 @@ use lib.Bits.{bitAnd}
 use lib.Dec.{ltb, eqb}
 use lib.ListN.{getD}
 use Rattle.bits.specs.Bits.{gather}
-use Rattle.words.specs.Words.{word}
+use Rattle.words.specs.Words.{word, entryWord}
 use Rattle.table_read.specs.declared.maps.Map.{Map}
 use Rattle.table_read.specs.declared.reading.Extent.{Extent}
 use Rattle.table_read.specs.declared.reading.Reading.{Reading}
@@ -42,7 +42,7 @@ wordBy r i =
 
 -- what it says
 unfoldable pub valueBy : Reading → List ℕ → ℕ → ℕ
-valueBy r stored i = partBy (r .«data_lines») (romBy r i) (word (r .«word_bytes») stored i)
+valueBy r stored i = partBy (r .«data_lines») (romBy r i) (entryWord (r .«word_bytes») stored i)
 
 -- no more lines than there is room for
 abbrev pub MapsIn : List Map → Type 0

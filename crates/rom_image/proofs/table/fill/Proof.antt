@@ -17,7 +17,8 @@ use Rattle.build_args.specs.Args.{argsOf}
 use Rattle.build_args.proofs.Facts.{selected, data-base}
 use Rattle.build_args.specs.Faults.{entriesOf, tableSize}
 use Rattle.build_args.specs.declared.images.ImageSpan.{ImageSpan}
-use Rattle.rom_image.specs.Entry.{padByte, padOf, tableOf}
+use Rattle.rom_image.specs.Entry.{padOf, tableOf}
+use Rattle.rom_image.specs.Build.{padByte}
 use Rattle.rom_image.specs.design.Wiring.{wiringOf, sourcesOf}
 use Rattle.rom_image.proofs.Buildable.{Buildable}
 use Rattle.rom_image.proofs.Entries.{wiring-in, sources-in, table-is}
@@ -50,14 +51,14 @@ entries pins h = shifted-one pins 32 (omega arith)
 
 -- what is handed on, by what it is
 module _ (d : Description) (a : AddrLayout) (l : CsDataLayout) (images : List ℕ) (spans : List ImageSpan) (b : Buildable d a l images spans)
-    (w : Wiring) (ss : List Source) (pad n : ℕ) (ew : w ≡ wiringOf d a l) (es : ss ≡ sourcesOf d spans) (ep : pad ≡ padOf d) (en : n ≡ entriesOf a) where
+    (w : Wiring) (ss : List Source) (pad n : ℕ) (ew : w ≡ wiringOf d a l) (es : ss ≡ sourcesOf d spans) (ep : pad ≡ padOf padByte d) (en : n ≡ entriesOf a) where
   ready : (room : ℕ) → entriesOf a ≤ 2 ^ 20 → tableSize d a ≤ room
       → (WiringIn w × SourcesIn images w ss × (pad < 2 ^ (8 * w .«word_bytes»))) × ((n ≤ 2 ^ 20) × (n * w .«word_bytes» ≤ room))
   unfolding wiringOf
   ready room f r = rw (ew, es, ep, en) ((wiring-in d a l images spans b, sources-in d a l images spans b, pad-lt (d .«word_bytes») padByte (omega arith)), (f, r))
 
-  done : (old new : List ℕ) → new ≡ tableBy w ss pad images n old → new ≡ tableOf (argsOf d a l spans) images ++ drop (tableSize d a) old
-  done old new e = rw (ew, es, ep, en, table-is d a l images spans b old) at e
+  done : (old new : List ℕ) → new ≡ tableBy w ss pad images n old → new ≡ tableOf padByte (argsOf d a l spans) images ++ drop (tableSize d a) old
+  done old new e = rw (ew, es, ep, en, table-is d a l images spans b padByte old) at e
 
 fill-by-requires : tie.Need-fill-by-requires
 fill-by-requires c κs =
