@@ -5,8 +5,9 @@ use control::multi_cs_config::MultiAnswer;
 use control::multi_cs_config::MultiOutcome;
 use control::multi_cs_config::derive_multi_cs_config;
 use gpio::window::Window;
-use libc::STDOUT_FILENO;
-use refusal::Refusal;
+use say::say;
+use say::say_number;
+use say::say_refusal;
 use slot::description::ControlLine;
 use slot::description::ControlLines;
 use slot::description::CsConfig;
@@ -15,14 +16,6 @@ use slot::description::Setting;
 use slot::slot_context::OffsetAnswer;
 use slot::slot_context::raised;
 use slot::slot_context::socket_pin_offset;
-
-fn say(text: &[u8]) {
-    io::write_all(STDOUT_FILENO, text);
-}
-
-fn say_number(n: u64) {
-    io::print_decimal(STDOUT_FILENO, n);
-}
 
 fn window(base: u8, span: u8) {
     say(b"window ");
@@ -34,14 +27,6 @@ fn window(base: u8, span: u8) {
     } else {
         say(b": does not fit\n");
     }
-}
-
-fn say_refusal(r: Refusal) {
-    say(b"number ");
-    say_number(r.number() as u64);
-    say(b", place ");
-    say_number(r.place());
-    say(b"\n");
 }
 
 // An offset is written as four more than it is, so that it is at least 0.

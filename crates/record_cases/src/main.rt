@@ -13,21 +13,15 @@ use cs_data_layout::layout::CsDataOutcome;
 use cs_data_layout::layout::GivenLayout;
 use cs_data_layout::layout::IgnoreIndex;
 use cs_data_layout::layout::refused;
-use libc::STDOUT_FILENO;
 use refusal::Answer;
 use refusal::Refusal;
 use rom_image::build_rom_image;
+use say::say;
+use say::say_number;
+use say::say_refusal;
 use slot::description::Description;
 use std::num::wrapping_add_u8;
 ghost use Prim.Native.Nat.{_≤_};
-
-fn say(text: &[u8]) {
-    io::write_all(STDOUT_FILENO, text);
-}
-
-fn say_number(n: u64) {
-    io::print_decimal(STDOUT_FILENO, n);
-}
 
 fn with(b: [u8; 424], place: usize, value: u8) -> [u8; 424] {
     let mut out = b;
@@ -312,14 +306,6 @@ fn three_lines(first: u8, second: u8, third: u8, or: u8) {
         AddrOutcome::LaidOut => say_layout(answer.layout),
         AddrOutcome::Refused(r) => say_refusal(r),
     }
-}
-
-fn say_refusal(r: Refusal) {
-    say(b"number ");
-    say_number(r.number() as u64);
-    say(b", place ");
-    say_number(r.place());
-    say(b"\n");
 }
 
 fn say_ignore_index(layout: CsDataLayout) {

@@ -17,6 +17,7 @@ mod layouts; // the numbers of both layouts
 
 use crate::line::Line;
 use libc::STDIN_FILENO;
+use say::say;
 ghost use Prim.Native.Nat.{_<_};
 
 // What a read leaves: the line that has not ended yet, and whether more may come.
@@ -69,7 +70,7 @@ fn read_some(line: Line, numbers: &mut [u64], cases: &mut [u64], differ: &mut [u
     let mut buf = io::large_buffer();
     let got = libc::read(STDIN_FILENO, &mut buf);
     if got < 0 {
-        tally::say(b"the list cannot be read\n");
+        say(b"the list cannot be read\n");
     }
     let n = io::count(got, &buf);
     Step {

@@ -2,21 +2,14 @@
 // place k of `differ` the cases of kind k whose answer differs, place 0 all of them.
 use crate::case::number_at;
 use crate::verdict::Verdict;
-use libc::STDOUT_FILENO;
+use say::say;
+use say::say_number;
 use std::num::wrapping_add_u64;
 
 const LAST_KIND: usize = 7;
 
 // Differences whose line is named.
 const SHOWN: u64 = 5;
-
-pub(crate) fn say(text: &[u8]) {
-    io::write_all(STDOUT_FILENO, text);
-}
-
-fn say_number(n: u64) {
-    io::print_decimal(STDOUT_FILENO, n);
-}
 
 fn count(counts: &mut [u64], kind: usize) {
     if kind < counts.len() {

@@ -5,11 +5,12 @@ use addr_layout::derive_addr_layout;
 use build_args::images::ImageSpan;
 use gpio::candidates::Candidates;
 use gpio::candidates::Pin;
-use libc::STDOUT_FILENO;
 use lists::array::entry;
 use refusal::Answer;
 use refusal::Refusal;
 use round_trip::round_trip;
+use say::say;
+use say::say_number;
 use slot::description::Board;
 use slot::description::Chip;
 use slot::description::ChipSetType;
@@ -34,14 +35,6 @@ struct Case {
     lines: u8,
     size: u16,
     limit: u32,
-}
-
-fn say(text: &[u8]) {
-    io::write_all(STDOUT_FILENO, text);
-}
-
-fn say_number(n: u64) {
-    io::print_decimal(STDOUT_FILENO, n);
 }
 
 // The GPIO at place k of the socket, data lines first and those of each byte reversed. The address lines are turned round in pairs; the
