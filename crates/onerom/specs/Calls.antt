@@ -20,9 +20,9 @@ use Rattle.cs_data_layout.specs.declared.layout.CsDataOutcome.{CsDataOutcome}
 use Rattle.cs_data_layout.specs.declared.layout.CsDataAnswer.{CsDataAnswer}
 use Rattle.build_args.specs.Args.{argsOf}
 use Rattle.rom_image.specs.Build.{Built, buildOf}
-use Rattle.layout_record.specs.AddrRecord.{addrSize, layoutBytes, layoutAt, layoutFormed, givenAt, givenFormed}
-use Rattle.layout_record.specs.CsDataRecord.{csDataSize, csDataBytes, csDataAt, csDataFormed}
-use Rattle.layout_record.specs.ImageRecord.{spansAt, spansFormed}
+use Rattle.addr_record.specs.AddrRecord.{addrSize, layoutBytes, layoutAt, layoutFormed, givenAt, givenFormed}
+use Rattle.cs_data_record.specs.CsDataRecord.{csDataSize, csDataBytes, csDataAt, csDataFormed}
+use Rattle.image_record.specs.ImageRecord.{spansAt, spansFormed}
 use Rattle.refusal.specs.declared.first.FirstFault.{FirstFault}
 use Rattle.stored_record.specs.StoredRecord.{storedAt, storedFormed}
 use Rattle.unscramble.specs.Recovered.{ReadBack, unscrambled}

@@ -3,10 +3,9 @@ use crate::refused::packed;
 use addr_layout::layout::AddrAnswer;
 use addr_layout::layout::AddrLayout;
 use addr_layout::layout::AddrOutcome;
-use layout_record::addr_record;
 use refusal::Refusal;
 ghost use mathlib.Core.Path.{_≡_};
-ghost use Rattle.layout_record.specs.AddrRecord.{addrSize, layoutBytes};
+ghost use Rattle.addr_record.specs.AddrRecord.{addrSize, layoutBytes};
 ghost use Rattle.onerom.specs.Calls.{answer, written, addrFound};
 
 // Writes the layout's record, if the buffer holds one.

@@ -1,9 +1,6 @@
 // The build, from the records of a caller that has no structs to its answer as one number.
 use crate::refused::result;
 use build_args::BuildArgs;
-use layout_record::addr_record;
-use layout_record::cs_data_record;
-use layout_record::image_record;
 use rom_image::build_rom_image;
 use slot::description::Description;
 ghost use mathlib.Core.Path.{_≡_};

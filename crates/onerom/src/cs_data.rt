@@ -3,10 +3,9 @@ use crate::refused::packed;
 use cs_data_layout::layout::CsDataAnswer;
 use cs_data_layout::layout::CsDataLayout;
 use cs_data_layout::layout::CsDataOutcome;
-use layout_record::cs_data_record;
 use refusal::Refusal;
 ghost use mathlib.Core.Path.{_≡_};
-ghost use Rattle.layout_record.specs.CsDataRecord.{csDataSize, csDataBytes};
+ghost use Rattle.cs_data_record.specs.CsDataRecord.{csDataSize, csDataBytes};
 ghost use Rattle.onerom.specs.Calls.{answer, written, csDataFound};
 
 // Writes the layout's record, if the buffer holds one.

@@ -8,10 +8,9 @@ mod read_back; // read-back's answer, handed over
 mod trip; // the round trip's answer, handed over
 
 use addr_layout::derive_addr_layout;
+use addr_record::given_at;
+use addr_record::given_formed;
 use cs_data_layout::derive_cs_data_layout;
-use layout_record::addr_record::given_at;
-use layout_record::addr_record::given_formed;
-use layout_record::image_record;
 use refusal::Answer;
 use refusal::Refusal;
 use refused::packed;

@@ -1,6 +1,5 @@
 // The round trip, from the records of a caller that has no structs to its answer as one number.
 use crate::refused::result;
-use layout_record::image_record;
 use round_trip::round_trip;
 use slot::description::Description;
 ghost use mathlib.Core.Path.{_≡_};

@@ -9,7 +9,7 @@ use Rattle.description_record.specs.declared.Decoded.{Decoded}
 use Rattle.cs_data_layout.specs.Search.{csDataAnswer}
 use Rattle.cs_data_layout.specs.declared.layout.CsDataAnswer.{CsDataAnswer}
 use Rattle.cs_data_layout.specs.declared.layout.GivenLayout.{GivenLayout}
-use Rattle.layout_record.specs.AddrRecord.{givenAt}
+use Rattle.addr_record.specs.AddrRecord.{givenAt}
 use Rattle.onerom.specs.Calls.{answer, callRefused, ifRecord, csDataFound, csDataCall}
 use Rattle.onerom.proofs.Records.{taken, no-record, formed, not-formed}
 use Rattle.onerom.proofs.onerom_derive_cs_data_layout.Statement.{statement}

@@ -3,7 +3,7 @@ use native.Mathlib.Omega.{arith}
 use lib.ListN.{length}
 use borrow.Author.Needs.{needs}
 use borrow.Author.Tests.{lt-ltb, le-ltb}
-use Rattle.layout_record.specs.AddrRecord.{addrSize}
+use Rattle.addr_record.specs.AddrRecord.{addrSize}
 use Rattle.onerom.proofs.addr.write.Statement.{statement}
 use Rattle.onerom.proofs.addr.write.Tie as tie
 

@@ -3,7 +3,7 @@ use native.Mathlib.Omega.{arith}
 use lib.ListN.{length}
 use borrow.Author.Needs.{needs}
 use borrow.Author.Tests.{lt-ltb, le-ltb}
-use Rattle.layout_record.specs.CsDataRecord.{csDataSize}
+use Rattle.cs_data_record.specs.CsDataRecord.{csDataSize}
 use Rattle.onerom.proofs.cs_data.write.Statement.{statement}
 use Rattle.onerom.proofs.cs_data.write.Tie as tie
 

@@ -1,0 +1,176 @@
+// The select and data layout record: written where the search answers, read where a build is handed one.
+// docs/INTERFACE.md gives the place of each number.
+use bytes::copy;
+use cs_data_layout::layout::CsDataLayout;
+use cs_data_layout::layout::IgnoreIndex;
+use cs_data_layout::layout::Qualifiers;
+use cs_data_layout::layout::SelectLine;
+use fields::sixteen_at;
+use lists::array::entry;
+use lists::array::one_if;
+ghost use mathlib.Core.Path.{_≡_};
+ghost use mathlib.Core.List.{_++_};
+ghost use Prim.Native.Nat.{_+_, _<_, _/_, _%_, _≤_};
+ghost use lib.ListN.{length, drop};
+ghost use Rattle.cs_data_record.specs.CsDataRecord.{csDataSize, ignoreByte, csDataHead, selectLineAt, lineByte, linesBytes, csDataBytes, ignoreOf, lineFrom, linesFrom, qualifiersAt, csDataAt, csDataFormed};
+
+fn ignore_byte(index: IgnoreIndex) -> u8
+    ensures { λ r. ⌜ r ≡ ignoreByte index ⌝ }
+{
+    match index {
+        IgnoreIndex::None => 255,
+        IgnoreIndex::At(k) => k,
+    }
+}
+
+fn head(l: CsDataLayout) -> [u8; 12]
+    ensures { λ r. ⌜ r ≡ csDataHead l ⌝ }
+{
+    let index = l.cs_ignore_index;
+    let qualifiers = l.qualifiers;
+    [
+        l.gpio_base,
+        l.base_data_pin,
+        l.num_data_pins,
+        l.base_cs_pin,
+        l.num_cs_pins,
+        ignore_byte(index),
+        l.num_select_lines,
+        l.num_commoned_lines,
+        one_if(qualifiers.present),
+        qualifiers.base_qualifier_pin,
+        qualifiers.num_qualifier_pins,
+        qualifiers.qualifier_inactive_pattern,
+    ]
+}
+
+// Select lines, then commoned lines.
+fn line_at(l: CsDataLayout, k: usize) -> SelectLine
+    requires { ⌜ k < 36 ⌝ }
+    ensures { λ r. ⌜ r ≡ selectLineAt l k ⌝ }
+{
+    if k < 30 {
+        let lines = l.select_lines;
+        return lines[k];
+    }
+    let lines = l.commoned_lines;
+    lines[k - 30]
+}
+
+fn line_byte(l: CsDataLayout, j: usize) -> u8
+    requires { ⌜ j < 72 ⌝ }
+    ensures { λ r. ⌜ r ≡ lineByte (selectLineAt l (j / 2)) (j % 2) ⌝ }
+{
+    let line = line_at(l, j / 2);
+    if j % 2 == 0 {
+        return line.role;
+    }
+    line.gpio
+}
+
+fn lines_bytes(l: CsDataLayout) -> [u8; 72]
+    ensures { λ r. ⌜ r ≡ linesBytes l ⌝ }
+{
+    let mut out = [0u8; 72];
+    let mut j: usize = 0;
+    while j < 72 {
+        out[j] = line_byte(l, j);
+        j += 1;
+    }
+    out
+}
+
+// Stores the record at the front of a buffer.
+pub fn store(l: CsDataLayout, out: &mut [u8])
+    requires { ⌜ csDataSize ≤ length (now out) ⌝ }
+    ensures { λ r. ⌜ now (out .exit) ≡ csDataBytes l ++ drop csDataSize (now (out .entry)) ⌝ }
+{
+    let head = head(l);
+    let gpios = l.data_pin_gpios;
+    let lines = lines_bytes(l);
+    copy(&head, out);
+    copy(&gpios, &mut out[12..]);
+    copy(&lines, &mut out[28..]);
+}
+
+fn ignore_of(x: u8) -> IgnoreIndex
+    ensures { λ r. ⌜ r ≡ ignoreOf x ⌝ }
+{
+    if x == 255 {
+        return IgnoreIndex::None;
+    }
+    IgnoreIndex::At(x)
+}
+
+fn line_from(b: &[u8], p: usize) -> SelectLine
+    requires { ⌜ p + 2 ≤ csDataSize ⌝ }
+    ensures { λ r. ⌜ r ≡ lineFrom (now (b .entry)) p ⌝ }
+{
+    SelectLine {
+        role: entry(b, p),
+        gpio: entry(b, p + 1),
+    }
+}
+
+fn select_lines(b: &[u8]) -> [SelectLine; 30]
+    ensures { λ r. ⌜ r ≡ linesFrom (now (b .entry)) 28 30 ⌝ }
+{
+    let mut out = [SelectLine { role: 0, gpio: 0 }; 30];
+    let mut k: usize = 0;
+    while k < 30 {
+        out[k] = line_from(b, 28 + 2 * k);
+        k += 1;
+    }
+    out
+}
+
+fn commoned_lines(b: &[u8]) -> [SelectLine; 6]
+    ensures { λ r. ⌜ r ≡ linesFrom (now (b .entry)) 88 6 ⌝ }
+{
+    [
+        line_from(b, 88),
+        line_from(b, 90),
+        line_from(b, 92),
+        line_from(b, 94),
+        line_from(b, 96),
+        line_from(b, 98),
+    ]
+}
+
+fn qualifiers(b: &[u8]) -> Qualifiers
+    ensures { λ r. ⌜ r ≡ qualifiersAt (now (b .entry)) ⌝ }
+{
+    Qualifiers {
+        present: entry(b, 8) == 1,
+        base_qualifier_pin: entry(b, 9),
+        num_qualifier_pins: entry(b, 10),
+        qualifier_inactive_pattern: entry(b, 11),
+    }
+}
+
+// What the record lays out.
+pub fn layout_at(b: &[u8]) -> CsDataLayout
+    ensures { λ r. ⌜ r ≡ csDataAt (now (b .entry)) ⌝ }
+{
+    CsDataLayout {
+        gpio_base: entry(b, 0),
+        base_data_pin: entry(b, 1),
+        num_data_pins: entry(b, 2),
+        data_pin_gpios: sixteen_at(b, 12),
+        base_cs_pin: entry(b, 3),
+        num_cs_pins: entry(b, 4),
+        cs_ignore_index: ignore_of(entry(b, 5)),
+        select_lines: select_lines(b),
+        num_select_lines: entry(b, 6),
+        commoned_lines: commoned_lines(b),
+        num_commoned_lines: entry(b, 7),
+        qualifiers: qualifiers(b),
+    }
+}
+
+// Whether the bytes are a record.
+pub fn formed(b: &[u8]) -> bool
+    ensures { λ r. ⌜ r ≡ csDataFormed (now (b .entry)) ⌝ }
+{
+    (b.len() == 100) & (entry(b, 8) <= 1)
+}

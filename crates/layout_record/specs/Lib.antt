@@ -1,3 +1,0 @@
-pub mod AddrRecord
-pub mod CsDataRecord
-pub mod ImageRecord
