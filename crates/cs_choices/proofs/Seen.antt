@@ -15,13 +15,13 @@ use Rattle.refusal.specs.declared.first.FirstFault.{FirstFault}
 use Rattle.refusal.specs.declared.first.FirstFault.the-variants.{None, Of}
 use Rattle.listing.specs.declared.Listed.{Listed}
 use Rattle.cs_choices.specs.Sets.{verdictOn}
-use Rattle.cs_choices.specs.Verdict.{selectable, allOf, inOneWindow, scoreOf, verdictOf}
+use Rattle.cs_verdict.specs.Verdict.{selectable, allOf, inOneWindow, scoreOf, verdictOf}
 use Rattle.cs_choices.specs.Nothing.{interiorIn, interiorOf, interior, refusedOf, lastRefused, nothingFits}
 use Rattle.cs_choices.specs.design.Seen.{orSet, interiorSet, refusedSet, refusedIn, noneSeen, seenOnward}
 use Rattle.cs_choices.specs.declared.choices.Fixed.{Fixed}
 use Rattle.cs_choices.specs.declared.nothing.Seen.{Seen}
-use Rattle.cs_choices.specs.declared.verdict.Verdict.{Verdict}
-use Rattle.cs_choices.specs.declared.verdict.Verdict.the-variants.{DataGap, SelectGap, OutsideWindow, Fits}
+use Rattle.cs_verdict.specs.declared.Verdict.{Verdict}
+use Rattle.cs_verdict.specs.declared.Verdict.the-variants.{DataGap, SelectGap, OutsideWindow, Fits}
 
 -- the first of two faults is that of the first of two sets
 module _ (refusal : ℕ → Refusal) (s t : ℕ) where

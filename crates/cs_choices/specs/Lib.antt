@@ -1,4 +1,3 @@
-pub mod Verdict
 pub mod Sets
 pub mod Nothing
 pub mod design

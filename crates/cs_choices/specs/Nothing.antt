@@ -8,8 +8,8 @@ use Rattle.refusal.specs.declared.Refusal.the-variants.{NonContiguousSelect, In
 use Rattle.refusal.specs.First.{orElse}
 use Rattle.refusal.specs.declared.first.FirstFault.{FirstFault}
 use Rattle.refusal.specs.declared.first.FirstFault.the-variants.{None, Of}
-use Rattle.cs_choices.specs.declared.verdict.Verdict.{Verdict}
-use Rattle.cs_choices.specs.declared.verdict.Verdict.the-variants.{DataGap, SelectGap, OutsideWindow, Fits}
+use Rattle.cs_verdict.specs.declared.Verdict.{Verdict}
+use Rattle.cs_verdict.specs.declared.Verdict.the-variants.{DataGap, SelectGap, OutsideWindow, Fits}
 
 -- 01 Number 8: an ignored GPIO is in the gap of a set that was refused
 -- 01 cs_data_layout 9: of the ignored GPIOs that one choice sees, 8 names the lowest

@@ -6,9 +6,9 @@ use lib.ListN.{length}
 use Rattle.gpio.specs.Set.{setOf}
 use Rattle.listing.specs.Choice.{gpioAt}
 use Rattle.listing.specs.declared.Listed.{Listed}
-use Rattle.cs_choices.specs.Verdict.{verdictOf}
+use Rattle.cs_verdict.specs.Verdict.{verdictOf}
 use Rattle.cs_choices.specs.declared.choices.Fixed.{Fixed}
-use Rattle.cs_choices.specs.declared.verdict.Verdict.{Verdict}
+use Rattle.cs_verdict.specs.declared.Verdict.{Verdict}
 
 -- 01 cs_data_layout 5: the data GPIOs are those of the first n numbered pins, n being the number of data pins
 abbrev pub dataSet : List Listed → ℕ → ℕ → ℕ

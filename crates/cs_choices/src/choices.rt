@@ -1,7 +1,7 @@
 // The choices, and which of them is the best. A choice number has two parts: the GPIOs of the bits below a split are found
 // once, and joined in each row of choices with those of the other bits.
-use crate::verdict::Verdict;
-use crate::verdict::judge;
+use cs_verdict::Verdict;
+use cs_verdict::judge;
 use gpio::set::with;
 use listing::Listing;
 use listing::choice::in_part;
@@ -20,7 +20,7 @@ ghost use Rattle.listing.specs.Choice.{GpiosIn};
 ghost use Rattle.listing.specs.Listing.{listOf};
 ghost use Rattle.search.specs.Search.{best};
 ghost use Rattle.search.specs.design.Rows.{bestOnward};
-ghost use Rattle.cs_choices.specs.Verdict.{verdictTrial};
+ghost use Rattle.cs_verdict.specs.Verdict.{verdictTrial};
 ghost use Rattle.cs_choices.specs.Sets.{verdictOn};
 ghost use Rattle.cs_choices.specs.design.Parts.{setPartAt, partsOf, setsOf, noSets, inRow};
 

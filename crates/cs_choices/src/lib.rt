@@ -1,4 +1,3 @@
-// The choices of the select and data search: the verdict on each, the best of them, and why none fits.
-pub mod verdict; // the verdict on one choice
+// The choices of the select and data search: the best of them, and why none fits.
 pub mod choices; // the choices, and the best of them
 pub mod nothing; // why nothing fits

@@ -5,7 +5,7 @@ use crate::choices::Sets;
 use crate::choices::joined;
 use crate::choices::low_parts;
 use crate::choices::parts;
-use crate::verdict::Verdict;
+use cs_verdict::Verdict;
 use gpio::set::GpioSet;
 use gpio::set::gap;
 use gpio::set::lowest;

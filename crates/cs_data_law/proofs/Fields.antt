@@ -25,11 +25,11 @@ use Rattle.listing.specs.Choice.{CandidateOf, pinAt, gpioAt}
 use Rattle.listing.specs.declared.Listed.{Listed}
 use Rattle.listing.proofs.InDomain.{gpio-in}
 use Rattle.cs_pins.specs.Pins.{kindListed, multiCommoned, commonedListed, numbered, csSearchIn}
-use Rattle.cs_pins.specs.Roles.{selectRoles}
+use Rattle.cs_roles.specs.Roles.{selectRoles}
 use Rattle.cs_pins.proofs.InDomain.{numbered-in}
-use Rattle.cs_pins.proofs.Counts.{few-roles, numbered-length, data-pin, select-pin, kind-on}
+use Rattle.cs_data_law.proofs.Counts.{few-roles, numbered-length, data-pin, select-pin, kind-on}
 use Rattle.cs_choices.specs.Sets.{dataSet}
-use Rattle.cs_choices.specs.Verdict.{baseOf, inOneWindow}
+use Rattle.cs_verdict.specs.Verdict.{baseOf, inOneWindow}
 use Rattle.cs_data_layout.specs.Layout.{line, handed}
 use Rattle.cs_data_layout.specs.Choices.{numData, numCommoned, excessGpio, excessSet, qualifierSet, selectLine, commonedLine, csDataLayoutOf}
 use Rattle.cs_data_layout.specs.Search.{givenIn}

@@ -20,10 +20,10 @@ use Rattle.search.specs.declared.Found.the-variants.{Nothing, At}
 use Rattle.search.proofs.Law.{best-right}
 use Rattle.cs_pins.specs.Pins.{numbered}
 use Rattle.cs_choices.specs.Sets.{dataSet}
-use Rattle.cs_choices.specs.Verdict.{verdictTrial}
+use Rattle.cs_verdict.specs.Verdict.{verdictTrial}
 use Rattle.cs_choices.specs.Nothing.{interior, lastRefused}
-use Rattle.cs_choices.specs.declared.verdict.Verdict.{Verdict}
-use Rattle.cs_choices.specs.declared.verdict.Verdict.the-variants.{DataGap, SelectGap, OutsideWindow, Fits}
+use Rattle.cs_verdict.specs.declared.Verdict.{Verdict}
+use Rattle.cs_verdict.specs.declared.Verdict.the-variants.{DataGap, SelectGap, OutsideWindow, Fits}
 use Rattle.cs_data_layout.specs.Layout.{csDataRefused, handed}
 use Rattle.cs_data_layout.specs.Choices.{numData, qualifierSet, ignoredSet}
 use Rattle.cs_data_layout.specs.Search.{csBest, orNoLayout, noneFits, csDataAnswerOf, csDataAnswer}

@@ -6,8 +6,8 @@ use Prim.Native.Nat.{ℕ, _+_, _*_, _≤_, _<_}
 use native.Mathlib.Nat.{eq-or-lt-of-le}
 use native.Mathlib.Omega.{arith}
 use Rattle.gpio.specs.Set.{width, gapless}
-use Rattle.cs_choices.specs.Verdict.{selectable, allOf, inOneWindow, scoreOf, verdictOf}
-use Rattle.cs_choices.specs.declared.verdict.Verdict.the-variants.{DataGap, SelectGap, OutsideWindow, Fits}
+use Rattle.cs_verdict.specs.Verdict.{selectable, allOf, inOneWindow, scoreOf, verdictOf}
+use Rattle.cs_verdict.specs.declared.Verdict.the-variants.{DataGap, SelectGap, OutsideWindow, Fits}
 
 -- a choice that fits is past each test, and has its score
 judged : (x y z : Bool) (s t u : ℕ) → cond x (cond y (cond z (Fits s) OutsideWindow) (SelectGap u)) DataGap ≡ Fits t

@@ -15,9 +15,9 @@ use Rattle.listing.proofs.Candidate.{candidate-at}
 use Rattle.listing.proofs.Faults.{no-fault-at, append-none, none-append}
 use Rattle.refusal.proofs.Firsts.{or-none}
 use Rattle.cs_pins.specs.Pins.{dataListed, activeListed, kindListed, selectListed, multiCommoned, commonedListed, numbered}
-use Rattle.cs_pins.specs.Checked.{orNoActive, ignoredListed, multiChecked, checked}
+use Rattle.cs_checked.specs.Checked.{orNoActive, ignoredListed, multiChecked, checked}
 use Rattle.cs_choices.specs.Sets.{dataSet}
-use Rattle.cs_choices.specs.declared.verdict.Verdict.the-variants.{Fits}
+use Rattle.cs_verdict.specs.declared.Verdict.the-variants.{Fits}
 use Rattle.cs_data_layout.specs.Layout.{handed}
 use Rattle.cs_data_layout.specs.Choices.{numData, qualifierSet}
 use Rattle.cs_data_layout.specs.Search.{missingLayout, romTooLarge, earlier}

@@ -13,8 +13,8 @@ use Rattle.refusal.specs.First.{orElse}
 use Rattle.refusal.specs.declared.first.FirstFault.{FirstFault}
 use Rattle.refusal.specs.declared.first.FirstFault.the-variants.{None, Of}
 use Rattle.cs_choices.specs.Nothing.{interiorOf, interior, refusedOf, lastRefused}
-use Rattle.cs_choices.specs.declared.verdict.Verdict.{Verdict}
-use Rattle.cs_choices.specs.declared.verdict.Verdict.the-variants.{DataGap, SelectGap, OutsideWindow, Fits}
+use Rattle.cs_verdict.specs.declared.Verdict.{Verdict}
+use Rattle.cs_verdict.specs.declared.Verdict.the-variants.{DataGap, SelectGap, OutsideWindow, Fits}
 
 one-gap : (v : Verdict) (s t : ℕ) → v ≡ SelectGap s → v ≡ SelectGap t → s ≡ t
 one-gap v s t p q = cc

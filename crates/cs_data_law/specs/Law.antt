@@ -17,9 +17,9 @@ use Rattle.refusal.specs.declared.first.FirstFault.the-variants.{None}
 use Rattle.search.specs.Law.{Best}
 use Rattle.cs_pins.specs.Pins.{numbered, csSearchIn}
 use Rattle.cs_choices.specs.Sets.{dataSet, selectSet}
-use Rattle.cs_choices.specs.Verdict.{selectable, allOf, inOneWindow, preferenceBy, verdictTrial}
-use Rattle.cs_choices.specs.declared.verdict.Verdict.{Verdict}
-use Rattle.cs_choices.specs.declared.verdict.Verdict.the-variants.{SelectGap, Fits}
+use Rattle.cs_verdict.specs.Verdict.{selectable, allOf, inOneWindow, preferenceBy, verdictTrial}
+use Rattle.cs_verdict.specs.declared.Verdict.{Verdict}
+use Rattle.cs_verdict.specs.declared.Verdict.the-variants.{SelectGap, Fits}
 use Rattle.cs_data_layout.specs.Layout.{line, handed}
 use Rattle.cs_data_layout.specs.Choices.{numData, excessSet, qualifierSet, csVerdict, csDataLayoutOf, ignoredSet}
 use Rattle.cs_data_layout.specs.Search.{givenIn, earlier, csDataAnswer}

@@ -26,7 +26,7 @@ use Rattle.addr_layout.specs.Layout.{noLayout, layoutIn}
 use Rattle.addr_layout.specs.declared.layout.AddrLayout.{AddrLayout}
 use Rattle.cs_pins.specs.Pins.{dataListed, numbered}
 use Rattle.cs_choices.specs.Sets.{verdictOn}
-use Rattle.cs_choices.specs.Verdict.{verdictTrial}
+use Rattle.cs_verdict.specs.Verdict.{verdictTrial}
 use Rattle.cs_choices.specs.Nothing.{nothingFits}
 use Rattle.cs_choices.specs.declared.choices.Fixed.{Fixed}
 use Rattle.cs_data_layout.specs.Layout.{handed}

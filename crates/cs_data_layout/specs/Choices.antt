@@ -15,9 +15,9 @@ use Rattle.listing.specs.Choice.{gpioAt}
 use Rattle.listing.specs.declared.Listed.{Listed}
 use Rattle.addr_layout.specs.declared.layout.AddrLayout.{AddrLayout}
 use Rattle.cs_pins.specs.Pins.{kindListed, numbered}
-use Rattle.cs_pins.specs.Roles.{selectRoles}
+use Rattle.cs_roles.specs.Roles.{selectRoles}
 use Rattle.cs_data_layout.specs.Layout.{line, noQualifiers}
-use Rattle.cs_choices.specs.Verdict.{allOf, baseOf}
+use Rattle.cs_verdict.specs.Verdict.{allOf, baseOf}
 use Rattle.cs_choices.specs.Sets.{dataSet, selectSet, verdictOn}
 use Rattle.cs_choices.specs.declared.choices.Fixed.{Fixed}
 use Rattle.cs_data_layout.specs.declared.layout.IgnoreIndex.{IgnoreIndex}
@@ -25,7 +25,7 @@ use Rattle.cs_data_layout.specs.declared.layout.IgnoreIndex.the-variants
 use Rattle.cs_data_layout.specs.declared.layout.SelectLine.{SelectLine}
 use Rattle.cs_data_layout.specs.declared.layout.Qualifiers.{Qualifiers}
 use Rattle.cs_data_layout.specs.declared.layout.CsDataLayout.{CsDataLayout}
-use Rattle.cs_choices.specs.declared.verdict.Verdict.{Verdict}
+use Rattle.cs_verdict.specs.declared.Verdict.{Verdict}
 
 -- 01 cs_data_layout 6: there are as many data lines as chip 0 has data pins
 abbrev pub numData : Description → ℕ

@@ -16,9 +16,9 @@ use Rattle.search.specs.declared.Found.the-variants.{Nothing, At}
 use Rattle.addr_layout.specs.Layout.{layoutIn}
 use Rattle.addr_layout.specs.declared.layout.AddrLayout.{AddrLayout}
 use Rattle.cs_pins.specs.Pins.{dataListed, numbered, csSearchIn}
-use Rattle.cs_pins.specs.Checked.{checked}
+use Rattle.cs_checked.specs.Checked.{checked}
 use Rattle.cs_data_layout.specs.Layout.{csDataRefused, handed}
-use Rattle.cs_choices.specs.Verdict.{verdictTrial}
+use Rattle.cs_verdict.specs.Verdict.{verdictTrial}
 use Rattle.cs_choices.specs.Nothing.{nothingFits}
 use Rattle.cs_data_layout.specs.Choices.{csVerdict, csDataLayoutOf, ignoredSet}
 use Rattle.cs_data_layout.specs.declared.layout.GivenLayout.{GivenLayout}

@@ -10,10 +10,10 @@ use addr_layout::layout::AddrLayout;
 use cs_choices::choices::Fixed;
 use cs_choices::choices::Sets;
 use cs_choices::choices::whole;
-use cs_choices::verdict::above;
-use cs_choices::verdict::base;
-use cs_pins::roles::Roles;
-use cs_pins::roles::select_roles;
+use cs_roles::Roles;
+use cs_roles::select_roles;
+use cs_verdict::above;
+use cs_verdict::base;
 use gpio::set::gap;
 use gpio::set::gapless;
 use gpio::set::lowest;
@@ -33,7 +33,7 @@ ghost use Rattle.lists.specs.Tab.{tab};
 ghost use Rattle.slot.specs.Description.{chip0};
 ghost use Rattle.listing.specs.Listing.{listOf};
 ghost use Rattle.listing.specs.Choice.{GpiosIn};
-ghost use Rattle.cs_choices.specs.Verdict.{allOf, baseOf};
+ghost use Rattle.cs_verdict.specs.Verdict.{allOf, baseOf};
 ghost use Rattle.cs_data_layout.specs.Choices.{numData, excessSet, qualifierSet, ignoreIndex, qualifiersFrom, selectLine, numCommoned, commonedLine, csDataLayoutFrom, csDataLayoutOf};
 
 // The place of the one GPIO that is missing.

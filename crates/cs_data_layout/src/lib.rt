@@ -9,7 +9,6 @@ use addr_layout::layout::AddrLayout;
 use cs_choices::choices::Fixed;
 use cs_choices::choices::best;
 use cs_choices::nothing;
-use cs_pins::pins;
 use layout::CsDataAnswer;
 use layout::GivenLayout;
 use layout::handed;
@@ -41,7 +40,7 @@ fn search(d: Description, h: AddrLayout) -> CsDataAnswer
 {
     let chip = d.chip0();
     let set_type = d.set_type;
-    let l = pins::list(d);
+    let l = cs_pins::list(d);
     let bits = listing::choice_bits(l);
     let fixed = Fixed {
         multi: set_type.is_multi(),
@@ -59,7 +58,7 @@ fn search(d: Description, h: AddrLayout) -> CsDataAnswer
 pub fn derive_cs_data_layout(d: Description, addr_layout: GivenLayout) -> CsDataAnswer
     ensures { λ r. ⌜ r ≡ csDataAnswer d «addr_layout» ⌝ }
 {
-    if !(pins::in_domain(d) & earlier::given_in(d, addr_layout)) {
+    if !(cs_pins::in_domain(d) & earlier::given_in(d, addr_layout)) {
         return refused(Refusal::OutOfDomain);
     }
     match earlier::earlier(d, addr_layout) {

@@ -1,7 +1,7 @@
 // The GPIOs that no choice changes: excess address lines and qualifiers, as the address layout handed in has them, and the
 // ignored lines of a Multi set.
 use addr_layout::layout::AddrLayout;
-use cs_pins::pins::kind_listed;
+use cs_pins::kind_listed;
 use domain::qualifiers::qualifier_gpio;
 use gpio::candidates::Candidates;
 use gpio::set::with;

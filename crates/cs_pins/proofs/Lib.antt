@@ -1,2 +1,1 @@
 pub mod InDomain
-pub mod Counts

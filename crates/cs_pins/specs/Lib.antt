@@ -1,3 +1,1 @@
 pub mod Pins
-pub mod Checked
-pub mod Roles

@@ -1,5 +1,167 @@
-// The pins of the select and data search: in which order a choice numbers them, in which order their faults answer, and what each
-// select line is for.
-pub mod pins; // the pins that the search numbers, in order
-pub mod checked; // the pins in the order in which their faults answer
-pub mod roles; // what each select line is for
+// The pins that the select and data search numbers: chip 0's data pins, then its select lines with X1 and X2, then the commoned
+// lines of a Multi set.
+use control::cs_config::line_ignored;
+use domain::chip::control_line;
+use domain::chip::kind_at;
+use domain::description::description_in;
+use gpio::candidates::Candidates;
+use listing::Listed;
+use listing::Listing;
+use listing::lines::commoned_kind;
+use listing::lines::kind_pin;
+use listing::lines::pin_candidates;
+use lists::array::entry;
+use refusal::Refusal;
+use slot::description::Description;
+ghost use mathlib.Core.Path.{_≡_};
+ghost use mathlib.Core.List.{_++_};
+ghost use Prim.Native.Nat.{_+_, _≤_};
+ghost use lib.ListN.{getD};
+ghost use mathlib.Core.Bool.{true};
+ghost use Rattle.slot.specs.Description.{isMulti, chip0};
+ghost use Rattle.listing.specs.Listing.{listOf};
+ghost use Rattle.cs_pins.specs.Pins.{pinListed, dataListed, active, ifActive, activeListed, kindListed, selectListed, multiCommoned, numbered, csSearchIn};
+
+// A chip pin; one without GPIO or off the socket is a fault.
+fn pin_listed(d: Description, pin: u8) -> Listed
+    ensures { λ r. ⌜ r ≡ pinListed d pin ⌝ }
+{
+    let gpios = pin_candidates(d, pin);
+    Listed {
+        gpios,
+        fault: Refusal::UnmappedPin(pin),
+    }
+}
+
+fn data_pin(d: Description, k: usize) -> u8
+    ensures { λ r. ⌜ r ≡ getD (chip0 d .«data_pins») k 0 ⌝ }
+{
+    let chip = d.chip0();
+    let pins = chip.data_pins;
+    entry(&pins, k)
+}
+
+// The data pins.
+pub fn list_data(d: Description) -> Listing
+    requires { ⌜ chip0 d .«num_data_pins» ≤ 16 ⌝ }
+    ensures { λ r. ⌜ (listOf r ≡ dataListed d) × (r .count ≤ 16) ⌝ }
+{
+    let chip = d.chip0();
+    let count = chip.num_data_pins as usize;
+    let mut l = listing::none();
+    let mut k: usize = 0;
+    while k < count {
+        l = listing::push(l, pin_listed(d, data_pin(d, k)));
+        k += 1;
+    }
+    l
+}
+
+// Whether a control line selects the chip: a named line that its setting does not ignore.
+pub fn line_active(d: Description, k: usize) -> bool
+    ensures { λ r. ⌜ r ≡ active d k ⌝ }
+{
+    let chip = d.chip0();
+    let config = d.cs_config;
+    let kind = kind_at(chip.control, k);
+    (kind <= 5) & !line_ignored(kind, config)
+}
+
+// The list, with the `k`-th control line where it selects the chip.
+fn push_active(d: Description, l: Listing, k: usize) -> Listing
+    requires { ⌜ l .count ≤ 29 ⌝ }
+    ensures { λ r. ⌜ (listOf r ≡ listOf l ++ ifActive d k) × (r .count ≤ l .count + 1) ⌝ }
+{
+    if line_active(d, k) {
+        let chip = d.chip0();
+        let line = control_line(chip.control, k);
+        return listing::push(l, pin_listed(d, line.pin));
+    }
+    l
+}
+
+// The list, with the lines that select the chip in Single and Banked.
+pub fn list_active(d: Description, before: Listing) -> Listing
+    requires { ⌜ (before .count ≤ 16) × (chip0 d .control .count ≤ 8) ⌝ }
+    ensures { λ r. ⌜ (listOf r ≡ listOf before ++ activeListed d (chip0 d .control .count)) × (r .count ≤ 24) ⌝ }
+{
+    let chip = d.chip0();
+    let lines = chip.control;
+    let count = lines.count as usize;
+    let mut l = before;
+    let mut k: usize = 0;
+    while k < count {
+        l = push_active(d, l, k);
+        k += 1;
+    }
+    l
+}
+
+// Chip 0's line of a kind; one that is not on the chip is a fault.
+pub fn kind_listed(d: Description, kind: u8) -> Listed
+    ensures { λ r. ⌜ r ≡ kindListed d kind ⌝ }
+{
+    let pin = kind_pin(d, kind);
+    if pin == 0 {
+        return Listed {
+            gpios: Candidates::Absent,
+            fault: Refusal::NoSelectLine,
+        };
+    }
+    pin_listed(d, pin)
+}
+
+// The list, with the select lines, X1 and X2.
+fn list_selects(d: Description, before: Listing) -> Listing
+    requires { ⌜ (before .count ≤ 16) × (chip0 d .control .count ≤ 8) ⌝ }
+    ensures { λ r. ⌜ (listOf r ≡ listOf before ++ selectListed d) × (r .count ≤ 24) ⌝ }
+{
+    let board = d.board;
+    let set_type = d.set_type;
+    let multi = d.multi;
+    if set_type.is_multi() {
+        let with_select = listing::push(before, kind_listed(d, multi.select));
+        return listing::push_x(with_select, board, 2 <= d.num_chips, 3 <= d.num_chips);
+    }
+    list_active(d, before)
+}
+
+// The list, with the commoned lines.
+pub fn push_commoned(d: Description, selects: Listing) -> Listing
+    requires { ⌜ (selects .count ≤ 24) × (d .multi .«num_commoned» ≤ 6) ⌝ }
+    ensures { λ r. ⌜ (listOf r ≡ listOf selects ++ multiCommoned d) × (r .count ≤ selects .count + 6) ⌝ }
+{
+    let multi = d.multi;
+    let count = multi.num_commoned as usize;
+    let mut l = selects;
+    let mut k: usize = 0;
+    while k < count {
+        l = listing::push(l, kind_listed(d, commoned_kind(d, k)));
+        k += 1;
+    }
+    l
+}
+
+// All the pins that the search numbers.
+pub fn list(d: Description) -> Listing
+    requires { ⌜ (chip0 d .«num_data_pins» ≤ 16) × (chip0 d .control .count ≤ 8) × (isMulti (d .«set_type») ≡ true → d .multi .«num_commoned» ≤ 6) ⌝ }
+    ensures { λ r. ⌜ (listOf r ≡ numbered d) × (r .count ≤ 30) ⌝ }
+{
+    let set_type = d.set_type;
+    let selects = list_selects(d, list_data(d));
+    let has_commoned = set_type.is_multi();
+    if has_commoned {
+        return push_commoned(d, selects);
+    }
+    selects
+}
+
+// Whether the select search takes the description, the layout handed in aside.
+pub fn in_domain(d: Description) -> bool
+    ensures { λ r. ⌜ r ≡ csSearchIn d ⌝ }
+{
+    if description_in(d) {
+        return listing::choice_bits(list(d)) <= 16;
+    }
+    false
+}

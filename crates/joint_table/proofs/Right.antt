@@ -17,8 +17,8 @@ use Rattle.addr_lines.specs.Range.{reach}
 use Rattle.addr_choices.specs.Choices.{fixedSpan, spanUpTo, spanTrial}
 use Rattle.addr_layout.specs.Search.{addrBest}
 use Rattle.cs_pins.specs.Pins.{pinListed, dataListed, activeListed, selectListed, commonedListed, numbered, csSearchIn}
-use Rattle.cs_pins.specs.Checked.{orNoActive, checked}
-use Rattle.cs_choices.specs.Verdict.{verdictOf}
+use Rattle.cs_checked.specs.Checked.{orNoActive, checked}
+use Rattle.cs_verdict.specs.Verdict.{verdictOf}
 use Rattle.cs_choices.specs.Nothing.{interior, lastRefused}
 use Rattle.cs_data_layout.specs.Search.{earlier, csBest, noneFits}
 use Rattle.bits.specs.Bits.{gather, scatter}

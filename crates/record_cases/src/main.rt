@@ -284,7 +284,7 @@ fn searches(set_type: u8, chips: u8, first: usize, lines: usize, x1: u8) {
     say(b"address search");
     say_verdict(address_taken(decoded.description));
     say(b"select search");
-    say_verdict(cs_pins::pins::in_domain(decoded.description));
+    say_verdict(cs_pins::in_domain(decoded.description));
 }
 
 fn say_layout(layout: AddrLayout) {

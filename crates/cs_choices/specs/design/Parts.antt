@@ -10,11 +10,11 @@ use Rattle.gpio.specs.Set.{with}
 use Rattle.listing.specs.Choice.{gpioAt, bitOf}
 use Rattle.listing.specs.design.Parts.{inPart}
 use Rattle.listing.specs.declared.Listed.{Listed}
-use Rattle.cs_choices.specs.Verdict.{verdictOf}
+use Rattle.cs_verdict.specs.Verdict.{verdictOf}
 use Rattle.cs_choices.specs.Sets.{dataSet, selectSet}
 use Rattle.cs_choices.specs.declared.choices.Sets.{Sets}
 use Rattle.cs_choices.specs.declared.choices.Fixed.{Fixed}
-use Rattle.cs_choices.specs.declared.verdict.Verdict.{Verdict}
+use Rattle.cs_verdict.specs.declared.Verdict.{Verdict}
 
 -- of the GPIOs that choice c gives the pins from one on, those of pins whose bit is in one part of the number, the first k
 -- numbered pins passed

@@ -9,8 +9,8 @@ use Rattle.refusal.specs.declared.Refusal.the-variants.{NonContiguousSelect}
 use Rattle.refusal.specs.declared.first.FirstFault.{FirstFault}
 use Rattle.refusal.specs.declared.first.FirstFault.the-variants.{None, Of}
 use Rattle.cs_choices.specs.declared.nothing.Seen.{Seen}
-use Rattle.cs_choices.specs.declared.verdict.Verdict.{Verdict}
-use Rattle.cs_choices.specs.declared.verdict.Verdict.the-variants.{DataGap, SelectGap, OutsideWindow, Fits}
+use Rattle.cs_verdict.specs.declared.Verdict.{Verdict}
+use Rattle.cs_verdict.specs.declared.Verdict.the-variants.{DataGap, SelectGap, OutsideWindow, Fits}
 
 -- the first of two sets that has a GPIO
 abbrev pub orSet : ℕ → ℕ → ℕ

@@ -9,7 +9,7 @@ use Rattle.listing.specs.Listing.{listOf}
 use Rattle.search.specs.Search.{best}
 use Rattle.search.proofs.Rows.{rows-turn, rows-done}
 use Rattle.cs_choices.specs.Sets.{verdictOn}
-use Rattle.cs_choices.specs.Verdict.{verdictTrial}
+use Rattle.cs_verdict.specs.Verdict.{verdictTrial}
 use Rattle.cs_choices.proofs.Rows.{AtRow, rows-begun, row-passed, first-is, count-is, choices-fit, row-judged}
 use borrow.Author.Needs.{needs}
 use Rattle.cs_choices.proofs.choices.best.Statement.{statement}

@@ -5,7 +5,7 @@ use native.Mathlib.Omega.{arith}
 use lib.ListN.{length, getD}
 use Rattle.search.specs.design.Rows.{bestOnward}
 use Rattle.search.proofs.Rows.{onward-turn, onward-done}
-use Rattle.cs_choices.specs.Verdict.{verdictTrial}
+use Rattle.cs_verdict.specs.Verdict.{verdictTrial}
 use Rattle.cs_choices.specs.design.Parts.{noSets, inRow}
 use borrow.Author.Needs.{needs}
 use Rattle.cs_choices.proofs.choices.best_in_row.Statement.{statement}

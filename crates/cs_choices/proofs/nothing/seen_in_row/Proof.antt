@@ -7,7 +7,7 @@ use lib.ListN.{length, getD}
 use Rattle.cs_choices.specs.design.Parts.{noSets, inRow}
 use Rattle.cs_choices.specs.design.Seen.{seenWith, seenOnward}
 use Rattle.cs_choices.specs.declared.nothing.Seen.{Seen}
-use Rattle.cs_choices.specs.declared.verdict.Verdict.{Verdict}
+use Rattle.cs_verdict.specs.declared.Verdict.{Verdict}
 use borrow.Author.Needs.{needs}
 use Rattle.cs_choices.proofs.nothing.seen_in_row.Statement.{statement}
 use Rattle.cs_choices.proofs.nothing.seen_in_row.Tie as tie

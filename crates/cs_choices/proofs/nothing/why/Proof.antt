@@ -16,7 +16,7 @@ use Rattle.cs_choices.specs.design.Seen.{refusedIn, seenWith, seenOnward
 use Rattle.cs_choices.specs.Sets.{verdictOn}
 use Rattle.cs_choices.specs.declared.choices.Fixed.{Fixed}
 use Rattle.cs_choices.specs.declared.nothing.Seen.{Seen}
-use Rattle.cs_choices.specs.declared.verdict.Verdict.{Verdict}
+use Rattle.cs_verdict.specs.declared.Verdict.{Verdict}
 use Rattle.cs_choices.proofs.Rows.{AtRow, rows-begun, row-passed, count-is, choices-fit, row-judged}
 use Rattle.cs_choices.proofs.Seen.{shown, why-shown}
 use borrow.Author.Needs.{needs}

@@ -16,9 +16,9 @@ use Rattle.listing.specs.Choice.{chosen, restAt, gpioAt}
 use Rattle.listing.specs.Listing.{listed, listOf}
 use Rattle.listing.specs.declared.Listed.{Listed}
 use Rattle.addr_layout.specs.declared.layout.AddrLayout.{AddrLayout}
-use Rattle.cs_pins.specs.Roles.{selectRoles}
+use Rattle.cs_roles.specs.Roles.{selectRoles}
 use Rattle.cs_choices.specs.design.Parts.{setsOf}
-use Rattle.cs_choices.specs.Verdict.{allOf, baseOf}
+use Rattle.cs_verdict.specs.Verdict.{allOf, baseOf}
 use Rattle.cs_choices.specs.declared.choices.Sets.{Sets}
 use Rattle.cs_data_layout.specs.Choices.{numData, excessSet, qualifierSet, selectLine, commonedLine, csDataLayoutFrom, csDataLayoutOf}
 use Rattle.cs_data_layout.specs.declared.layout.CsDataLayout.{CsDataLayout}

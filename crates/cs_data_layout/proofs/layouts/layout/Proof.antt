@@ -13,9 +13,9 @@ use Rattle.slot.specs.Description.{chip0}
 use Rattle.slot.specs.declared.description.Chip.{Chip}
 use Rattle.slot.specs.declared.description.Description.{Description}
 use Rattle.addr_layout.specs.declared.layout.AddrLayout.{AddrLayout}
-use Rattle.cs_pins.specs.Roles.{rolesOf, selectRoles}
-use Rattle.cs_pins.specs.declared.roles.Roles.{Roles}
-use Rattle.cs_choices.specs.Verdict.{allOf, baseOf}
+use Rattle.cs_roles.specs.Roles.{rolesOf, selectRoles}
+use Rattle.cs_roles.specs.declared.Roles.{Roles}
+use Rattle.cs_verdict.specs.Verdict.{allOf, baseOf}
 use Rattle.cs_choices.specs.declared.choices.Sets.{Sets}
 use Rattle.cs_data_layout.specs.Choices.{numData, qualifierSet, ignoreIndex, qualifiersFrom, selectLine, numCommoned, commonedLine, csDataLayoutFrom}
 use Rattle.cs_data_layout.specs.declared.layout.IgnoreIndex.{IgnoreIndex}

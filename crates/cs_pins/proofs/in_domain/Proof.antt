@@ -1,0 +1,27 @@
+-- `in_domain` meets its contract. Assumes nothing.
+use mathlib.Core.Path.{sym, _∙_}
+use Rattle.slot.specs.Description.{chip0}
+use Rattle.domain.proofs.Bounds.{chip0-in, data-pins, control-lines, commoned-lines}
+use Rattle.cs_pins.specs.Pins.{csSearchIn}
+use borrow.Author.Needs.{needs}
+use Rattle.cs_pins.proofs.in_domain.Statement.{statement}
+use Rattle.cs_pins.proofs.in_domain.Tie as tie
+
+list-requires : tie.Need-list-requires
+list-requires c κs =
+    let d = c .before .before .args .d in
+    let e = sym (c .before .description-in .ensures) ∙ c .if1 .taken in
+    let chip = chip0-in d e in
+    (data-pins (chip0 d) (d .«word_bytes») chip .1, control-lines (chip0 d) (d .«word_bytes») chip, commoned-lines d e)
+
+returns : tie.Need-returns
+unfolding csSearchIn
+returns c =
+    rw (sym (c .before .before .before .description-in .ensures) ∙ c .before .before .if1 .taken, c .choice-bits .ensures .0, c .before .list .ensures .0)
+
+returns-2 : tie.Need-returns-2
+unfolding csSearchIn
+returns-2 c = rw (sym (c .before .description-in .ensures) ∙ c .if1 .left)
+
+pub in-domain-spec : {M : Type 1} → statement M
+in-domain-spec = tie.close (tie.spec (λ c κs. search needs) list-requires (λ c κs. search needs) returns returns-2)
