@@ -20,11 +20,11 @@ use Rattle.lists.proofs.Bools.{and-left}
 use Rattle.gpio.proofs.Fits.{fits-within, fits-width}
 use Rattle.lists.proofs.Tab.{tab-length, getD-tab}
 use Rattle.gpio.proofs.Spans.{least-both, most-both}
-use Rattle.slot.specs.Description.{isSingle, isMulti, chip0}
+use Rattle.slot.specs.Description.{isSingle, isMulti}
 use Rattle.slot.specs.declared.description.Description.{Description}
 use Rattle.refusal.specs.declared.Refusal.the-variants.{OutOfDomain}
 use Rattle.domain.specs.Domain.{descriptionIn}
-use Rattle.domain.proofs.Bounds.{chip0-in, address-pins}
+use Rattle.domain.proofs.Bounds.{chip0-in}
 use Rattle.listing.specs.Choice.{CandidateOf, pinAt, gpioAt}
 use Rattle.listing.specs.Listing.{listed, xPins, twos}
 use Rattle.listing.specs.declared.Listed.{Listed}
@@ -187,7 +187,7 @@ module _ (d : Description) (c : ℕ) (e : descriptionIn d ≡ true)
 
   few : (inRange d ≤ lines d) × (lines d ≤ 24)
   few =
-      let pins = address-pins (chip0 d) (d .«word_bytes») (chip0-in d e) in
+      let pins = chip0-in d e .address-pins in
       (fewer-both (lines d) (reach d) (ltb (lines d) (reach d)) refl, omega (arith, pins))
 
   listed-length : length (addrListed d) ≡ lines d + length xs

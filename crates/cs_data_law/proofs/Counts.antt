@@ -22,7 +22,7 @@ use Rattle.slot.specs.Description.{isMulti, chip0, lineAt, kindAt}
 use Rattle.slot.specs.declared.description.Description.{Description}
 use Rattle.refusal.specs.declared.Refusal.the-variants.{OutOfDomain, NoSelectLine}
 use Rattle.domain.specs.Domain.{descriptionIn}
-use Rattle.domain.proofs.Bounds.{chip0-in, kinds-differ}
+use Rattle.domain.proofs.Bounds.{chip0-in}
 use Rattle.control.specs.CsConfig.{ignores}
 use Rattle.listing.specs.Listing.{listed, xPins}
 use Rattle.listing.specs.Choice.{CandidateOf, pinAt}
@@ -87,7 +87,7 @@ module _ (d : Description) where
     kinds-size zero l = refl
     kinds-size (suc k) l =
         kinds-turn (activeKinds d k) (kindSet d k) (kind k) (active d k) (kinds-size k (omega arith)) (λ t.
-        set-without (kind k) k (λ j m u. kinds-differ (chip0 d) (d .«word_bytes») (chip0-in d e) j k m (omega arith) (active-kind k t)))
+        set-without (kind k) k (λ j m u. chip0-in d e .kinds-differ j k m (omega arith) (active-kind k t)))
 
     kinds-few : (k : ℕ) → k ≤ chip0 d .control .count → length (activeKinds d k) ≤ 6
     kinds-few k l = rw (kinds-size k l) (ones-le 6 (kindSet d k) (set-six k))

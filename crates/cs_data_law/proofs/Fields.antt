@@ -17,10 +17,10 @@ use Rattle.gpio.proofs.Fits.{fits-width}
 use Rattle.gpio.proofs.Members.{held, held-left, held-right, set-held, held-low, held-high, lowest-or, lowest-of, member-low, gapless-below}
 use Rattle.gpio.proofs.Sets.{set-within}
 use Rattle.lists.proofs.Tab.{tab-length, getD-tab}
-use Rattle.slot.specs.Description.{isMulti, chip0}
+use Rattle.slot.specs.Description.{isMulti}
 use Rattle.slot.specs.declared.description.Description.{Description}
 use Rattle.domain.specs.Domain.{descriptionIn, qualifierGpio}
-use Rattle.domain.proofs.Bounds.{chip0-in, data-pins, commoned-lines}
+use Rattle.domain.proofs.Bounds.{chip0-in, config-in}
 use Rattle.listing.specs.Choice.{CandidateOf, pinAt, gpioAt}
 use Rattle.listing.specs.declared.Listed.{Listed}
 use Rattle.listing.proofs.InDomain.{gpio-in}
@@ -146,7 +146,7 @@ module _ (d : Description) (a : GivenLayout) (past : PastTests d a) (c : ℕ) wh
   -- the fields
   data-is : (k : ℕ) → k < numData d → dataGpio laid k ≡ gpio k
   data-is k l =
-      let most = data-pins (chip0 d) (d .«word_bytes») (chip0-in d in-domain) in
+      let most = chip0-in d in-domain .data-pins in
       getD-tab (λ j. cond (ltb j (numData d)) (gpio j) 0) 16 k 0 (omega arith) ∙ rw (lt-ltb k (numData d) l)
 
   select-few : roles + handed a .«num_excess» ≤ 30
@@ -157,7 +157,7 @@ module _ (d : Description) (a : GivenLayout) (past : PastTests d a) (c : ℕ) wh
       ap (λ (x : SelectLine). x .gpio) (getD-tab (λ j. selectLine (selectRoles d) (handed a) (λ i. gpio (numData d + i)) j) 30 k (line 0 0) (omega (arith, select-few)))
 
   commoned-few : (t : Bool) → isMulti (d .«set_type») ≡ t → cond t (d .multi .«num_commoned») 0 ≤ 6
-  commoned-few true e = commoned-lines d in-domain e
+  commoned-few true e = config-in d in-domain e .commoned-lines
   commoned-few false e = omega arith
 
   commoned-most : numCommoned d ≤ 6
@@ -197,7 +197,7 @@ module _ (d : Description) (a : GivenLayout) (past : PastTests d a) (c : ℕ) wh
       data-window = λ k l. rw (data-is k l) (in-window (allAt d a c) (gpio k) all-bits window (data-held k l));
       data-above = λ k l. rw (data-base, data-is k l) (member-low (numData d) gpio (λ j q. gpio-most j) k l);
       data-attained =
-          let some = data-pins (chip0 d) (d .«word_bytes») (chip0-in d in-domain) .0 in
+          let some = chip0-in d in-domain .data-pins .0 in
           let (k, l, e) = lowest-of (numData d) gpio (λ j q. gpio-most j) some in
           (k, l, data-is k l ∙ e ∙ sym data-base);
       data-below = λ differ k l.

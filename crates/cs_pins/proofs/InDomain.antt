@@ -12,7 +12,7 @@ use Rattle.slot.specs.Description.{isMulti, chip0, lineAt}
 use Rattle.slot.specs.declared.description.Description.{Description}
 use Rattle.refusal.specs.declared.Refusal.the-variants.{NoSelectLine}
 use Rattle.domain.specs.Domain.{descriptionIn}
-use Rattle.domain.proofs.Bounds.{board-in}
+use Rattle.domain.proofs.Bounds.{description-in}
 use Rattle.listing.specs.Choice.{GpiosIn}
 use Rattle.listing.specs.Lines.{kindPin}
 use Rattle.listing.specs.Listing.{listed, xPins}
@@ -65,7 +65,7 @@ module _ (d : Description) (e : descriptionIn d ≡ true) where
       let one = leb 2 (d .«num_chips») in
       let both = leb 3 (d .«num_chips») in
       cond-in (isMulti (d .«set_type»)) _ _
-      (cons-in (kindListed d (d .multi .select)) (xPins (d .board) one both) (kind-in _) (x-pins-in (d .board) (board-in d e) one both))
+      (cons-in (kindListed d (d .multi .select)) (xPins (d .board) one both) (kind-in _) (x-pins-in (d .board) (description-in d e .board) one both))
       (active-in (chip0 d .control .count))
 
   commoned-in : GpiosIn (commonedListed d)

@@ -1,7 +1,7 @@
 -- What the record's codes ask of a description past its type, and that the domain has it: a candidate is no 255, and the
 -- offset is one of nine. Assumes nothing.
 use mathlib.Core.Path.{_≡_, refl}
-use mathlib.Core.Bool.{Bool, true, false, _&&_, cond}
+use mathlib.Core.Bool.{Bool, true, false, cond}
 use Prim.Native.Nat.{ℕ, _+_, _-_, _≤_, _<_}
 use lib.Dec.{leb}
 use lib.IntN.{ℤ, pos, negsuc}
@@ -10,11 +10,11 @@ use Rattle.gpio.specs.Candidates.{gpioIn, candidatesIn}
 use Rattle.gpio.specs.declared.candidates.Candidates.{Candidates}
 use Rattle.gpio.specs.declared.candidates.Candidates.the-variants.{Absent, One, Two}
 use Rattle.lists.proofs.Bools.{and-left, and-right}
-use Rattle.lists.proofs.Each.{each-at}
-use Rattle.slot.specs.SlotContext.{boardPinsIn, raisedOf}
+use Rattle.slot.specs.SlotContext.{raisedOf}
 use Rattle.slot.specs.declared.description.Board.{Board}
 use Rattle.slot.specs.declared.description.Description.{Description}
-use Rattle.domain.specs.Domain.{socketIn, boardIn, wordBytesIn, maxImageSizeIn, descriptionIn}
+use Rattle.domain.specs.Domain.{descriptionIn}
+use Rattle.domain.proofs.Bounds.{BoardIn, description-in}
 use Rattle.description_record.specs.Encoded.{socketPinOf}
 
 -- "GPIO 0 to 47."
@@ -51,22 +51,14 @@ offset-in : (z : ℤ) → leb (raisedOf z) 8 ≡ true → OffsetIn z
 offset-in (pos n) h = leb-true n 4 (raised-in (leb n 4) (n + 4) h)
 offset-in (negsuc n) h = leb-true n 3 (raised-in (leb n 3) (3 - n) h)
 
-board-in : (b : Board) → boardIn b ≡ true → EncodableBoard b
-unfolding socketIn
-board-in b h =
-    let pins = boardPinsIn (b .pins) in
-    let places : socketIn b ≡ true = and-right pins _ (and-left _ _ (and-left _ _ h)) in
-    record {
-      socket = λ k q. gpios-in (socketPinOf b k .gpios) (each-at _ 40 places k q);
-      x1 = gpios-in (b .x1) (and-right (pins && socketIn b) _ (and-left _ _ h));
-      x2 = gpios-in (b .x2) (and-right (pins && socketIn b && candidatesIn (b .x1)) _ h);
-    }
+board-in : (b : Board) → BoardIn b → EncodableBoard b
+board-in b h = record {
+  socket = λ k q. gpios-in (socketPinOf b k .gpios) (h .socket k q);
+  x1 = gpios-in (b .x1) (h .x1);
+  x2 = gpios-in (b .x2) (h .x2);
+}
 
 pub in-domain : (d : Description) → descriptionIn d ≡ true → Encodable d
-unfolding descriptionIn
-in-domain d h =
-    let numbers = wordBytesIn (d .«word_bytes») && maxImageSizeIn (d .«max_image_size») in
-    record {
-      board = board-in (d .board) (and-left _ _ (and-left _ _ (and-left _ _ (and-left _ _ h))));
-      «pin_offset» = offset-in (d .«pin_offset») (and-right (boardIn (d .board) && numbers) _ (and-left _ _ (and-left _ _ h)));
-    }
+in-domain d e =
+    let h = description-in d e in
+    record { board = board-in (d .board) (h .board); «pin_offset» = offset-in (d .«pin_offset») (h .offset) }

@@ -5,6 +5,7 @@ use Rattle.lists.specs.Each.{between, each}
 use mathlib.Core.Bool.{Bool, _&&_, _||_, not}
 use mathlib.Core.List.{List}
 use lib.Dec.{leb, ltb, eqb}
+use lib.IntN.{ℤ}
 use lib.ListN.{getD}
 use Rattle.gpio.specs.Candidates.{candidatesIn}
 use Rattle.slot.specs.Description.{isMulti, noPin, noChip, lineAt, kindAt}
@@ -78,18 +79,33 @@ wordBytesIn w = eqb w 1 || eqb w 2
 abbrev pub maxImageSizeIn : ℕ → Bool
 maxImageSizeIn l = between 256 (2 ^ 20) l
 
--- the whole, as every call given the description tests it
--- 01 Domain 4: there is at least one chip, and there are no more than 4
 -- 01 Domain 5: the offset is neither below -4 nor above 4
+abbrev pub pinOffsetIn : ℤ → Bool
+pinOffsetIn offset = leb (raisedOf offset) 8
+
+-- 01 Domain 4: there is at least one chip, and there are no more than 4
+abbrev pub chipCountIn : ℕ → Bool
+chipCountIn n = between 1 4 n
+
 -- 01 Domain 6: a select configuration is tested wherever there is one, be the set Multi or not
+abbrev pub configIn : Description → Bool
+configIn d = not (d .«has_multi») || multiIn (d .multi)
+
 -- 01 Domain 11: in Multi there is a select configuration
+abbrev pub configThere : Description → Bool
+configThere d = not (isMulti (d .«set_type»)) || d .«has_multi»
+
+-- the whole, as every call given the description tests it, a test a line
 unfoldable pub descriptionIn : Description → Bool
 descriptionIn d =
     boardIn (d .board)
-    && (wordBytesIn (d .«word_bytes») && maxImageSizeIn (d .«max_image_size»))
-    && leb (raisedOf (d .«pin_offset»)) 8
-    && (between 1 4 (d .«num_chips») && chipsIn (d .chips) (d .«num_chips») (d .«word_bytes»))
-    && ((not (d .«has_multi») || multiIn (d .multi)) && (not (isMulti (d .«set_type»)) || d .«has_multi»))
+    && wordBytesIn (d .«word_bytes»)
+    && maxImageSizeIn (d .«max_image_size»)
+    && pinOffsetIn (d .«pin_offset»)
+    && chipCountIn (d .«num_chips»)
+    && chipsIn (d .chips) (d .«num_chips») (d .«word_bytes»)
+    && configIn d
+    && configThere d
 
 -- 01 Domain 10: a qualifier is the index of an address line, and its GPIO is that of the line
 abbrev pub qualifierGpio : List ℕ → List ℕ → ℕ → ℕ

@@ -68,10 +68,18 @@ pub fn description_in(d: Description) -> bool
     let set_type = d.set_type;
     let w = d.word_bytes;
     let n = d.num_chips;
+    let word_in = (w == 1) | (w == 2);
     let size_in = (256 <= d.max_image_size) & (d.max_image_size <= 0x10_0000);
-    let numbers_in = ((w == 1) | (w == 2)) & size_in;
-    let multi_fits = (!d.has_multi | multi_in(multi)) & (!set_type.is_multi() | d.has_multi);
     let offset_in = slot_context::raised(d.pin_offset) <= 8;
-    let chips_fit = (1 <= n) & (n <= 4) & chips_in(chips, n, w);
-    board_in(board) & numbers_in & offset_in & chips_fit & multi_fits
+    let count_in = (1 <= n) & (n <= 4);
+    let config_in = !d.has_multi | multi_in(multi);
+    let config_there = !set_type.is_multi() | d.has_multi;
+    board_in(board)
+        & word_in
+        & size_in
+        & offset_in
+        & count_in
+        & chips_in(chips, n, w)
+        & config_in
+        & config_there
 }

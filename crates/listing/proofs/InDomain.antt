@@ -12,13 +12,12 @@ use Rattle.lists.specs.Tab.{tab}
 use Rattle.gpio.specs.declared.candidates.Candidates.{Candidates}
 use Rattle.gpio.specs.declared.candidates.Candidates.the-variants.{Absent, One, Two}
 use Rattle.lists.proofs.Bools.{and-left, and-right}
-use Rattle.lists.proofs.Each.{each-at}
 use Rattle.slot.specs.SlotContext.{boardPinsIn, raisedOf}
 use Rattle.slot.specs.declared.description.Board.{Board}
 use Rattle.slot.specs.declared.description.Description.{Description}
 use Rattle.slot.specs.declared.slot_context.Socket.the-variants.{On, Off}
-use Rattle.domain.specs.Domain.{socketIn, boardIn, descriptionIn}
-use Rattle.domain.proofs.Bounds.{board-in}
+use Rattle.domain.specs.Domain.{descriptionIn}
+use Rattle.domain.proofs.Bounds.{BoardIn, description-in}
 use Rattle.listing.specs.Choice.{chosen, pinAt, restAt, gpioAt, GpiosIn}
 use Rattle.listing.specs.Lines.{socketCandidates, pinCandidates}
 use Rattle.listing.specs.Listing.{candidatesAt, xListed, xPins}
@@ -54,36 +53,27 @@ pins-fit : (n : ℕ) → boardPinsIn n ≡ true → n ≤ 40
 pins-fit n =
     or-count n 40 _ (omega arith) (or-count n 32 _ (omega arith) (or-count n 28 (eqb n 24) (omega arith) (λ e. omega (arith, eqb-true n 24 e))))
 
-module _ (b : Board) (e : boardIn b ≡ true) where
-  x1-in : candidatesIn (b .x1) ≡ true
-  x1-in = and-right (boardPinsIn (b .pins) && socketIn b) _ (and-left _ _ e)
-
-  x2-in : candidatesIn (b .x2) ≡ true
-  x2-in = and-right (boardPinsIn (b .pins) && socketIn b && candidatesIn (b .x1)) _ e
-
+module _ (b : Board) (e : BoardIn b) where
   pub x-pins-in : (one both : Bool) → GpiosIn (xPins b one both)
   x-pins-in false both = none-in
-  x-pins-in true false = one-in (xListed b 1) x1-in
-  x-pins-in true true = cons-in (xListed b 1) (xListed b 2 ∷ []) x1-in (one-in (xListed b 2) x2-in)
+  x-pins-in true false = one-in (xListed b 1) (e .x1)
+  x-pins-in true true = cons-in (xListed b 1) (xListed b 2 ∷ []) (e .x1) (one-in (xListed b 2) (e .x2))
 
   -- a place of the socket, counted from 1
   pub place-in : (s : ℕ) → s ≤ 40 → candidatesIn (candidatesAt b s) ≡ true
-  unfolding socketIn
   place-in zero l = refl
-  place-in (suc s) l =
-      let socket : socketIn b ≡ true = and-right (boardPinsIn (b .pins)) _ (and-left _ _ (and-left _ _ e)) in
-      rw (le-leb 1 (suc s) (omega arith)) (each-at _ 40 socket (suc s - 1) (omega arith))
+  place-in (suc s) l = rw (le-leb 1 (suc s) (omega arith)) (e .socket (suc s - 1) (omega arith))
 
   -- on the socket by the test t, or off it
   on-in : (s : ℕ) (t : Bool) → leb 1 s && leb s (b .pins) ≡ t → candidatesIn (socketCandidates b (cond t (On s) Off)) ≡ true
   on-in s false h = refl
   on-in s true h =
-      let pins = pins-fit (b .pins) (and-left _ _ (and-left _ _ (and-left _ _ e))) in
+      let pins = pins-fit (b .pins) (e .pins) in
       place-in s (omega (arith, leb-true s (b .pins) (and-right (leb 1 s) _ h)))
 
 pub pin-in : (d : Description) → descriptionIn d ≡ true → (pin : ℕ) → candidatesIn (pinCandidates d pin) ≡ true
 unfolding pinCandidates
-pin-in d e pin = on-in (d .board) (board-in d e) (pin + raisedOf (d .«pin_offset») - 4) _ refl
+pin-in d e pin = on-in (d .board) (description-in d e .board) (pin + raisedOf (d .«pin_offset») - 4) _ refl
 
 -- the GPIO that a choice takes
 cond-le : (t : Bool) (g h : ℕ) → g ≤ 47 → h ≤ 47 → cond t g h ≤ 47

@@ -9,7 +9,7 @@ use lib.Dec.{ltb}
 use lib.ListN.{length, getD}
 use lib.Pow.{pow-mono}
 use borrow.Author.Tests.{ltb-true, ltb-false}
-use Rattle.domain.proofs.Bounds.{word-bytes, image-size}
+use Rattle.domain.proofs.Bounds.{DescriptionIn, description-in}
 use Rattle.slot.specs.Description.{noChip}
 use Rattle.slot.specs.declared.description.Description.{Description}
 use Rattle.refusal.specs.declared.Refusal.{Refusal}
@@ -48,6 +48,9 @@ pins-of p false e h = let b = pow-mono {i = 32} {j = p} (ltb-false p 32 e) in ab
 
 module _ (d : Description) (a : AddrLayout) (c : CsDataLayout) (images : List ℕ) (spans : List ImageSpan) (room : ℕ)
     (e : buildIn (argsOf d a c spans) ≡ true) (f : buildFault (argsOf d a c spans) images room ≡ None) where
+  in-domain : DescriptionIn d
+  in-domain = description-in d (described (argsOf d a c spans) e)
+
   past-large : faultIf (tableTooLarge d a) RomTableTooLarge ≡ None
   unfolding buildFault
   past-large = or-left (faultIf (tableTooLarge d a) RomTableTooLarge) _ f
@@ -62,10 +65,10 @@ module _ (d : Description) (a : AddrLayout) (c : CsDataLayout) (images : List �
 
   pub table-small : tableSize d a ≤ 2 ^ 20
   table-small =
-      omega (arith, ltb-false (d .«max_image_size») (tableSize d a) (none-bad (tableTooLarge d a) RomTableTooLarge past-large), image-size d (described (argsOf d a c spans) e) .1)
+      omega (arith, ltb-false (d .«max_image_size») (tableSize d a) (none-bad (tableTooLarge d a) RomTableTooLarge past-large), in-domain .image-size .1)
 
   pub entries-few : entriesOf a ≤ 2 ^ 20
-  entries-few = entries-of (entriesOf a) (d .«word_bytes») (2 ^ 20) (word-bytes d (described (argsOf d a c spans) e) .0) table-small
+  entries-few = entries-of (entriesOf a) (d .«word_bytes») (2 ^ 20) (in-domain .word-bytes .0) table-small
 
   pub pins-few : a .«num_addr_pins» < 32
   pins-few = pins-of (a .«num_addr_pins») (ltb (a .«num_addr_pins») 32) refl entries-few
@@ -91,8 +94,8 @@ module _ (d : Description) (a : AddrLayout) (c : CsDataLayout) (images : List �
   buildable = record {
     lines = lines-few (argsOf d a c spans) e;
     data-lines = data-count c (selected (argsOf d a c spans) e) .1;
-    some-bytes = word-bytes d (described (argsOf d a c spans) e) .0;
-    bytes = word-bytes d (described (argsOf d a c spans) e) .1;
+    some-bytes = in-domain .word-bytes .0;
+    bytes = in-domain .word-bytes .1;
     chips = chips-right;
     lent = bytes-lent;
   }

@@ -1,20 +1,19 @@
 -- Demand 3 over the definitions: what both searches and the build accept of a well wired slot reads back. Assumes nothing.
 use mathlib.Core.Path.{_≡_, refl, sym, _∙_, ap, subst}
-use mathlib.Core.Bool.{Bool, true, false, cond, not, _&&_, _||_}
+use mathlib.Core.Bool.{Bool, true, false, cond}
 use mathlib.Core.List.{List, _++_}
 use Prim.Native.Nat.{ℕ, zero, suc, _+_, _-_, _*_, _/_, _^_, _≤_, _<_}
 use native.Mathlib.Nat.{div-mul-le-self, mul-le-mul-right, le-trans}
 use native.Mathlib.Omega.{arith}
-use lib.Dec.{leb, ltb, eqb}
+use lib.Dec.{leb, ltb}
 use lib.ListN.{length, take, drop, replicate, getD, length-take, List·getD-eq-default}
 use lib.Seq.{take-at, getD-take, getD-drop}
-use borrow.Author.Tests.{le-leb, eq-eqb, ltb-true, ltb-false, leb-true, lt-leb}
+use borrow.Author.Tests.{le-leb, eq-eqb, ltb-true, ltb-false}
 use Rattle.gpio.specs.Candidates.{candidatesIn}
-use Rattle.lists.specs.Each.{each, between}
+use Rattle.lists.specs.Each.{each}
 use Rattle.lists.specs.Tab.{joined}
 use Rattle.gpio.specs.Window.{fits}
-use Rattle.lists.proofs.Bools.{and-left, and-right}
-use Rattle.lists.proofs.Each.{each-all, each-at}
+use Rattle.lists.proofs.Each.{each-all}
 use Rattle.gpio.proofs.Fits.{fits-within}
 use Rattle.words.specs.Words.{word, wordsBytes}
 use Rattle.words.proofs.Words.{words-length}
@@ -22,9 +21,8 @@ use Rattle.slot.specs.Description.{isMulti, noChip}
 use Rattle.slot.specs.declared.description.Description.{Description}
 use Rattle.refusal.specs.declared.Refusal.{Refusal}
 use Rattle.refusal.specs.declared.Refusal.the-variants.{OutOfDomain}
-use Rattle.slot.specs.SlotContext.{boardPinsIn, raisedOf}
-use Rattle.domain.specs.Domain.{pinsIn, controlIn, socketIn, boardIn, wordBytesIn, maxImageSizeIn, chipIn, chipsIn, multiIn, descriptionIn}
-use Rattle.domain.proofs.Bounds.{board-in, chip-count}
+use Rattle.domain.specs.Domain.{descriptionIn}
+use Rattle.domain.proofs.Bounds.{description-in}
 use Rattle.refusal.specs.First.{orElse}
 use Rattle.refusal.specs.declared.first.FirstFault.{FirstFault}
 use Rattle.refusal.specs.declared.first.FirstFault.the-variants.{None, Of}
@@ -97,52 +95,17 @@ part-byte l start size k true e h = rw (getD-take size (drop start l) k 0 (ltb-t
 part-byte l start size k false e h =
     rw (List·getD-eq-default (take size (drop start l)) 0 {n = k} (simp length-take (let g = ltb-false k size e in omega arith))) (omega arith)
 
--- the domain of the description: its X pins, and its chips' sizes
-module _ (d : Description) (e : descriptionIn d ≡ true) where
-  x-pins-in : (candidatesIn (d .board .x1) ≡ true) × (candidatesIn (d .board .x2) ≡ true)
-  x-pins-in =
-      let b = d .board in
-      let all = board-in d e in (
-        and-right (boardPinsIn (b .pins) && socketIn b) (candidatesIn (b .x1))
-            (and-left (boardPinsIn (b .pins) && socketIn b && candidatesIn (b .x1)) (candidatesIn (b .x2)) all),
-        and-right (boardPinsIn (b .pins) && socketIn b && candidatesIn (b .x1)) (candidatesIn (b .x2)) all,
-      )
-
-  chips-all : chipsIn (d .chips) (d .«num_chips») (d .«word_bytes») ≡ true
-  unfolding descriptionIn
-  chips-all =
-      let b = boardIn (d .board) in
-      let n = wordBytesIn (d .«word_bytes») && maxImageSizeIn (d .«max_image_size») in
-      let o = leb (raisedOf (d .«pin_offset»)) 8 in
-      let c = chipsIn (d .chips) (d .«num_chips») (d .«word_bytes») in
-      let m = (not (d .«has_multi») || multiIn (d .multi)) && (not (isMulti (d .«set_type»)) || d .«has_multi») in
-      and-right (between 1 4 (d .«num_chips»)) c
-      (and-right (b && n && o) (between 1 4 (d .«num_chips») && c) (and-left (b && n && o && (between 1 4 (d .«num_chips») && c)) m e))
-
-  size-in : (k : ℕ) → k < d .«num_chips» → getD (d .chips) k noChip .size ≤ 2 ^ 24
-  unfolding chipsIn
-  size-in k l =
-      let n = d .«num_chips» in
-      let one = each-at (λ j. leb n j || chipIn (getD (d .chips) j noChip) (d .«word_bytes»)) 4 chips-all k (omega (arith, chip-count d e)) in
-      let it = getD (d .chips) k noChip in
-      let inside : chipIn it (d .«word_bytes») ≡ true = rw (lt-leb n k l) at one in
-      leb-true (it .size) (2 ^ 24)
-      (and-right
-      ((between 1 24 (it .«num_address_pins») && (eqb (d .«word_bytes») 1 || leb 2 (it .«num_address_pins»)) && pinsIn (it .«address_pins») (it .«num_address_pins»))
-      && (between 1 16 (it .«num_data_pins») && pinsIn (it .«data_pins») (it .«num_data_pins»)) && controlIn (it .control))
-      (leb (it .size) (2 ^ 24)) inside)
-
 -- the slot as it is stored is in read-back's domain
 stored-in : (d : Description) (a : AddrLayout) (c : CsDataLayout) (s : StoredSlot) → descriptionIn d ≡ true → StoredAs d a c s → stored.storedIn s ≡ true
 unfolding stored.storedIn
 stored-in d a c s e g =
-    let x = x-pins-in d e in
-    let x1 : candidatesIn (s .x1) ≡ true = ap candidatesIn (g .x1) ∙ x .0 in
-    let x2 : candidatesIn (s .x2) ≡ true = ap candidatesIn (g .x2) ∙ x .1 in
-    let few : s .«num_roms» ≤ 4 = omega (arith, g .roms, chip-count d e) in
+    let h = description-in d e in
+    let x1 : candidatesIn (s .x1) ≡ true = ap candidatesIn (g .x1) ∙ h .board .x1 in
+    let x2 : candidatesIn (s .x2) ≡ true = ap candidatesIn (g .x2) ∙ h .board .x2 in
+    let few : s .«num_roms» ≤ 4 = omega (arith, g .roms, h .chip-count) in
     let sizes : each (s .«num_roms») (λ k. leb (stored.romAt s k .«chip_size») (2 ^ 24)) ≡ true = each-all _ (s .«num_roms») (λ k l.
     let m : k < d .«num_chips» = omega (arith, g .roms, l) in
-    le-leb (stored.romAt s k .«chip_size») (2 ^ 24) (omega (arith, g .rom k m .size, size-in d e k m))) in
+    le-leb (stored.romAt s k .«chip_size») (2 ^ 24) (omega (arith, g .rom k m .size, h .chip k m .size))) in
     rw (le-leb (s .«num_overrides») 64 (g .overrides), x1, x2, le-leb (s .«num_roms») 4 few, sizes)
 
 -- as many words are counted as demand 3 says
@@ -240,9 +203,9 @@ module _ (d : Description) (a : AddrLayout) (c : CsDataLayout) (images : List �
 
   none-before : romsFault s (d .«set_type») (tableOf padByte (argsOf d a c spans) images) (length output) (length marks) ≡ None
   none-before =
-      let x = x-pins-in d in-description in
+      let board = description-in d in-description .board in
       let all = all-same d a c s same-lines in
-      none-refused d a c s given small (laid .choice) sound wired (x .0) (x .1) (tableOf padByte (argsOf d a c spans) images) (length output) (length marks) table-long told
+      none-refused d a c s given small (laid .choice) sound wired (board .x1) (board .x2) (tableOf padByte (argsOf d a c spans) images) (length output) (length marks) table-long told
       (selected-at .sound .data-above) (can .chips) select-window (rw (all, given .word-bytes) (room .for-output)) (rw all (room .for-marks))
 
   size-right : wrongSize s (tableOf padByte (argsOf d a c spans) images) ≡ false

@@ -10,7 +10,7 @@ use borrow.Author.Tests.{eq-eqb, ne-eqb, eqb-true, ltb-true, ltb-false, lt-ltb, 
 use Rattle.lists.proofs.Tab.{getD-tab}
 use Rattle.slot.specs.Description.{isMulti}
 use Rattle.slot.specs.declared.description.Description.{Description}
-use Rattle.domain.proofs.Bounds.{chip-count, word-bytes}
+use Rattle.domain.proofs.Bounds.{description-in}
 use Rattle.gpio.specs.declared.line.LineGpio.the-variants.{At}
 use Rattle.addr_layout.specs.declared.layout.AddrLayout.{AddrLayout}
 use Rattle.cs_data_law.specs.Law as cs
@@ -151,8 +151,8 @@ module _ (d : Description) (a : AddrLayout) (c : CsDataLayout) (images : List �
 
   storable : Storable d a c
   storable = record {
-    bytes = word-bytes d (described (argsOf d a c spans) (past .domain)) .0;
-    chips = chip-count d (described (argsOf d a c spans) (past .domain)) .1;
+    bytes = description-in d (described (argsOf d a c spans) (past .domain)) .word-bytes .0;
+    chips = description-in d (described (argsOf d a c spans) (past .domain)) .chip-count .1;
     lines = omega (arith, lines-few (argsOf d a c spans) (past .domain));
     line-gpio = λ k l. line-in a (addressed (argsOf d a c spans) (past .domain)) k (omega (arith, l));
     data-lines = omega (arith, data-count c (selected (argsOf d a c spans) (past .domain)) .1);
@@ -168,7 +168,7 @@ pub callable : (b : BuildArgs) (images lent : List ℕ) → buildOf b images len
     → Readable b × (tableSize (b .description) (b .addr) ≤ length lent)
 callable b images lent e =
     let past = build-past (b .description) (b .addr) (b .«cs_data») images (b .spans) lent e in
-    let w = word-bytes (b .description) (described b (past .domain)) in (
+    let w = description-in (b .description) (described b (past .domain)) .word-bytes in (
       record {
         pins = pins-few (b .description) (b .addr) (b .«cs_data») images (b .spans) _ (past .domain) (past .none);
         some-bytes = w .0;

@@ -5,12 +5,11 @@ use mathlib.Core.List.{List}
 use Prim.Native.Nat.{ℕ, _^_, _≤_, _<_}
 use native.Mathlib.Omega.{arith}
 use borrow.Author.Tests.{not-true, not-false, le-leb, lt-leb}
-use Rattle.slot.specs.Description.{chip0}
 use Rattle.slot.specs.declared.description.Description.{Description}
 use Rattle.refusal.specs.declared.Refusal.{Refusal}
 use Rattle.refusal.specs.declared.Refusal.the-variants.{OutOfDomain}
 use Rattle.domain.specs.Domain.{descriptionIn}
-use Rattle.domain.proofs.Bounds.{chip0-in, address-pins}
+use Rattle.domain.proofs.Bounds.{chip0-in}
 use Rattle.listing.specs.Listing.{listOf, twos, firstFault}
 use Rattle.listing.specs.declared.Listed.{Listed}
 use Rattle.refusal.specs.declared.first.FirstFault.{FirstFault}
@@ -32,7 +31,7 @@ use Rattle.addr_layout.proofs.derive_addr_layout.Statement.{statement}
 use Rattle.addr_layout.proofs.derive_addr_layout.Tie as tie
 
 few-lines : (d : Description) → descriptionIn d ≡ true → lines d ≤ 24
-few-lines d e = omega (arith, address-pins (chip0 d) (d .«word_bytes») (chip0-in d e))
+few-lines d e = omega (arith, chip0-in d e .address-pins)
 
 -- a choice's trial, of the pins as the code listed them
 abbrev trial : Description → List Listed → ℕ → Trial

@@ -9,7 +9,7 @@ use Rattle.slot.specs.Description.{chip0}
 use Rattle.slot.specs.declared.description.Chip.{Chip}
 use Rattle.slot.specs.declared.description.Description.{Description}
 use Rattle.domain.specs.Domain.{descriptionIn}
-use Rattle.domain.proofs.Bounds.{chip0-in, data-pins, control-lines, commoned-lines}
+use Rattle.domain.proofs.Bounds.{chip0-in, config-in}
 use Rattle.listing.specs.Choice.{GpiosIn}
 use Rattle.listing.specs.Listing.{listOf, twos}
 use Rattle.listing.specs.declared.Listing.{Listing}
@@ -33,7 +33,7 @@ list-requires c κs =
     let d = c .before .args .d in
     let e = described d (c .before .pre .0) in
     let chip = chip0-in d e in
-    (data-pins (chip0 d) (d .«word_bytes») chip .1, control-lines (chip0 d) (d .«word_bytes») chip, commoned-lines d e)
+    (chip .data-pins .1, chip .control-lines, λ m. config-in d e m .commoned-lines)
 
 -- the listing has the data pins, and its candidates are GPIOs
 listed : (d : Description) (l : Listing) (n : ℕ) → csSearchIn d ≡ true → length (l .pins) ≡ 30 → listOf l ≡ numbered d → l .count ≤ 30 → n ≡ numData d → (n ≤ l .count) × GpiosIn (listOf l)
@@ -93,8 +93,8 @@ laid-out-requires c κs =
     let chip = chip0-in (a .d) (described-at q) in
     let n = num-data (l .before) in (
       n,
-      data-pins (chip0 (a .d)) (a .d .«word_bytes») chip .1,
-      control-lines (chip0 (a .d)) (a .d .«word_bytes») chip,
+      chip .data-pins .1,
+      chip .control-lines,
       omega (arith, n, pins-listed l .0),
       l .list .ensures .1,
       pins-listed l .1,

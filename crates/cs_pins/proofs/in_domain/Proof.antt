@@ -1,7 +1,6 @@
 -- `in_domain` meets its contract. Assumes nothing.
 use mathlib.Core.Path.{sym, _∙_}
-use Rattle.slot.specs.Description.{chip0}
-use Rattle.domain.proofs.Bounds.{chip0-in, data-pins, control-lines, commoned-lines}
+use Rattle.domain.proofs.Bounds.{chip0-in, config-in}
 use Rattle.cs_pins.specs.Pins.{csSearchIn}
 use borrow.Author.Needs.{needs}
 use Rattle.cs_pins.proofs.in_domain.Statement.{statement}
@@ -12,7 +11,7 @@ list-requires c κs =
     let d = c .before .before .args .d in
     let e = sym (c .before .description-in .ensures) ∙ c .if1 .taken in
     let chip = chip0-in d e in
-    (data-pins (chip0 d) (d .«word_bytes») chip .1, control-lines (chip0 d) (d .«word_bytes») chip, commoned-lines d e)
+    (chip .data-pins .1, chip .control-lines, λ m. config-in d e m .commoned-lines)
 
 returns : tie.Need-returns
 unfolding csSearchIn

@@ -1,22 +1,19 @@
 -- `build_fault` meets its contract. Assumes nothing.
-use Prim.Native.Nat.{_≤_}
 use native.Mathlib.Omega.{arith}
 use borrow.Author.Needs.{needs}
-use Rattle.domain.proofs.Bounds.{word-bytes, image-size}
+use Rattle.domain.proofs.Bounds.{DescriptionIn, description-in}
 use Rattle.build_args.specs.Faults.{buildFault}
 use Rattle.build_args.proofs.Facts.{described, selected, data-base}
 use Rattle.build_args.proofs.faults.build_fault.Statement.{statement}
 use Rattle.build_args.proofs.faults.build_fault.Tie as tie
 
--- the numbers that the domain bounds
-numbers : (c : tie.Start) → (1 ≤ c .args .b .description .«word_bytes») × (c .args .b .description .«word_bytes» ≤ 2)
-numbers c = word-bytes (c .args .b .description) (described (c .args .b) (c .pre))
+in-domain : (c : tie.Start) → DescriptionIn (c .args .b .description)
+in-domain c = description-in (c .args .b .description) (described (c .args .b) (c .pre))
 
 too-large-requires : tie.Need-too-large-requires
 too-large-requires c κs =
-    let s = c .before .before .before .before .before in
-    let size = image-size (s .args .b .description) (described (s .args .b) (s .pre)) in
-    (size .1, numbers s .0, numbers s .1)
+    let h = in-domain (c .before .before .before .before .before) in
+    (h .image-size .1, h .word-bytes .0, h .word-bytes .1)
 
 returns : tie.Need-returns
 unfolding buildFault
@@ -30,7 +27,7 @@ lines-fault-requires c κs =
 lent-fault-requires : tie.Need-lent-fault-requires
 lent-fault-requires c κs =
     let s = c .before .before .before .before .before .before .before .before in
-    (c .before .before .too-large .ensures .1 (c .before .if1 .left), numbers s .1)
+    (c .before .before .too-large .ensures .1 (c .before .if1 .left), in-domain s .word-bytes .1)
 
 returns-2 : tie.Need-returns-2
 unfolding buildFault

@@ -1,6 +1,5 @@
 -- `earlier` meets its contract. Assumes nothing.
-use Rattle.slot.specs.Description.{chip0}
-use Rattle.domain.proofs.Bounds.{chip0-in, data-pins, control-lines, commoned-lines, ignored-lines}
+use Rattle.domain.proofs.Bounds.{chip0-in, config-in}
 use Rattle.cs_data_layout.specs.Search.{earlier}
 use Rattle.cs_data_layout.proofs.Bounds.{described}
 use borrow.Author.Needs.{needs}
@@ -10,14 +9,13 @@ use Rattle.cs_data_layout.proofs.earlier.earlier.Tie as tie
 list-data-requires : tie.Need-list-data-requires
 list-data-requires c κs =
     let d = c .args .d in
-    let e = described d (c .pre) in
-    data-pins (chip0 d) (d .«word_bytes») (chip0-in d e) .1
+    chip0-in d (described d (c .pre)) .data-pins .1
 
 checked-requires : tie.Need-checked-requires
 checked-requires c κs =
     let d = c .before .before .args .d in
     let e = described d (c .before .before .pre) in
-    (control-lines (chip0 d) (d .«word_bytes») (chip0-in d e), λ m. (commoned-lines d e m, ignored-lines d e m))
+    (chip0-in d e .control-lines, λ m. (config-in d e m .commoned-lines, config-in d e m .ignored-lines))
 
 returns : tie.Need-returns
 unfolding earlier

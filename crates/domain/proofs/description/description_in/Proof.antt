@@ -11,10 +11,11 @@ use Rattle.domain.proofs.description.description_in.Tie as tie
 returns : tie.Need-returns
 unfolding descriptionIn
 returns c =
-    let o = c .before .before .before .before .before .before .before .before .before .before .before .before .before .args .d .«pin_offset» in
+    let raised = c .before .before .before .before .before .before in
+    let o = raised .before .before .before .before .before .before .before .args .d .«pin_offset» in
     let back : toZ w8 (ofZ w8 o) ≡ o = search needs in
-    let e : c .before .before .raised .result ≡ raisedOf o = c .before .before .raised .ensures ∙ ap raisedOf back in
-    rw (c .board-in .ensures, c .before .chips-in .ensures, e, c .before .before .before .before .before .is-multi .ensures, c .before .before .before .before .before .before .multi-in .ensures)
+    let e : raised .raised .result ≡ raisedOf o = raised .raised .ensures ∙ ap raisedOf back in
+    rw (c .chips-in .ensures, c .before .board-in .ensures, e, c .before .before .before .is-multi .ensures, c .before .before .before .before .multi-in .ensures)
 
 pub description-in-spec : {M : Type 1} → statement M
 description-in-spec = tie.close (tie.spec (λ c κs. search needs) (λ c κs. search needs) (λ c κs. search needs) (λ c κs. search needs) (λ c κs. search needs) returns)
