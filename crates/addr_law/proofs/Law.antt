@@ -1,7 +1,7 @@
 -- Demand 2's law of the address search. Assumes nothing.
 use mathlib.Core.Path.{_≡_, refl, sym, _∙_, ap}
 use Prim.Native.Nat.{ℕ, _<_}
-use native.Mathlib.Omega.{arith}
+use Rattle.lists.proofs.Loops.{zero-one}
 use Rattle.slot.specs.declared.description.Description.{Description}
 use Rattle.refusal.specs.declared.Refusal.the-variants.{NoValidLayout}
 use Rattle.search.specs.Search.{best}
@@ -56,5 +56,4 @@ module _ (d : Description) (past : PastTests d) where
       by (At c s) q =
           let both : addrAnswerOf d (At c s) ≡ addrRefused NoValidLayout = sym (answers (At c s) q) ∙ e in
           let outcomes : LaidOut ≡ Refused NoValidLayout = ap (λ (r : AddrAnswer). r .outcome) both in
-          let z : _≡_ {A = ℕ} 0 1 = cc in
-          omega arith
+          zero-one cc

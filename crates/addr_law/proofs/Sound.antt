@@ -19,6 +19,7 @@ use Rattle.gpio.specs.declared.candidates.Candidates.the-variants.{Absent, One,
 use Rattle.lists.proofs.Bools.{and-left}
 use Rattle.gpio.proofs.Fits.{fits-within, fits-width}
 use Rattle.lists.proofs.Tab.{tab-length, getD-tab}
+use Rattle.lists.proofs.Loops.{zero-one}
 use Rattle.gpio.proofs.Spans.{least-both, most-both}
 use Rattle.slot.specs.Description.{isSingle, isMulti}
 use Rattle.slot.specs.declared.description.Description.{Description}
@@ -158,7 +159,7 @@ pins-wide s false e = omega (arith, ltb-false 8 (spanWidth s) e)
 
 scored : (base n s : ℕ) (t : Bool) → fits base n ≡ t → cond t (Score (n * 1000 + base)) Misfit ≡ Score s → fits base n ≡ true
 scored base n s true e h = e
-scored base n s false e h = let z : _≡_ {A = ℕ} 0 1 = cc in absurd (omega arith)
+scored base n s false e h = absurd (zero-one cc)
 
 window-of : (s : Span) (score : ℕ) → spanTrial s ≡ Score score → fits (s .low) (paddedPins s) ≡ true
 unfolding spanTrial

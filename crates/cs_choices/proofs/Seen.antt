@@ -3,10 +3,10 @@ use mathlib.Core.Path.{_≡_, refl}
 use mathlib.Core.Bool.{Bool, true, false, cond}
 use mathlib.Core.List.{List}
 use Prim.Native.Nat.{ℕ, zero, suc}
-use native.Mathlib.Omega.{arith}
 use lib.Count.{ones, leadingZeros, trailingZeros}
 use lib.Dec.{eqb}
 use borrow.Author.Tests.{eqb-true}
+use Rattle.lists.proofs.Loops.{zero-one}
 use Rattle.gpio.specs.Set.{lowest, gapless}
 use Rattle.refusal.specs.declared.Refusal.{Refusal}
 use Rattle.refusal.specs.declared.Refusal.the-variants.{NonContiguousSelect, InteriorIgnoredLine}
@@ -47,8 +47,7 @@ unfolding ones leadingZeros trailingZeros
 some-refused multi s false e h = e
 some-refused multi s true e h =
     let none : selectable multi 0 ≡ false = rw (eqb-true s 0 e) at h in
-    let z : _≡_ {A = ℕ} 0 1 = cc none in
-    absurd (omega arith)
+    absurd (zero-one (cc none))
 
 -- the verdict by its three tests
 refused-judged : (x y z : Bool) (s score : ℕ) → (y ≡ false → eqb s 0 ≡ false) → let v = cond x (cond y (cond z (Fits score) OutsideWindow) (SelectGap s)) DataGap in refusedOf v ≡ refusedIn (refusedSet v)

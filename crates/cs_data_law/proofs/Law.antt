@@ -2,6 +2,7 @@
 use mathlib.Core.Path.{_≡_, refl, sym, _∙_, ap}
 use Prim.Native.Nat.{ℕ, _+_, _*_, _≤_, _<_}
 use native.Mathlib.Omega.{arith}
+use Rattle.lists.proofs.Loops.{zero-one}
 use Rattle.gpio.specs.Set.{lowest}
 use Rattle.gpio.specs.declared.set.GpioSet.{GpioSet}
 use Rattle.slot.specs.Description.{isMulti}
@@ -39,13 +40,13 @@ fits-scores : (v : Verdict) (t : ℕ) → v ≡ Fits t → verdictTrial v ≡ Sc
 fits-scores v t e = rw e
 
 pub scores-fit : (v : Verdict) (t : ℕ) → verdictTrial v ≡ Score t → v ≡ Fits t
-scores-fit DataGap t e = let z : _≡_ {A = ℕ} 0 1 = cc in absurd (omega arith)
-scores-fit (SelectGap s) t e = let z : _≡_ {A = ℕ} 0 1 = cc in absurd (omega arith)
-scores-fit OutsideWindow t e = let z : _≡_ {A = ℕ} 0 1 = cc in absurd (omega arith)
+scores-fit DataGap t e = absurd (zero-one cc)
+scores-fit (SelectGap s) t e = absurd (zero-one cc)
+scores-fit OutsideWindow t e = absurd (zero-one cc)
 scores-fit (Fits s) t e = cc
 
 laid-not-refused : (r : Refusal) → LaidOut ≡ Refused r → ⊥
-laid-not-refused r e = let z : _≡_ {A = ℕ} 0 1 = cc in omega arith
+laid-not-refused r e = zero-one cc
 
 same-refusal : (r w : Refusal) → csDataRefused r ≡ csDataRefused w → r ≡ w
 same-refusal r w e = let o : Refused r ≡ Refused w = ap (λ (x : CsDataAnswer). x .outcome) e in cc
@@ -163,8 +164,8 @@ module _ (d : Description) (a : GivenLayout) where
       where
         by : WhyNone d a (InteriorIgnoredLine g) → (c : ℕ) × (s : ℕ) × FirstSeen d a c s × (g ≡ lowest (seenIn d s))
         by (eight c s f q) = (c, s, f, cc)
-        by (seven c s n l q) = let z : _≡_ {A = ℕ} 0 1 = cc in absurd (omega arith)
-        by (nine n q) = let z : _≡_ {A = ℕ} 0 1 = cc in absurd (omega arith)
+        by (seven c s n l q) = absurd (zero-one cc)
+        by (nine n q) = absurd (zero-one cc)
 
     -- 7: no choice sees one, and the last refused set
     pub seven-last : (set : GpioSet) → csDataAnswer d a ≡ csDataRefused (NonContiguousSelect set)
@@ -172,17 +173,17 @@ module _ (d : Description) (a : GivenLayout) where
     seven-last set e = by (refused-why (NonContiguousSelect set) e .1)
       where
         by : WhyNone d a (NonContiguousSelect set) → NoneSeen d a × ((c : ℕ) × LastRefused d a c (set .bits))
-        by (eight c s f q) = let z : _≡_ {A = ℕ} 0 1 = cc in absurd (omega arith)
+        by (eight c s f q) = absurd (zero-one cc)
         by (seven c s n l q) = let same : set ≡ record { bits = s } = cc in rw same (n, (c, l))
-        by (nine n q) = let z : _≡_ {A = ℕ} 0 1 = cc in absurd (omega arith)
+        by (nine n q) = absurd (zero-one cc)
 
     -- 9: no choice's set is refused
     pub nine-rest : csDataAnswer d a ≡ csDataRefused NoValidLayout → NoneRefused d a
     nine-rest e = by (refused-why NoValidLayout e .1)
       where
         by : WhyNone d a NoValidLayout → NoneRefused d a
-        by (eight c s f q) = let z : _≡_ {A = ℕ} 0 1 = cc in absurd (omega arith)
-        by (seven c s n l q) = let z : _≡_ {A = ℕ} 0 1 = cc in absurd (omega arith)
+        by (eight c s f q) = absurd (zero-one cc)
+        by (seven c s n l q) = absurd (zero-one cc)
         by (nine n q) = n
 
     -- and the other way: where none fits, 8 if some choice sees an ignored GPIO, else 7 if some set is refused, else 9

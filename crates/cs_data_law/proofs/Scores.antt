@@ -5,6 +5,7 @@ use mathlib.Core.Logic.{_⊎_, inl, inr}
 use Prim.Native.Nat.{ℕ, _+_, _*_, _≤_, _<_}
 use native.Mathlib.Nat.{eq-or-lt-of-le}
 use native.Mathlib.Omega.{arith}
+use Rattle.lists.proofs.Loops.{zero-one}
 use Rattle.gpio.specs.Set.{width, gapless}
 use Rattle.cs_verdict.specs.Verdict.{selectable, allOf, inOneWindow, scoreOf, verdictOf}
 use Rattle.cs_verdict.specs.declared.Verdict.the-variants.{DataGap, SelectGap, OutsideWindow, Fits}
@@ -13,9 +14,9 @@ use Rattle.cs_verdict.specs.declared.Verdict.the-variants.{DataGap, SelectGap, 
 judged : (x y z : Bool) (s t u : ℕ) → cond x (cond y (cond z (Fits s) OutsideWindow) (SelectGap u)) DataGap ≡ Fits t
     → (x ≡ true) × (y ≡ true) × (z ≡ true) × (t ≡ s)
 judged true true true s t u e = (refl, refl, refl, cc)
-judged true true false s t u e = let z : _≡_ {A = ℕ} 0 1 = cc in absurd (omega arith)
-judged true false z s t u e = let z : _≡_ {A = ℕ} 0 1 = cc in absurd (omega arith)
-judged false y z s t u e = let z : _≡_ {A = ℕ} 0 1 = cc in absurd (omega arith)
+judged true true false s t u e = absurd (zero-one cc)
+judged true false z s t u e = absurd (zero-one cc)
+judged false y z s t u e = absurd (zero-one cc)
 
 pub fits-only : (multi : Bool) (qualifiers dataGpios selectGpios score : ℕ) → verdictOf multi qualifiers dataGpios selectGpios ≡ Fits score
     → (gapless dataGpios ≡ true) × (selectable multi selectGpios ≡ true) × (inOneWindow (allOf dataGpios selectGpios qualifiers) ≡ true)

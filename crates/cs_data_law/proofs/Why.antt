@@ -7,6 +7,7 @@ use lib.Bits.{bitAnd}
 use lib.Dec.{eqb}
 use borrow.Author.Count.{below-more}
 use borrow.Author.Tests.{eqb-true, eqb-false}
+use Rattle.lists.proofs.Loops.{zero-one}
 use Rattle.gpio.specs.Set.{lowest, gap}
 use Rattle.refusal.specs.declared.Refusal.the-variants.{NonContiguousSelect, InteriorIgnoredLine}
 use Rattle.refusal.specs.First.{orElse}
@@ -42,10 +43,10 @@ module _ (verdict : ℕ → Verdict) where
       (c, s, omega arith, e, λ j t h m. below-more (λ i. c < i → (u : ℕ) → verdict i ≡ SelectGap u → ⊥) k (λ i o n u. later i u n o) (λ n u. other u) j (omega arith) h t, q)
 
   last-next : (k : ℕ) (f : FirstFault) (v : Verdict) → verdict k ≡ v → LastIs k f → LastIs (suc k) (orElse (refusedOf v) f)
-  last-next k f DataGap e r = last-kept k f (λ t q. let z : _≡_ {A = ℕ} 0 1 = cc in omega arith) r
+  last-next k f DataGap e r = last-kept k f (λ t q. zero-one cc) r
   last-next k f (SelectGap s) e r = (k, s, omega arith, e, λ j t l h q. absurd (omega arith), refl)
-  last-next k f OutsideWindow e r = last-kept k f (λ t q. let z : _≡_ {A = ℕ} 0 1 = cc in omega arith) r
-  last-next k f (Fits t) e r = last-kept k f (λ t q. let z : _≡_ {A = ℕ} 0 1 = cc in omega arith) r
+  last-next k f OutsideWindow e r = last-kept k f (λ t q. zero-one cc) r
+  last-next k f (Fits t) e r = last-kept k f (λ t q. zero-one cc) r
 
   pub last-is : (k : ℕ) → LastIs k (lastRefused verdict k)
   unfolding lastRefused
@@ -70,10 +71,10 @@ module _ (verdict : ℕ → Verdict) where
 
     first-next : (k : ℕ) (f : FirstFault) (v : Verdict) → verdict k ≡ v → FirstIs k f → FirstIs (suc k) (orElse f (interiorOf ignored v))
     first-next k (Of w) v e (c, s, l, g, some, before, q) = (c, s, omega arith, g, some, before, q)
-    first-next k None DataGap e r = sets-more k (λ t. seen t ≡ 0) r (λ t q. let z : _≡_ {A = ℕ} 0 1 = cc in absurd (omega arith))
+    first-next k None DataGap e r = sets-more k (λ t. seen t ≡ 0) r (λ t q. absurd (zero-one cc))
     first-next k None (SelectGap s) e r = first-here k s (eqb (seen s) 0) refl e r
-    first-next k None OutsideWindow e r = sets-more k (λ t. seen t ≡ 0) r (λ t q. let z : _≡_ {A = ℕ} 0 1 = cc in absurd (omega arith))
-    first-next k None (Fits u) e r = sets-more k (λ t. seen t ≡ 0) r (λ t q. let z : _≡_ {A = ℕ} 0 1 = cc in absurd (omega arith))
+    first-next k None OutsideWindow e r = sets-more k (λ t. seen t ≡ 0) r (λ t q. absurd (zero-one cc))
+    first-next k None (Fits u) e r = sets-more k (λ t. seen t ≡ 0) r (λ t q. absurd (zero-one cc))
 
     pub first-is : (k : ℕ) → FirstIs k (interior ignored verdict k)
     unfolding interior

@@ -10,6 +10,7 @@ use borrow.Author.Tests.{ltb-false}
 use Rattle.lists.specs.Each.{each}
 use Rattle.lists.proofs.Bools.{and-left, and-right, asked}
 use Rattle.lists.proofs.Tab.{tab-length}
+use Rattle.lists.proofs.Loops.{zero-one}
 use Rattle.slot.specs.Description.{isMulti}
 use Rattle.slot.specs.declared.description.Description.{Description}
 use Rattle.refusal.specs.declared.Refusal.{Refusal}
@@ -55,7 +56,7 @@ fixed-is d h m n x q em en ex eq = rw (em, en, ex, eq)
 
 -- without a refusal, a layout that is not given goes with no qualifiers
 not-missing : (n : ℕ) (r : Refusal) (given t : Bool) → given ≡ false → ltb 0 n ≡ t → cond (not given && t) (Of r) None ≡ None → n ≡ 0
-not-missing n r given true g l e = let q : cond (not false && true) (Of r) None ≡ None = rw g at e in let z : _≡_ {A = ℕ} 0 1 = cc in absurd (omega arith)
+not-missing n r given true g l e = let q : cond (not false && true) (Of r) None ≡ None = rw g at e in absurd (zero-one cc)
 not-missing n r given false g l e = omega (arith, ltb-false 0 n l)
 
 no-list : (d : Description) (l : AddrLayout) → d .«num_qualifiers» ≡ 0 → qualifiersIn (d .qualifiers) (d .«num_qualifiers») (l .gpios) (l .«num_lines») ≡ true

@@ -5,6 +5,7 @@ use Prim.Native.Nat.{ℕ, zero, suc, _<_}
 use native.Mathlib.Nat.{le-of-suc-le-suc}
 use native.Mathlib.Omega.{arith}
 use lib.ListN.{length}
+use Rattle.lists.proofs.Loops.{zero-one}
 use Rattle.gpio.specs.declared.candidates.Candidates.{Candidates}
 use Rattle.gpio.specs.declared.candidates.Candidates.the-variants.{Absent, One, Two}
 use Rattle.refusal.specs.declared.Refusal.{Refusal}
@@ -29,15 +30,14 @@ found-stays r (l ∷ ls) = found-stays r ls
 fault-first : (r : Refusal) (ls : List Listed) → faultFrom (Of r) ls ≡ None → ⊥
 fault-first r ls e =
     let f = found-stays r ls in
-    let z : _≡_ {A = ℕ} 0 1 = cc in
-    omega arith
+    zero-one cc
 
 module _ (l : Listed) (ls : List Listed) where
   -- without a fault the first pin has candidates, and so have the others
   head-tail : (g : Candidates) → faultFrom (faultOf g (l .fault)) ls ≡ None → (g ≡ Absent → ⊥) × (faultFrom None ls ≡ None)
   head-tail Absent e = absurd (fault-first (l .fault) ls e)
-  head-tail (One g) e = (λ q. let z : _≡_ {A = ℕ} 0 1 = cc in omega arith, e)
-  head-tail (Two g h) e = (λ q. let z : _≡_ {A = ℕ} 0 1 = cc in omega arith, e)
+  head-tail (One g) e = (λ q. zero-one cc, e)
+  head-tail (Two g h) e = (λ q. zero-one cc, e)
 
 -- without a fault each pin has candidates
 pub no-fault-at : (ls : List Listed) → firstFault ls ≡ None → (k : ℕ) → k < length ls → pinAt ls k ≡ Absent → ⊥

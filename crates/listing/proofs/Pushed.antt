@@ -18,10 +18,6 @@ module _ (f : ℕ → Listed) (base : List Listed) where
   unfolding tab
   pushed-turn k p ls ms e h i = rw (add-one, i, e, h, append-assoc)
 
-  -- at the count
-  pub pushed-done : (k n : ℕ) (ls : List Listed) → k ≡ n → ls ≡ base ++ tab k f → ls ≡ base ++ tab n f
-  pushed-done k n ls e h = rw e at h
-
 -- where the test fails nothing is pushed
 pub pushed-not : {A : Type 0} (t : Bool) (xs ls : List A) → t ≡ false → ls ≡ ls ++ cond t xs []
 pushed-not t xs ls e = rw (e, append-nil)

@@ -19,10 +19,6 @@ pub each-turn : (p : ℕ → Bool) (k : ℕ) (ok : Bool) → ok ≡ each k p →
 unfolding each
 each-turn p k ok e = rw (e, add-one)
 
--- at the count
-pub each-done : (p : ℕ → Bool) (k n : ℕ) (ok : Bool) → k ≡ n → ok ≡ each k p → ok ≡ each n p
-each-done p k n ok e h = rw e at h
-
 pub tally-none : (p : ℕ → Bool) → 0 ≡ tally 0 p
 unfolding tally
 tally-none p = refl
@@ -30,9 +26,6 @@ tally-none p = refl
 pub tally-turn : (p : ℕ → Bool) (k n : ℕ) → n ≡ tally k p → n + cond (p k) 1 0 ≡ tally (k + 1) p
 unfolding tally
 tally-turn p k n e = rw (e, add-one)
-
-pub tally-done : (p : ℕ → Bool) (k m n : ℕ) → k ≡ m → n ≡ tally k p → n ≡ tally m p
-tally-done p k m n e h = rw e at h
 
 -- a rule that each entry keeps
 pub each-all : (p : ℕ → Bool) (n : ℕ) → ((k : ℕ) → k < n → p k ≡ true) → each n p ≡ true

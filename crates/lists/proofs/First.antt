@@ -8,6 +8,7 @@ use native.Mathlib.Omega.{arith}
 use lib.Dec.{ltb}
 use borrow.Author.Tests.{ltb-true, ltb-false, lt-ltb, le-ltb}
 use Rattle.lists.specs.First.{firstWhere}
+use Rattle.lists.proofs.Loops.{zero-one}
 
 -- x is the first of 0 .. n - 1 that passes, or n where none does
 pub record First (n : ℕ) (p : ℕ → Bool) (x : ℕ) : Type 0 where
@@ -17,7 +18,7 @@ pub record First (n : ℕ) (p : ℕ → Bool) (x : ℕ) : Type 0 where
 
 -- a test that passes and fails
 pub never-both : (b : Bool) → b ≡ true → b ≡ false → ⊥
-never-both b e f = let z : _≡_ {A = ℕ} 0 1 = cc in omega arith
+never-both b e f = zero-one cc
 
 pub not-less : (x y : ℕ) → (x < y → ⊥) → y ≤ x
 not-less x y h = le-of-suc-le-suc (lt-of-not-le h)

@@ -6,6 +6,7 @@ use native.Mathlib.Omega.{arith}
 use lib.Dec.{leb, ltb, eqb}
 use borrow.Author.Tests.{ltb-true, leb-true, eqb-true}
 use Rattle.lists.proofs.Bools.{and-left}
+use Rattle.lists.proofs.Loops.{zero-one}
 use Rattle.slot.specs.declared.description.ChipSetType.{ChipSetType}
 use Rattle.slot.specs.declared.description.ChipSetType.the-variants.{Single, Banked, Multi}
 use Rattle.picks.specs.Picks.{picksOf, pickedBy, chipsFit}
@@ -27,7 +28,7 @@ below-if true j k n next h r p = let same : j ≡ k = cc in omega (arith, h refl
 below-if false j k n next h r p = r p
 
 below-none : (k n : ℕ) → NoChip ≡ Chip k → k < n
-below-none k n p = let z : _≡_ {A = ℕ} 0 1 = cc in omega arith
+below-none k n p = absurd (zero-one cc)
 
 -- with two chips X2 does not pick
 third : (n bits : ℕ) (t : Bool) → leb 3 n ≡ t → bits < 2 ^ (1 + cond t 2 1) → bits ≡ 4 → 2 < n

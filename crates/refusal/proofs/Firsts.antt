@@ -5,6 +5,7 @@ use native.Mathlib.Numerals.{add-one}
 use native.Mathlib.Omega.{arith}
 use native.Mathlib.Nat.{le-of-suc-le-suc, eq-or-lt-of-le}
 use mathlib.Core.Logic.{inl, inr}
+use Rattle.lists.proofs.Loops.{zero-one}
 use Rattle.refusal.specs.First.{orElse, firstOf}
 use Rattle.refusal.specs.declared.first.FirstFault.{FirstFault}
 use Rattle.refusal.specs.declared.first.FirstFault.the-variants.{None, Of}
@@ -18,12 +19,9 @@ pub first-turn : (f : ℕ → FirstFault) (k : ℕ) (before one after : FirstFau
 unfolding firstOf
 first-turn f k before one after e h i = rw (i, h, e, add-one)
 
-pub first-done : (f : ℕ → FirstFault) (k n : ℕ) (g : FirstFault) → k ≡ n → g ≡ firstOf k f → g ≡ firstOf n f
-first-done f k n g e h = rw e at h
-
 -- neither of two has a fault
 pub or-none : (f g : FirstFault) → orElse f g ≡ None → (f ≡ None) × (g ≡ None)
-or-none (Of r) g e = let z : _≡_ {A = ℕ} 0 1 = cc in absurd (omega arith)
+or-none (Of r) g e = absurd (zero-one cc)
 or-none None g e = (refl, e)
 
 -- no first fault of two: neither has one

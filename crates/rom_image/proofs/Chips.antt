@@ -9,6 +9,7 @@ use lib.Count.{ones, onesIn}
 use lib.Dec.{ltb}
 use lib.ListN.{length, getD, length-take, length-drop}
 use borrow.Author.Tests.{ltb-true, le-ltb}
+use Rattle.lists.proofs.Loops.{zero-one}
 use Rattle.words.specs.Words.{wordFrom, word}
 use Rattle.words.proofs.Words.{word-part, words-room}
 use Rattle.table_fill.specs.design.Entries.{SourceIn, rawFrom}
@@ -23,7 +24,7 @@ use Rattle.rom_image.specs.design.Wiring.{sourceOf}
 
 pub power-some : (n : ℕ) → powerOfTwo n ≡ true → 0 < n
 unfolding ones onesIn
-power-some zero e = let z : _≡_ {A = ℕ} 0 1 = cc in omega arith
+power-some zero e = absurd (zero-one cc)
 power-some (suc n) e = omega arith
 
 -- a chip's bytes, as many as its size
@@ -60,7 +61,7 @@ module _ (d : Description) (images : List ℕ) (spans : List ImageSpan) where
       (ltb n (wordCount d k)) (powerOfTwo (wordCount d k)) refl refl
 
   pub source-in : (p : Picked) → 1 ≤ d .«word_bytes» → Lent p → SourceIn images (d .«word_bytes») (sourceOf d spans p)
-  source-in NoChip b h = record { within = λ n l. absurd (omega arith); some = λ e. let z : _≡_ {A = ℕ} 0 1 = cc in omega arith }
+  source-in NoChip b h = record { within = λ n l. absurd (omega arith); some = λ e. absurd (zero-one cc) }
   source-in (Chip k) b h = record {
     within = λ n l. chip-within images (chipSpan spans k) (d .«word_bytes») (getD (d .chips) k noChip .size) (h k refl) n b l;
     some = power-some (wordCount d k);

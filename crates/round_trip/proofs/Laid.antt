@@ -2,7 +2,7 @@
 use mathlib.Core.Path.{_≡_, refl, sym, _∙_, ap, subst}
 use mathlib.Core.Bool.{Bool, true, false, cond, _&&_}
 use Prim.Native.Nat.{ℕ}
-use native.Mathlib.Omega.{arith}
+use Rattle.lists.proofs.Loops.{zero-one}
 use Rattle.slot.specs.declared.description.Description.{Description}
 use Rattle.refusal.specs.declared.Refusal.{Refusal}
 use Rattle.refusal.specs.declared.Refusal.the-variants.{OutOfDomain, NoValidLayout}
@@ -44,7 +44,7 @@ laid (AddrOutcome.Refused why) = 0
 
 refused-not-laid : (why : Refusal) (l : AddrLayout) → addr-layout.addrRefused why ≡ laidOut l → ⊥
 unfolding laid
-refused-not-laid why l e = let z : _≡_ {A = ℕ} 0 1 = ap (λ (r : AddrAnswer). laid (r .outcome)) e in omega arith
+refused-not-laid why l e = zero-one (ap (λ (r : AddrAnswer). laid (r .outcome)) e)
 
 -- the choice whose layout it is
 pub record Found-at (d : Description) (l : AddrLayout) : Type 0 where
@@ -84,7 +84,7 @@ cs-laid (CsDataOutcome.Refused why) = 0
 
 cs-refused-not-laid : (why : Refusal) (l : CsDataLayout) → cs-layout.csDataRefused why ≡ csLaidOut l → ⊥
 unfolding cs-laid
-cs-refused-not-laid why l e = let z : _≡_ {A = ℕ} 0 1 = ap (λ (r : CsDataAnswer). cs-laid (r .outcome)) e in omega arith
+cs-refused-not-laid why l e = zero-one (ap (λ (r : CsDataAnswer). cs-laid (r .outcome)) e)
 
 pub record Cs-found-at (d : Description) (l : CsDataLayout) : Type 0 where
   pub choice : ℕ

@@ -9,6 +9,7 @@ use lib.Dec.{leb, eqb, ltb}
 use borrow.Author.Tests.{leb-true, eqb-true, eqb-false, ltb-true, ltb-false}
 use Rattle.lists.specs.Each.{tally}
 use Rattle.lists.proofs.Bools.{and-left}
+use Rattle.lists.proofs.Loops.{zero-one}
 use Rattle.gpio.specs.declared.candidates.Candidates.the-variants.{Absent}
 use Rattle.slot.specs.Description.{isSingle}
 use Rattle.slot.specs.SlotContext.{raisedOf}
@@ -30,7 +31,7 @@ place-of : (pin raised board s : ℕ) (t : Bool) → (leb 1 (pin + raised - 4) &
 place-of pin raised board s true e h =
     let q : pin + raised - 4 ≡ s = cc in
     (q, omega (arith, q, leb-true 1 (pin + raised - 4) (and-left (leb 1 (pin + raised - 4)) (leb (pin + raised - 4) board) e)))
-place-of pin raised board s false e h = let z : _≡_ {A = ℕ} 0 1 = cc in absurd (omega arith)
+place-of pin raised board s false e h = absurd (zero-one cc)
 
 pub same-place : (d : Description) (p q s : ℕ) → pinSocket d p ≡ On s → pinSocket d q ≡ On s → p ≡ q
 same-place d p q s e h =
@@ -110,7 +111,7 @@ which x2 = 2
 
 pub apart-x : (s : ℕ) (t : Bool) → socket s ≡ cond t x1 x2 → ⊥
 unfolding which
-apart-x s true e = let z : _≡_ {A = ℕ} 0 1 = ap which e in omega arith
+apart-x s true e = zero-one (ap which e)
 apart-x s false e = let z : _≡_ {A = ℕ} 0 2 = ap which e in omega arith
 
 at-place : BoardPin → ℕ

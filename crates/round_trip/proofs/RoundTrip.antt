@@ -14,6 +14,7 @@ use Rattle.lists.specs.Each.{each}
 use Rattle.lists.specs.Tab.{joined}
 use Rattle.gpio.specs.Window.{fits}
 use Rattle.lists.proofs.Each.{each-all}
+use Rattle.lists.proofs.Loops.{zero-one}
 use Rattle.gpio.proofs.Fits.{fits-within}
 use Rattle.words.specs.Words.{word, wordsBytes}
 use Rattle.words.proofs.Words.{words-length}
@@ -65,7 +66,7 @@ done (Answer.Refused why) = 0
 
 refused-not-built : (why : Refusal) → Answer.Refused why ≡ Answer.Done → ⊥
 unfolding done
-refused-not-built why e = let z : _≡_ {A = ℕ} 0 1 = ap done e in omega arith
+refused-not-built why e = zero-one (ap done e)
 
 module _ (d : Description) (a : AddrLayout) (c : CsDataLayout) (images : List ℕ) (spans : List ImageSpan) (lent : List ℕ) where
   pub record Past : Type 0 where

@@ -7,6 +7,7 @@ use native.Mathlib.Omega.{arith}
 use borrow.Author.Count.{below-more}
 use borrow.Author.Tests.{ltb-true, ltb-false}
 use lib.Dec.{ltb}
+use Rattle.lists.proofs.Loops.{zero-one}
 use Rattle.search.specs.declared.Trial.{Trial}
 use Rattle.search.specs.declared.Trial.the-variants.{Misfit, Score}
 use Rattle.search.specs.declared.Found.{Found}
@@ -27,7 +28,7 @@ module _ (trial : ℕ → Trial) where
   one-score k s t p q = cc
 
   misfit-scores : (k t : ℕ) → trial k ≡ Misfit → trial k ≡ Score t → ⊥
-  misfit-scores k t p q = let z : _≡_ {A = ℕ} 0 1 = cc in omega arith
+  misfit-scores k t p q = zero-one cc
 
   -- the first choice that fits
   first-found : (k s : ℕ) → trial k ≡ Score s → Right trial k Nothing → Best trial (suc k) k s

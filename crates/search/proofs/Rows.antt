@@ -10,14 +10,11 @@ use Rattle.search.specs.declared.Found.{Found}
 use Rattle.search.specs.Search.{betterOf, best}
 use Rattle.search.specs.design.Rows.{bestOnward}
 
--- one turn of a loop over a row, and its end
+-- one turn of a loop over a row
 pub onward-turn : (before : Found) (row : ℕ → Trial) (c k : ℕ) (found later : Found) (t : Trial) → found ≡ bestOnward before row c k → t ≡ row k → later ≡ betterOf found (c + k) t
     → later ≡ bestOnward before row c (k + 1)
 unfolding bestOnward
 onward-turn before row c k found later t e h i = rw (i, e, h, add-one)
-
-pub onward-done : (before : Found) (row : ℕ → Trial) (c k n : ℕ) (found : Found) → k ≡ n → found ≡ bestOnward before row c k → found ≡ bestOnward before row c n
-onward-done before row c k n found e h = rw e at h
 
 -- a row that the choices of 6 bits make
 pub row-short : (k : ℕ) → k ≤ 6 → 2 ^ k ≤ 64

@@ -12,6 +12,3 @@ words-none s = refl
 pub words-turn : (s : StoredSlot) (k words one : ℕ) → words ≡ wordsBefore s k → one ≡ romWords s k → words + one ≡ wordsBefore s (k + 1)
 unfolding wordsBefore
 words-turn s k words one e h = rw (e, h, add-one k)
-
-pub words-done : (s : StoredSlot) (k n words : ℕ) → k ≡ n → words ≡ wordsBefore s k → words ≡ wordsBefore s n
-words-done s k n words e h = rw e at h

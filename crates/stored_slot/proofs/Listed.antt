@@ -25,9 +25,6 @@ pub listed-turn : (l : List ℕ) (k n g m : ℕ) → n ≡ mapLines k l → g �
 unfolding mapLines
 listed-turn l k n g m e h i = rw (i, h, e, add-one)
 
-pub listed-done : (l : List ℕ) (k m n : ℕ) → k ≡ m → n ≡ mapLines k l → n ≡ mapLines m l
-listed-done l k m n e h = rw e at h
-
 one-more : (b : Bool) (n x : ℕ) → x ≤ n → cond b (suc n) x ≤ suc n
 one-more true n x h = omega arith
 one-more false n x h = omega arith

@@ -3,9 +3,9 @@ use mathlib.Core.Path.{_≡_, refl, sym, _∙_, ap}
 use mathlib.Core.Bool.{true, false}
 use mathlib.Core.List.{List, _++_}
 use Prim.Native.Nat.{ℕ, suc, _*_, _^_, _≤_, _<_}
-use native.Mathlib.Omega.{arith}
 use lib.ListN.{length, drop}
 use lib.Seq.{drop-at}
+use Rattle.lists.proofs.Loops.{zero-one}
 use Rattle.table_read.specs.design.Kept.{outputAfter, marksAfter}
 use Rattle.table_read.specs.design.Buffers.{kept, keepWord, outputHeld, marksHeld, walkedOf}
 use Rattle.table_read.specs.declared.row.Walked.{Walked}
@@ -43,7 +43,7 @@ behind : (n : ℕ) (front old new : List ℕ) → length front ≡ n → new ≡
 behind n front old new l e = ap (λ (x : List ℕ). drop n x) e ∙ drop-at front (drop n old) n l
 
 pub never : (f : ℕ) → Disagrees f ≡ Through → ⊥
-never f e = let z : _≡_ {A = ℕ} 0 1 = cc in omega arith
+never f e = zero-one cc
 
 module _ {w words : ℕ} {t v : ℕ → ℕ} {output₀ marks₀ : List ℕ} {m : ℕ} {output marks : List ℕ} where
   module _ (h : Held w words t v output₀ marks₀ m output marks) where

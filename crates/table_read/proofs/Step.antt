@@ -15,6 +15,7 @@ use Rattle.table_read.specs.design.Kept.{firstAt, told, markAfter, value
 use Rattle.table_read.specs.design.Buffers.{Kept, kept, keepWord, outputHeld, marksHeld, walkedOf}
 use Rattle.table_read.specs.declared.row.Walked.the-variants.{Through, Disagrees}
 use Rattle.lists.proofs.First.{first-more, first-one, first-before, first-within, never-both}
+use Rattle.lists.proofs.Loops.{zero-one}
 use Rattle.table_read.proofs.Put.{words-put, marks-put}
 
 -- of one word
@@ -38,7 +39,7 @@ module _ (t v : ℕ → ℕ) (m : ℕ) where
 -- of how far the entries are read
 module _ (t v : ℕ → ℕ) (words m : ℕ) (through : walkedOf t v words m ≡ Through) where
   all-read : (x : ℕ) (b : Bool) → ltb x m ≡ b → x ≤ m → cond b (Disagrees (t x)) Through ≡ Through → x ≡ m
-  all-read x true e l h = absurd (let z : _≡_ {A = ℕ} 0 1 = cc in omega arith)
+  all-read x true e l h = absurd (zero-one cc)
   all-read x false e l h = let g = ltb-false x m e in omega arith
 
   none-bad : firstBad t v words m ≡ m

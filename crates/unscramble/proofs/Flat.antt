@@ -8,6 +8,7 @@ use native.Mathlib.Omega.{arith}
 use mathlib.Core.Logic.{inl, inr}
 use borrow.Author.Tests.{le-leb, lt-leb}
 use Rattle.lists.specs.Each.{tally}
+use Rattle.lists.proofs.Loops.{zero-one}
 use Rattle.stored_slot.specs.Words.{romWords, wordsBefore, allWords}
 use Rattle.unscramble.specs.design.Place.{wordRom, wordAddress}
 use Rattle.stored_slot.specs.declared.stored.StoredSlot.{StoredSlot}
@@ -16,10 +17,10 @@ use Rattle.stored_slot.specs.declared.stored.StoredSlot.{StoredSlot}
 tally-count : (n r x : ℕ) (b : Bool) → x ≡ min n r → (n < r → b ≡ true) → (r ≤ n → b ≡ false) → x + cond b 1 0 ≡ min (suc n) r
 tally-count n r x true e h g = elim (decLt n r) [
   | yes l ↦ omega arith
-  | no l ↦ let q = g (omega arith) in let z : _≡_ {A = ℕ} 0 1 = cc in absurd (omega arith)
+  | no l ↦ let q = g (omega arith) in absurd (zero-one cc)
 ]
 tally-count n r x false e h g = elim (decLt n r) [
-  | yes l ↦ let q = h l in let z : _≡_ {A = ℕ} 0 1 = cc in absurd (omega arith)
+  | yes l ↦ let q = h l in absurd (zero-one cc)
   | no l ↦ omega arith
 ]
 

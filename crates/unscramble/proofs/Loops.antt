@@ -32,9 +32,6 @@ pub mask-turn : (p : ℕ → Bool) (k x y : ℕ) → x ≡ maskOf k p → y ≡ 
 unfolding maskOf
 mask-turn p k x y e h = let next : k + 1 ≡ suc k = omega arith in rw (next, e, h)
 
-pub mask-done : (p : ℕ → Bool) (k n x : ℕ) → k ≡ n → x ≡ maskOf k p → x ≡ maskOf n p
-mask-done p k n x e h = rw e at h
-
 pub mask-fits : (p : ℕ → Bool) (k x y : ℕ) → x ≡ maskOf k p → y ≡ cond (p k) (2 ^ k) 0 → k < 32 → x + y < 2 ^ 32
 mask-fits p k x y e h l =
     let whole = mask-turn p k x y e h in

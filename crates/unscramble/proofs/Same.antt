@@ -19,6 +19,7 @@ use Rattle.picks.specs.declared.Picked.the-variants.{NoChip, Chip}
 use Rattle.table_read.specs.design.Kept.{firstAt, told, valueAfter, marksAfter, outputAfter, disagrees, firstBad, firstMissing, outcomeOf}
 use Rattle.table_read.specs.declared.Outcome.the-variants.{Whole, Disagrees, Missing}
 use Rattle.lists.proofs.First.{never-both, not-less, first-within, first-found}
+use Rattle.lists.proofs.Loops.{zero-one}
 use Rattle.table_read.proofs.Whole.{disagrees-first, whole-told, whole-marks}
 use Rattle.stored_slot.specs.Stored.{wordBytes, storedPins}
 use Rattle.unscramble.specs.Words.{romPicked, addressAt, valueAt, serves}
@@ -110,8 +111,7 @@ module _ (s : StoredSlot) (set : ChipSetType) (stored : List ℕ) where
         skipped i (inconsistentWord (t i)) (λ h.
         let (r, q) = entry-serves s set i h in
         let p = serves-picks s set r (addressAt s r i) i q in
-        let z : _≡_ {A = ℕ} 0 1 = cc in
-        omega arith)
+        zero-one cc)
     by-rom i l (Chip rom) g = by-test rom i l g (serves s set rom (addressAt s rom i) i) refl
 
     inconsistent-is : inconsistent s set stored ≡ faultIf (ltb bad entries) (inconsistentWord (t bad))

@@ -12,6 +12,7 @@ use Rattle.gpio.specs.declared.candidates.Candidates.the-variants.{Absent, One,
 use Rattle.gpio.specs.declared.candidates.Pin.{Pin}
 use Rattle.lists.proofs.Bools.{and-left, and-right, asked}
 use Rattle.lists.proofs.Each.{each-at}
+use Rattle.lists.proofs.Loops.{zero-one}
 use Rattle.slot.specs.Description.{isSingle, isMulti, noPin}
 use Rattle.slot.specs.declared.description.Board.{Board}
 use Rattle.slot.specs.declared.description.Description.{Description}
@@ -56,7 +57,7 @@ holds-of (Two a b) g h = elim h [ inl q ↦ rw (eq-eqb g a q) | inr q ↦ or-rig
     or-right false u e = e
 
 pub clash : (t : Bool) → t ≡ true → t ≡ false → ⊥
-clash t e f = let z : _≡_ {A = ℕ} 0 1 = ap (λ (x : Bool). cond x 0 1) (sym e ∙ f) in omega (arith, z)
+clash t e f = zero-one (ap (λ (x : Bool). cond x 0 1) (sym e ∙ f))
 
 neither : (t : Bool) → not t ≡ true → t ≡ true → ⊥
 neither t e f = clash t f (not-true t e)

@@ -3,9 +3,10 @@ use mathlib.Core.Path.{_≡_, refl, _∙_}
 use Prim.Native.Nat.{_≤_, _-_}
 use native.Mathlib.Omega.{arith}
 use lib.ListN.{length, getD}
+use Rattle.lists.proofs.Loops.{at-count}
 use Rattle.gpio.specs.design.Span.{spansJoined}
 use Rattle.search.specs.design.Rows.{bestOnward}
-use Rattle.search.proofs.Rows.{onward-turn, onward-done}
+use Rattle.search.proofs.Rows.{onward-turn}
 use Rattle.addr_choices.specs.Choices.{spanTrial}
 use Rattle.addr_choices.specs.design.Parts.{pastSpans}
 use borrow.Author.Needs.{needs}
@@ -29,7 +30,7 @@ loop-again c =
     (omega arith, v .inv .1, onward-turn _ _ _ _ _ _ _ (v .inv .2) (c .before .trial .ensures ∙ rw (c .before .before .join .ensures)) (c .better .ensures))
 
 returns : tie.Need-returns Inv-loop μ-loop
-returns c = let v = c .before .loop in onward-done _ _ _ _ _ _ (omega arith) (v .inv .2)
+returns c = let v = c .before .loop in at-count (bestOnward _ _ _) _ _ _ (omega arith) (v .inv .2)
 
 pub best-in-row-spec : {M : Type 1} → statement M
 best-in-row-spec = tie.close (tie.spec Inv-loop μ-loop loop-holds (λ c. search needs) (λ c. search needs) (λ c. search needs) (λ c. search needs) (λ c κs. search needs) (λ c κs. search needs) (λ c κs. search needs) (λ c. search needs) (λ c. search needs) loop-again returns)

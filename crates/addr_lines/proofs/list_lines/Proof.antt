@@ -4,8 +4,9 @@ use mathlib.Core.List.{[]}
 use Prim.Native.Nat.{_≤_, _-_}
 use native.Mathlib.Omega.{arith}
 use Rattle.lists.specs.Tab.{tab}
+use Rattle.lists.proofs.Loops.{at-count-of}
 use Rattle.listing.specs.Listing.{listOf}
-use Rattle.listing.proofs.Pushed.{pushed-none, pushed-turn, pushed-done}
+use Rattle.listing.proofs.Pushed.{pushed-none, pushed-turn}
 use Rattle.addr_lines.specs.Lines.{lines, lineListed}
 use borrow.Author.Needs.{needs}
 use Rattle.addr_lines.proofs.list_lines.Statement.{statement}
@@ -36,7 +37,7 @@ returns : tie.Need-returns Inv-loop μ-loop
 returns c =
     let v = c .before .loop in
     let e : v .n ≡ lines (c .before .before .before .before .args .d) = omega (arith, v .inv .2) in
-    (pushed-done _ [] _ _ _ e (v .inv .4), omega arith)
+    (at-count-of tab _ _ _ _ e (v .inv .4), omega arith)
 
 pub list-lines-spec : {M : Type 1} → statement M
 list-lines-spec = tie.close (tie.spec Inv-loop μ-loop (λ c κs. search needs) (λ c. search needs) (λ c κs. search needs) loop-holds (λ c κs. search needs) (λ c κs. search needs) (λ c. search needs) (λ c. search needs) loop-again returns)

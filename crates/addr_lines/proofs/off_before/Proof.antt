@@ -3,8 +3,9 @@ use mathlib.Core.Path.{_≡_}
 use Prim.Native.Nat.{_≤_, _-_}
 use native.Mathlib.Omega.{arith}
 use Rattle.lists.specs.Each.{tally}
-use Rattle.lists.proofs.Each.{tally-none, tally-turn, tally-done}
+use Rattle.lists.proofs.Each.{tally-none, tally-turn}
 use Rattle.addr_lines.specs.Lines.{isOff, lineSocket}
+use Rattle.lists.proofs.Loops.{at-count-of}
 use borrow.Author.Needs.{needs}
 use Rattle.addr_lines.proofs.off_before.Statement.{statement}
 use Rattle.addr_lines.proofs.off_before.Tie as tie
@@ -23,7 +24,7 @@ loop-again c =
     (omega arith, omega arith, rw (c .off .ensures .0, c .before .line-socket .ensures) (tally-turn _ _ _ (c .before .before .before .loop .inv .2)))
 
 returns : tie.Need-returns Inv-loop μ-loop
-returns c = tally-done _ _ _ _ (omega arith) (c .before .loop .inv .2)
+returns c = at-count-of tally _ _ _ _ (omega arith) (c .before .loop .inv .2)
 
 pub off-before-spec : {M : Type 1} → statement M
 off-before-spec = tie.close (tie.spec Inv-loop μ-loop loop-holds (λ c κs. search needs) (λ c κs. search needs) (λ c. search needs) (λ c. search needs) (λ c. search needs) loop-again returns)

@@ -5,10 +5,11 @@ use Prim.Native.Nat.{_≤_, _-_}
 use native.Mathlib.Omega.{arith}
 use lib.ListN.{getD}
 use Rattle.lists.specs.Tab.{tab}
+use Rattle.lists.proofs.Loops.{at-count-of}
 use Rattle.slot.specs.Description.{chip0}
 use Rattle.slot.specs.declared.description.Chip.{Chip}
 use Rattle.listing.specs.Listing.{listOf}
-use Rattle.listing.proofs.Pushed.{pushed-none, pushed-turn, pushed-done}
+use Rattle.listing.proofs.Pushed.{pushed-none, pushed-turn}
 use Rattle.cs_pins.specs.Pins.{pinListed, dataListed}
 use borrow.Author.Needs.{needs}
 use Rattle.cs_pins.proofs.list_data.Statement.{statement}
@@ -42,7 +43,7 @@ unfolding dataListed
 returns c =
     let v = c .before .loop in
     let e : v .k ≡ chip0 (c .before .before .before .before .before .args .d) .«num_data_pins» = omega (arith, v .inv .2) in
-    (pushed-done _ [] _ _ _ e (v .inv .4), omega arith)
+    (at-count-of tab _ _ _ _ e (v .inv .4), omega arith)
 
 pub list-data-spec : {M : Type 1} → statement M
 list-data-spec = tie.close (tie.spec Inv-loop μ-loop (λ c κs. search needs) (λ c. search needs) (λ c κs. search needs) loop-holds (λ c κs. search needs) (λ c κs. search needs) (λ c κs. search needs) (λ c. search needs) (λ c. search needs) loop-again returns)

@@ -12,6 +12,7 @@ use Rattle.gpio.specs.Window.{fits}
 use Rattle.gpio.specs.declared.span.Span.{Span}
 use Rattle.gpio.proofs.Fits.{fits-within}
 use Rattle.lists.proofs.Tab.{getD-tab, tab-cong}
+use Rattle.lists.proofs.Loops.{zero-one}
 use Rattle.search.specs.declared.Trial.the-variants.{Misfit, Score}
 use Rattle.addr_lines.specs.Range.{reach, inRange}
 use Rattle.addr_choices.specs.Choices.{fixedSpan, choiceSpan, paddedPins, spanTrial}
@@ -31,7 +32,7 @@ use Rattle.addr_layout.proofs.layouts.laid_out.Tie as tie
 -- a score means that the window holds the pins
 few : (base n s : ℕ) (f : Bool) → fits base n ≡ f → cond f (Score (n * 1000 + base)) Misfit ≡ Score s → n ≤ 48
 few base n s true e h = omega (arith, fits-within base n e)
-few base n s false e h = let z : _≡_ {A = ℕ} 0 1 = cc in omega arith
+few base n s false e h = absurd (zero-one cc)
 
 pins-fit : (s : Span) (score : ℕ) → spanTrial s ≡ Score score → paddedPins s ≤ 48
 unfolding spanTrial

@@ -7,8 +7,9 @@ use native.Mathlib.Nat.{pow-suc}
 use lib.Dec.{leb}
 use lib.Pow.{pow-mono}
 use Rattle.lists.specs.Each.{tally}
-use Rattle.lists.proofs.Each.{tally-none, tally-turn, tally-done}
+use Rattle.lists.proofs.Each.{tally-none, tally-turn}
 use Rattle.addr_lines.specs.Range.{reach}
+use Rattle.lists.proofs.Loops.{at-count-of}
 use borrow.Author.Needs.{needs}
 use Rattle.addr_lines.proofs.range.reach.Statement.{statement}
 use Rattle.addr_lines.proofs.range.reach.Tie as tie
@@ -43,7 +44,7 @@ unfolding reach
 returns c =
     let v = c .before .loop in
     let e : v .k ≡ 20 = omega arith in
-    (tally-done _ _ _ _ e (rw (c .before .before .most-entries .ensures) at (v .inv .3)), omega arith)
+    (at-count-of tally _ _ _ _ e (rw (c .before .before .most-entries .ensures) at (v .inv .3)), omega arith)
 
 pub reach-spec : {M : Type 1} → statement M
 reach-spec = tie.close (tie.spec Inv-loop μ-loop (λ c κs. search needs) loop-holds mul-entries (λ c κs. search needs) (λ c. search needs) (λ c. search needs) (λ c. search needs) loop-again returns)

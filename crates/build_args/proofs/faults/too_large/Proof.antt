@@ -1,11 +1,11 @@
 -- `too_large` meets its contract. Assumes nothing.
-use mathlib.Core.Path.{_≡_}
 use Prim.Native.Nat.{ℕ, zero, suc, _*_, _^_, _<_, _≤_}
 use native.Mathlib.Nat.{mul-suc}
 use native.Mathlib.Omega.{arith}
 use lib.Pow.{pow-mono}
 use borrow.Author.Needs.{needs}
 use borrow.Author.Tests.{lt-ltb}
+use Rattle.lists.proofs.Loops.{zero-one}
 use Rattle.build_args.specs.Faults.{tableSize}
 use Rattle.build_args.proofs.faults.too_large.Statement.{statement}
 use Rattle.build_args.proofs.faults.too_large.Tie as tie
@@ -21,7 +21,7 @@ returns c =
     let d = s .args .d in
     let a = s .args .a in (
       rw (lt-ltb (d .«max_image_size») (tableSize d a) (wide (a .«num_addr_pins») (d .«word_bytes») (d .«max_image_size») (c .if1 .taken) (s .pre .1) (s .pre .0))),
-      λ e. let z : _≡_ {A = ℕ} 0 1 = cc in omega arith,
+      λ e. absurd (zero-one cc),
     )
 
 returns-2 : tie.Need-returns-2

@@ -4,7 +4,8 @@ use Prim.Native.Nat.{_≤_, _-_}
 use native.Mathlib.Omega.{arith}
 use borrow.Author.Needs.{needs}
 use Rattle.lists.specs.Each.{each}
-use Rattle.lists.proofs.Each.{each-none, each-turn, each-done}
+use Rattle.lists.proofs.Each.{each-none, each-turn}
+use Rattle.lists.proofs.Loops.{at-count-of}
 use Rattle.build_args.specs.Domain.{selectLineOf, selectLineIn, selectLinesIn}
 use Rattle.build_args.proofs.in_domain.select_lines_in.Statement.{statement}
 use Rattle.build_args.proofs.in_domain.select_lines_in.Tie as tie
@@ -24,7 +25,7 @@ loop-again c =
 
 returns : tie.Need-returns Inv-loop μ-loop
 unfolding selectLinesIn
-returns c = each-done _ _ _ _ (omega arith) (c .before .loop .inv .1)
+returns c = at-count-of each _ _ _ _ (omega arith) (c .before .loop .inv .1)
 
 pub select-lines-in-spec : {M : Type 1} → statement M
 select-lines-in-spec =

@@ -4,7 +4,8 @@ use Prim.Native.Nat.{_≤_, _-_}
 use native.Mathlib.Omega.{arith}
 use borrow.Author.Needs.{needs}
 use Rattle.lists.specs.Each.{each}
-use Rattle.lists.proofs.Each.{each-none, each-turn, each-done}
+use Rattle.lists.proofs.Each.{each-none, each-turn}
+use Rattle.lists.proofs.Loops.{at-count-of}
 use Rattle.picks.specs.Positions.{xPositionIn}
 use Rattle.build_args.specs.Picks.{pickOf}
 use Rattle.build_args.specs.Faults.{picksIn}
@@ -26,7 +27,7 @@ loop-again c =
 
 returns : tie.Need-returns Inv-loop μ-loop
 unfolding picksIn
-returns c = rw (c .before .before .num-picks .ensures .0) at (each-done _ _ (c .before .before .num-picks .result) _ (omega arith) (c .before .loop .inv .1))
+returns c = rw (c .before .before .num-picks .ensures .0) at (at-count-of each _ _ (c .before .before .num-picks .result) _ (omega arith) (c .before .loop .inv .1))
 
 pub picks-in-spec : {M : Type 1} → statement M
 picks-in-spec =

@@ -4,7 +4,8 @@ use mathlib.Core.Path.{_≡_}
 use Prim.Native.Nat.{_≤_, _-_}
 use native.Mathlib.Omega.{arith}
 use Rattle.lists.specs.Each.{tally}
-use Rattle.lists.proofs.Each.{tally-none, tally-turn, tally-done}
+use Rattle.lists.proofs.Each.{tally-none, tally-turn}
+use Rattle.lists.proofs.Loops.{at-count-of}
 use Rattle.slot.specs.Description.{kindAt}
 use Rattle.control.specs.MultiCsConfig.{named}
 use borrow.Author.Needs.{needs}
@@ -26,7 +27,7 @@ loop-again c =
     (omega arith, omega arith, rw (c .counted .ensures .0, c .before .kind-at .ensures) (tally-turn _ _ _ (v .inv .2)))
 
 returns : tie.Need-returns Inv-loop μ-loop
-returns c = tally-done _ _ _ _ (omega arith) (c .before .loop .inv .2)
+returns c = at-count-of tally _ _ _ _ (omega arith) (c .before .loop .inv .2)
 
 pub named-count-spec : {M : Type 1} → statement M
 named-count-spec =

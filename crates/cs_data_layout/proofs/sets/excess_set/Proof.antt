@@ -3,8 +3,9 @@ use mathlib.Core.Path.{_≡_, refl}
 use mathlib.Core.Bool.{true}
 use Prim.Native.Nat.{ℕ, _≤_, _<_, _-_}
 use native.Mathlib.Omega.{arith}
+use Rattle.lists.proofs.Loops.{at-count-of}
 use Rattle.gpio.specs.Set.{setOf}
-use Rattle.gpio.proofs.Sets.{set-turn, set-done}
+use Rattle.gpio.proofs.Sets.{set-turn}
 use Rattle.addr_layout.specs.Layout.{layoutIn}
 use Rattle.addr_layout.specs.declared.layout.AddrLayout.{AddrLayout}
 use Rattle.cs_data_layout.specs.Choices.{excessGpio}
@@ -35,7 +36,7 @@ loop-again c =
     (omega arith, i .1, i .2, i .3, set-turn _ _ _ _ _ (i .4) (c .before .excess-gpio .ensures) (c .with .ensures))
 
 returns : tie.Need-returns Inv-loop μ-loop
-returns c = let i = c .before .loop .inv in set-done _ _ _ _ (omega arith) (i .4)
+returns c = let i = c .before .loop .inv in at-count-of setOf _ _ _ _ (omega arith) (i .4)
 
 pub excess-set-spec : {M : Type 1} → statement M
 excess-set-spec = tie.close (tie.spec Inv-loop μ-loop (λ c. search needs) loop-holds (λ c κs. search needs) with-requires (λ c. search needs) (λ c. search needs) loop-again returns)

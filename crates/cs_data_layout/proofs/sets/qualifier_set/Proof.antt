@@ -2,8 +2,9 @@
 use mathlib.Core.Path.{_≡_, refl}
 use Prim.Native.Nat.{ℕ, _≤_, _<_, _-_}
 use native.Mathlib.Omega.{arith}
+use Rattle.lists.proofs.Loops.{at-count-of}
 use Rattle.gpio.specs.Set.{setOf}
-use Rattle.gpio.proofs.Sets.{set-turn, set-done}
+use Rattle.gpio.proofs.Sets.{set-turn}
 use Rattle.domain.specs.Domain.{qualifierGpio}
 use Rattle.cs_data_layout.proofs.Bounds.{qualifier-line-in}
 use borrow.Author.Needs.{needs}
@@ -33,7 +34,7 @@ loop-again c =
     (omega arith, i .1, i .2, set-turn _ _ _ _ _ (i .3) (c .before .qualifier-gpio .ensures) (c .with .ensures))
 
 returns : tie.Need-returns Inv-loop μ-loop
-returns c = let i = c .before .loop .inv in set-done _ _ _ _ (omega arith) (i .3)
+returns c = let i = c .before .loop .inv in at-count-of setOf _ _ _ _ (omega arith) (i .3)
 
 pub qualifier-set-spec : {M : Type 1} → statement M
 qualifier-set-spec = tie.close (tie.spec Inv-loop μ-loop (λ c. search needs) loop-holds (λ c κs. search needs) with-requires (λ c. search needs) (λ c. search needs) loop-again returns)

@@ -4,7 +4,8 @@ use Prim.Native.Nat.{_+_, _*_, _-_, _≤_}
 use native.Mathlib.Omega.{arith}
 use borrow.Author.Needs.{needs}
 use Rattle.lists.specs.Each.{each}
-use Rattle.lists.proofs.Each.{each-none, each-turn, each-done}
+use Rattle.lists.proofs.Each.{each-none, each-turn}
+use Rattle.lists.proofs.Loops.{at-count-of}
 use Rattle.fields.specs.Candidates.{pairIn}
 use Rattle.description_record.proofs.shape.pairs_in.Statement.{statement}
 use Rattle.description_record.proofs.shape.pairs_in.Tie as tie
@@ -22,7 +23,7 @@ loop-again : tie.Need-loop-again Inv-loop μ-loop
 loop-again c = (omega arith, rw (c .pair-in .ensures) (each-turn _ _ _ (c .before .before .loop .inv .1)))
 
 returns : tie.Need-returns Inv-loop μ-loop
-returns c = each-done _ _ _ _ (omega arith) (c .before .loop .inv .1)
+returns c = at-count-of each _ _ _ _ (omega arith) (c .before .loop .inv .1)
 
 pub pairs-in-spec : {M : Type 1} → statement M
 pairs-in-spec =

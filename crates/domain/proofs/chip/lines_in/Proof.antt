@@ -3,7 +3,8 @@ use mathlib.Core.Path.{_≡_}
 use Prim.Native.Nat.{_≤_, _-_}
 use native.Mathlib.Omega.{arith}
 use Rattle.lists.specs.Each.{each}
-use Rattle.lists.proofs.Each.{each-none, each-turn, each-done}
+use Rattle.lists.proofs.Each.{each-none, each-turn}
+use Rattle.lists.proofs.Loops.{at-count-of}
 use Rattle.domain.specs.Domain.{lineIn, linesIn}
 use borrow.Author.Needs.{needs}
 use Rattle.domain.proofs.chip.lines_in.Statement.{statement}
@@ -23,7 +24,7 @@ loop-again c = (omega arith, rw (c .line-in .ensures) (each-turn _ _ _ (c .befor
 
 returns : tie.Need-returns Inv-loop μ-loop
 unfolding linesIn
-returns c = each-done _ _ _ _ (omega arith) (c .before .loop .inv .1)
+returns c = at-count-of each _ _ _ _ (omega arith) (c .before .loop .inv .1)
 
 pub lines-in-spec : {M : Type 1} → statement M
 lines-in-spec = tie.close (tie.spec Inv-loop μ-loop (λ c. search needs) loop-holds (λ c κs. search needs) (λ c. search needs) (λ c. search needs) loop-again returns)

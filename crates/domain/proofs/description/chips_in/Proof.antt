@@ -3,7 +3,8 @@ use mathlib.Core.Path.{_≡_}
 use Prim.Native.Nat.{_≤_, _-_}
 use native.Mathlib.Omega.{arith}
 use Rattle.lists.specs.Each.{each}
-use Rattle.lists.proofs.Each.{each-none, each-turn, each-done}
+use Rattle.lists.proofs.Each.{each-none, each-turn}
+use Rattle.lists.proofs.Loops.{at-count-of}
 use mathlib.Core.Bool.{_||_}
 use lib.Dec.{leb}
 use lib.ListN.{getD}
@@ -27,7 +28,7 @@ loop-again c = (omega arith, rw (c .chip-in .ensures) (each-turn _ _ _ (c .befor
 
 returns : tie.Need-returns Inv-loop μ-loop
 unfolding chipsIn
-returns c = each-done _ _ _ _ (omega arith) (c .before .loop .inv .1)
+returns c = at-count-of each _ _ _ _ (omega arith) (c .before .loop .inv .1)
 
 pub chips-in-spec : {M : Type 1} → statement M
 chips-in-spec = tie.close (tie.spec Inv-loop μ-loop loop-holds (λ c. search needs) (λ c. search needs) (λ c κs. search needs) (λ c. search needs) (λ c. search needs) loop-again returns)

@@ -3,7 +3,8 @@ use mathlib.Core.Path.{_≡_}
 use Prim.Native.Nat.{_≤_, _-_}
 use native.Mathlib.Omega.{arith}
 use Rattle.lists.specs.Each.{each}
-use Rattle.lists.proofs.Each.{each-none, each-turn, each-done}
+use Rattle.lists.proofs.Each.{each-none, each-turn}
+use Rattle.lists.proofs.Loops.{at-count-of}
 use lib.ListN.{getD}
 use Rattle.gpio.specs.Candidates.{candidatesIn}
 use Rattle.slot.specs.Description.{noPin}
@@ -26,7 +27,7 @@ loop-again c = (omega arith, rw (c .in-domain .ensures) (each-turn _ _ _ (c .bef
 
 returns : tie.Need-returns Inv-loop μ-loop
 unfolding socketIn
-returns c = each-done _ _ _ _ (omega arith) (c .before .loop .inv .1)
+returns c = at-count-of each _ _ _ _ (omega arith) (c .before .loop .inv .1)
 
 pub socket-in-spec : {M : Type 1} → statement M
 socket-in-spec = tie.close (tie.spec Inv-loop μ-loop loop-holds (λ c. search needs) (λ c. search needs) (λ c κs. search needs) (λ c. search needs) (λ c. search needs) loop-again returns)

@@ -3,7 +3,8 @@ use mathlib.Core.Path.{_≡_}
 use Prim.Native.Nat.{_≤_, _-_}
 use native.Mathlib.Omega.{arith}
 use Rattle.lists.specs.Each.{each}
-use Rattle.lists.proofs.Each.{each-none, each-turn, each-done}
+use Rattle.lists.proofs.Each.{each-none, each-turn}
+use Rattle.lists.proofs.Loops.{at-count-of}
 use Rattle.domain.specs.Domain.{qualifierIn}
 use borrow.Author.Needs.{needs}
 use Rattle.domain.proofs.qualifiers.each_in.Statement.{statement}
@@ -23,7 +24,7 @@ unfolding qualifierIn
 loop-again c = (omega arith, rw (c .near .ensures, c .before .entry .ensures) (each-turn _ _ _ (c .before .before .before .before .loop .inv .1)))
 
 returns : tie.Need-returns Inv-loop μ-loop
-returns c = each-done _ _ _ _ (omega arith) (c .before .loop .inv .1)
+returns c = at-count-of each _ _ _ _ (omega arith) (c .before .loop .inv .1)
 
 pub each-in-spec : {M : Type 1} → statement M
 each-in-spec = tie.close (tie.spec Inv-loop μ-loop loop-holds (λ c. search needs) (λ c κs. search needs) (λ c κs. search needs) (λ c. search needs) (λ c. search needs) loop-again returns)

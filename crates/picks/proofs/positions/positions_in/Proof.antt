@@ -5,7 +5,8 @@ use native.Mathlib.Omega.{arith}
 use lib.ListN.{getD}
 use borrow.Author.Needs.{needs}
 use Rattle.lists.specs.Each.{each}
-use Rattle.lists.proofs.Each.{each-none, each-turn, each-done}
+use Rattle.lists.proofs.Each.{each-none, each-turn}
+use Rattle.lists.proofs.Loops.{at-count-of}
 use Rattle.picks.specs.Positions.{positionIn}
 use Rattle.picks.proofs.positions.positions_in.Statement.{statement}
 use Rattle.picks.proofs.positions.positions_in.Tie as tie
@@ -24,7 +25,7 @@ loop-again c =
     (omega arith, rw (c .position-in .ensures, c .before .entry .ensures) (each-turn _ _ _ (c .before .before .before .loop .inv .1)))
 
 returns : tie.Need-returns Inv-loop μ-loop
-returns c = each-done _ _ _ _ (omega arith) (c .before .loop .inv .1)
+returns c = at-count-of each _ _ _ _ (omega arith) (c .before .loop .inv .1)
 
 pub positions-in-spec : {M : Type 1} → statement M
 positions-in-spec =

@@ -3,8 +3,9 @@ use mathlib.Core.Path.{_≡_}
 use Prim.Native.Nat.{_≤_, _-_}
 use native.Mathlib.Omega.{arith}
 use borrow.Author.Needs.{needs}
+use Rattle.lists.proofs.Loops.{at-count-of}
 use Rattle.refusal.specs.First.{firstOf}
-use Rattle.refusal.proofs.Firsts.{first-none, first-turn, first-done}
+use Rattle.refusal.proofs.Firsts.{first-none, first-turn}
 use Rattle.stored_slot.specs.Faults.{romFault}
 use Rattle.stored_slot.proofs.roms.first_fault.Statement.{statement}
 use Rattle.stored_slot.proofs.roms.first_fault.Tie as tie
@@ -28,7 +29,7 @@ loop-again c =
     (omega arith, first-turn _ (v .k) _ _ _ (v .inv .1) (c .before .rom-fault .ensures) (c .or-else .ensures))
 
 returns : tie.Need-returns Inv-loop μ-loop
-returns c = first-done _ _ _ _ (omega arith) (c .before .loop .inv .1)
+returns c = at-count-of firstOf _ _ _ _ (omega arith) (c .before .loop .inv .1)
 
 pub first-fault-spec : {M : Type 1} → statement M
 first-fault-spec =

@@ -4,8 +4,9 @@ use Prim.Native.Nat.{_≤_, _-_}
 use native.Mathlib.Omega.{arith}
 use lib.ListN.{length}
 use borrow.Author.Needs.{needs}
+use Rattle.lists.proofs.Loops.{at-count-of}
 use Rattle.stored_slot.specs.Stored.{mapLines}
-use Rattle.stored_slot.proofs.Listed.{getD-any, listed-none, listed-turn, listed-done, listed-most}
+use Rattle.stored_slot.proofs.Listed.{getD-any, listed-none, listed-turn, listed-most}
 use Rattle.stored_slot.proofs.roms.listed.Statement.{statement}
 use Rattle.stored_slot.proofs.roms.listed.Tie as tie
 
@@ -29,7 +30,7 @@ returns : tie.Need-returns Inv-loop μ-loop
 returns c =
     let v = c .before .loop in
     let map = c .before .before .args .t1 in
-    let e = listed-done map (v .k) 32 (v .n) (omega arith) (v .inv .1) in
+    let e = at-count-of mapLines map (v .k) 32 (v .n) (omega arith) (v .inv .1) in
     (e, omega (arith, listed-most 32 map))
 
 pub listed-spec : {M : Type 1} → statement M

@@ -5,7 +5,8 @@ use native.Mathlib.Omega.{arith}
 use lib.ListN.{getD}
 use borrow.Author.Needs.{needs}
 use Rattle.lists.specs.Each.{each}
-use Rattle.lists.proofs.Each.{each-none, each-turn, each-done}
+use Rattle.lists.proofs.Each.{each-none, each-turn}
+use Rattle.lists.proofs.Loops.{at-count-of}
 use Rattle.stored_slot.specs.Stored.{within}
 use Rattle.stored_slot.proofs.roms.map_within.Statement.{statement}
 use Rattle.stored_slot.proofs.roms.map_within.Tie as tie
@@ -24,7 +25,7 @@ loop-again c =
     (omega arith, rw (c .within .ensures, c .before .entry .ensures) (each-turn _ _ _ (c .before .before .before .before .loop .inv .1)))
 
 returns : tie.Need-returns Inv-loop μ-loop
-returns c = rw (c .before .before .listed .ensures .0) at (each-done _ _ (c .before .before .listed .result) _ (omega arith) (c .before .loop .inv .1))
+returns c = rw (c .before .before .listed .ensures .0) at (at-count-of each _ _ (c .before .before .listed .result) _ (omega arith) (c .before .loop .inv .1))
 
 pub map-within-spec : {M : Type 1} → statement M
 map-within-spec =

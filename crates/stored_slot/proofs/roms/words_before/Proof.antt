@@ -3,8 +3,9 @@ use mathlib.Core.Path.{_≡_}
 use Prim.Native.Nat.{_≤_, _-_, _*_, _^_}
 use native.Mathlib.Omega.{arith}
 use borrow.Author.Needs.{needs}
+use Rattle.lists.proofs.Loops.{at-count}
 use Rattle.stored_slot.specs.Words.{wordsBefore}
-use Rattle.stored_slot.proofs.Counted.{words-none, words-turn, words-done}
+use Rattle.stored_slot.proofs.Counted.{words-none, words-turn}
 use Rattle.stored_slot.proofs.roms.words_before.Statement.{statement}
 use Rattle.stored_slot.proofs.roms.words_before.Tie as tie
 
@@ -25,7 +26,7 @@ loop-again c =
 returns : tie.Need-returns Inv-loop μ-loop
 returns c =
     let v = c .before .loop in
-    (words-done _ (v .k) _ _ (omega arith) (v .inv .1), omega arith)
+    (at-count (wordsBefore _) (v .k) _ _ (omega arith) (v .inv .1), omega arith)
 
 pub words-before-spec : {M : Type 1} → statement M
 words-before-spec =

@@ -3,8 +3,9 @@ use mathlib.Core.Path.{_≡_, _∙_, ap}
 use mathlib.Core.Bool.{Bool, cond}
 use Prim.Native.Nat.{ℕ, _-_, _^_, _≤_}
 use native.Mathlib.Omega.{arith}
+use Rattle.lists.proofs.Loops.{at-count-of}
 use Rattle.unscramble.specs.design.Reading.{maskOf, highAt, forcedAt}
-use Rattle.unscramble.proofs.Loops.{mask-none, mask-turn, mask-done, mask-fits}
+use Rattle.unscramble.proofs.Loops.{mask-none, mask-turn, mask-fits}
 use borrow.Author.Needs.{needs}
 use Rattle.unscramble.proofs.forced.mask.Statement.{statement}
 use Rattle.unscramble.proofs.forced.mask.Tie as tie
@@ -36,7 +37,7 @@ loop-again : tie.Need-loop-again Inv-loop μ-loop
 loop-again c = (omega arith, mask-turn _ _ _ _ (c .before .before .before .loop .inv .1) (bit c))
 
 returns : tie.Need-returns Inv-loop μ-loop
-returns c = mask-done _ _ _ _ (omega arith) (c .before .loop .inv .1)
+returns c = at-count-of maskOf _ _ _ _ (omega arith) (c .before .loop .inv .1)
 
 pub mask-spec : {M : Type 1} → statement M
 mask-spec =

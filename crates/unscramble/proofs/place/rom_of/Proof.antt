@@ -7,7 +7,8 @@ use native.Mathlib.Numerals.{add-one}
 use lib.Dec.{leb}
 use borrow.Author.Needs.{needs}
 use Rattle.lists.specs.Each.{tally}
-use Rattle.lists.proofs.Each.{tally-none, tally-done}
+use Rattle.lists.proofs.Each.{tally-none}
+use Rattle.lists.proofs.Loops.{at-count-of}
 use Rattle.stored_slot.specs.Words.{wordsBefore}
 use Rattle.stored_slot.specs.declared.stored.StoredSlot.{StoredSlot}
 use Rattle.unscramble.proofs.place.rom_of.Statement.{statement}
@@ -34,7 +35,7 @@ loop-again c =
     (omega arith, ended _ _ (v .k) _ _ _ (v .inv .1) (c .before .words-before .ensures .0) (c .one-if .ensures .0), omega (arith, c .one-if .ensures .1))
 
 returns : tie.Need-returns Inv-loop μ-loop
-returns c = tally-done _ _ _ _ (omega arith) (c .before .loop .inv .1)
+returns c = at-count-of tally _ _ _ _ (omega arith) (c .before .loop .inv .1)
 
 pub rom-of-spec : {M : Type 1} → statement M
 rom-of-spec =

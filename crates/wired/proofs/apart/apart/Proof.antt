@@ -5,7 +5,8 @@ use native.Mathlib.Omega.{arith}
 use lib.ListN.{getD}
 use borrow.Author.Needs.{needs}
 use Rattle.lists.specs.Each.{each}
-use Rattle.lists.proofs.Each.{each-none, each-turn, each-done}
+use Rattle.lists.proofs.Each.{each-none, each-turn}
+use Rattle.lists.proofs.Loops.{at-count-of}
 use Rattle.wired.specs.Wired.{apartFrom, apart}
 use Rattle.wired.proofs.apart.apart.Statement.{statement}
 use Rattle.wired.proofs.apart.apart.Tie as tie
@@ -24,7 +25,7 @@ loop-again c = (omega arith, rw (c .apart-from .ensures) (each-turn _ _ _ (c .be
 
 returns : tie.Need-returns Inv-loop μ-loop
 unfolding apart
-returns c = each-done _ _ _ _ (omega arith) (c .before .loop .inv .1)
+returns c = at-count-of each _ _ _ _ (omega arith) (c .before .loop .inv .1)
 
 pub apart-spec : {M : Type 1} → statement M
 apart-spec =

@@ -6,7 +6,8 @@ use native.Mathlib.Omega.{arith}
 use lib.Dec.{eqb}
 use borrow.Author.Needs.{needs}
 use Rattle.lists.specs.Each.{each}
-use Rattle.lists.proofs.Each.{each-none, each-turn, each-done}
+use Rattle.lists.proofs.Each.{each-none, each-turn}
+use Rattle.lists.proofs.Loops.{at-count-of}
 use Rattle.wired.specs.Wired.{boardPin, disjoint, aloneAt}
 use Rattle.wired.proofs.board.alone_at.Statement.{statement}
 use Rattle.wired.proofs.board.alone_at.Tie as tie
@@ -25,7 +26,7 @@ loop-again c = (omega arith, rw (c .disjoint .ensures, c .before .board-pin2 .en
 
 returns : tie.Need-returns Inv-loop μ-loop
 unfolding aloneAt
-returns c = rw (← c .before .before .board-pin .ensures) (each-done _ _ _ _ (omega arith) (c .before .loop .inv .1))
+returns c = rw (← c .before .before .board-pin .ensures) (at-count-of each _ _ _ _ (omega arith) (c .before .loop .inv .1))
 
 pub alone-at-spec : {M : Type 1} → statement M
 alone-at-spec = tie.close (tie.spec Inv-loop μ-loop (λ c κs. search needs) loop-holds (λ c κs. search needs) (λ c κs. search needs) (λ c. search needs) (λ c. search needs) loop-again returns)

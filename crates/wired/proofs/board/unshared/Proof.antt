@@ -5,8 +5,9 @@ use native.Mathlib.Omega.{arith}
 use lib.ListN.{length}
 use borrow.Author.Needs.{needs}
 use Rattle.lists.specs.Each.{each}
-use Rattle.lists.proofs.Each.{each-none, each-turn, each-done}
+use Rattle.lists.proofs.Each.{each-none, each-turn}
 use Rattle.lists.proofs.Lists.{mapped-length}
+use Rattle.lists.proofs.Loops.{at-count-of}
 use Rattle.wired.specs.Wired.{aloneAt, unsharedAmong}
 use Rattle.wired.proofs.board.unshared.Statement.{statement}
 use Rattle.wired.proofs.board.unshared.Tie as tie
@@ -28,7 +29,7 @@ unfolding unsharedAmong
 returns c =
     let b = c .before .before .args .b in
     let e : length (b .socket) ≡ 40 = search (mapped-length, needs) in
-    each-done _ _ _ _ (omega arith) (c .before .loop .inv .1) ∙ ap (λ (n : ℕ). unsharedAmong n b) (sym e)
+    at-count-of each _ _ _ _ (omega arith) (c .before .loop .inv .1) ∙ ap (λ (n : ℕ). unsharedAmong n b) (sym e)
 
 pub unshared-spec : {M : Type 1} → statement M
 unshared-spec =
