@@ -17,6 +17,7 @@ use Rattle.gpio.proofs.Fits.{fits-width}
 use Rattle.gpio.proofs.Members.{held, held-left, held-right, set-held, held-low, held-high, lowest-or, lowest-of, member-low, gapless-below}
 use Rattle.gpio.proofs.Sets.{set-within}
 use Rattle.lists.proofs.Tab.{tab-length, getD-tab}
+use Rattle.lists.proofs.Loops.{zero-one}
 use Rattle.slot.specs.Description.{isMulti}
 use Rattle.slot.specs.declared.description.Description.{Description}
 use Rattle.domain.specs.Domain.{descriptionIn, qualifierGpio}
@@ -66,7 +67,7 @@ commoned-length d = by (isMulti (d .«set_type»))
 picked : (t u : Bool) (P : ℕ → Type 0) (x y z : SelectLine) → (t ≡ true → P (x .gpio)) → (t ≡ false → P (y .gpio)) → u ≡ true → P (cond t x (cond u y z) .gpio)
 picked true u P x y z f g e = f refl
 picked false true P x y z f g e = g refl
-picked false false P x y z f g e = let q : _≡_ {A = ℕ} 0 1 = cc in absurd (omega arith)
+picked false false P x y z f g e = absurd (zero-one cc)
 
 module _ (d : Description) (a : GivenLayout) (past : PastTests d a) (c : ℕ) where
   abbrev pins : List Listed

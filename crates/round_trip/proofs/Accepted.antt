@@ -12,6 +12,7 @@ use Rattle.gpio.specs.Candidates.{candidatesIn}
 use Rattle.lists.specs.Each.{each}
 use Rattle.lists.proofs.Bools.{and-right}
 use Rattle.lists.proofs.Each.{each-all}
+use Rattle.lists.proofs.Loops.{zero-one}
 use Rattle.gpio.specs.declared.candidates.Candidates.{Candidates}
 use Rattle.gpio.specs.declared.candidates.Candidates.the-variants.{Absent, One, Two}
 use Rattle.slot.specs.declared.description.ChipSetType.{ChipSetType}
@@ -97,14 +98,12 @@ module _ (d : Description) (a : AddrLayout) (c : CsDataLayout) (s : StoredSlot) 
   differ h i e q =
       let n = and-right (leb h 47 && leb i 47) (not (eqb h i)) e in
       let z : _≡_ {A = Bool} false true = ap not (sym (eq-eqb h i q)) ∙ n in
-      let y : _≡_ {A = ℕ} 0 1 = cc in
-      omega arith
+      zero-one cc
 
   outside : (h : ℕ) → stored.inWindow s h ≡ false → InWindow a h → ⊥
   outside h e w =
       let z : _≡_ {A = Bool} true false = sym (is-window d a c s g h w) ∙ e in
-      let y : _≡_ {A = ℕ} 0 1 = cc in
-      omega arith
+      zero-one cc
 
   neither : (h i p : ℕ) → stored.inWindow s h ≡ false → stored.inWindow s i ≡ false → CandidateOf (Two h i) p → InWindow a p → ⊥
   neither h i p e f (inl q) w = outside h e (subst (InWindow a) q w)

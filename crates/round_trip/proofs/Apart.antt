@@ -6,6 +6,7 @@ use native.Mathlib.Omega.{arith}
 use lib.Dec.{leb, eqb, ltb}
 use lib.ListN.{getD}
 use borrow.Author.Tests.{leb-true, eqb-true, eqb-false, ltb-true, ltb-false}
+use Rattle.lists.proofs.Loops.{zero-one}
 use Rattle.slot.specs.Description.{isSingle, isMulti}
 use Rattle.slot.specs.declared.description.Board.{Board}
 use Rattle.slot.specs.declared.description.ChipSetType.{ChipSetType}
@@ -124,7 +125,7 @@ pick-own Multi n s j k l m q =
 -- a line of a set that is not Single is on the socket, and its pin is no X pin, nor the select's
 on-place : (d : Description) (o : Socket) (before g : ℕ) → isSingle (d .«set_type») ≡ false → Behind d o before g → (p : ℕ) × (o ≡ On p)
 on-place d (On p) before g m b = (p, refl)
-on-place d Off before g m b = let z : _≡_ {A = Bool} true false = sym (b .alone refl) ∙ m in let y : _≡_ {A = ℕ} 0 1 = cc in absurd (omega arith)
+on-place d Off before g m b = let z : _≡_ {A = Bool} true false = sym (b .alone refl) ∙ m in absurd (zero-one cc)
 
 module _ (d : Description) (n g : ℕ) (m : isSingle (d .«set_type») ≡ false) (b : Behind d (lineSocket d n) (offBefore d n) g) where
   abbrev place : ℕ

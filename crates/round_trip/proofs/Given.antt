@@ -9,6 +9,7 @@ use lib.ListN.{getD}
 use borrow.Author.Tests.{leb-true, ltb-true, le-leb, lt-ltb, ne-eqb}
 use Rattle.lists.proofs.Bools.{and-left, and-right}
 use Rattle.lists.proofs.Each.{each-all}
+use Rattle.lists.proofs.Loops.{zero-one}
 use Rattle.gpio.specs.declared.candidates.Candidates.{Candidates}
 use Rattle.gpio.specs.declared.candidates.Candidates.the-variants.{Absent, One, Two}
 use Rattle.bits.specs.Bits.{bit}
@@ -55,8 +56,7 @@ module _ (d : Description) (a : AddrLayout) (c : CsDataLayout) (s : StoredSlot) 
   inside-two h i p false e o (inr q) w = sym q
   inside-two h i p false e o (inl q) w =
       let z : _≡_ {A = Bool} true false = sym (is-window h (subst (InWindow a) q w)) ∙ e in
-      let y : _≡_ {A = ℕ} 0 1 = cc in
-      absurd (omega arith)
+      absurd (zero-one cc)
 
   x-inside : (x : Candidates) (p : ℕ) → OneInside a x → CandidateOf x p → InWindow a p → stored.xInside s x ≡ p
   x-inside Absent p o k w = absurd k

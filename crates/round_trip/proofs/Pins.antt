@@ -62,7 +62,7 @@ fly-behind b before g false true e h c = (c, omega (arith, eqb-true before 1 h))
 fly-behind b before g false false e h c = absurd c
 
 no-off : (o : Socket) (s : ℕ) → o ≡ On s → isOff o ≡ true → ⊥
-no-off o s e h = let z : _≡_ {A = Bool} false true = cc in let y : _≡_ {A = ℕ} 0 1 = cc in omega arith
+no-off o s e h = let z : _≡_ {A = Bool} false true = cc in zero-one cc
 
 over-behind : (d : Description) (before g : ℕ) (t : Bool) → isSingle (d .«set_type») ≡ t
     → CandidateOf (cond t (flyLead (d .board) before) (listed Absent NoValidLayout) .gpios) g → Behind d Off before g

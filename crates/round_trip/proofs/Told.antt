@@ -4,6 +4,7 @@ use mathlib.Core.Bool.{Bool, true, false}
 use Prim.Native.Nat.{ℕ, _-_, _*_, _<_}
 use native.Mathlib.Omega.{arith}
 use borrow.Author.Tests.{ne-eqb}
+use Rattle.lists.proofs.Loops.{zero-one}
 use Rattle.gpio.specs.Candidates.{two}
 use Rattle.gpio.specs.Set.{Distinct}
 use Rattle.gpio.specs.declared.candidates.Candidates.{Candidates}
@@ -121,4 +122,4 @@ module _ (d : Description) (ca cc' : ℕ) (sound : addr.Sound d ca) (c : CsDataL
   told-apart = by (isMulti (d .«set_type»)) refl where
     by : (t : Bool) → isMulti (d .«set_type») ≡ t → ToldApart d a c
     by true e = told-by (selects e .place) (λ m. select-at e)
-    by false e = told-by 0 (λ m. let z : _≡_ {A = Bool} false true = sym e ∙ m in let y : _≡_ {A = ℕ} 0 1 = cc in absurd (omega arith))
+    by false e = told-by 0 (λ m. let z : _≡_ {A = Bool} false true = sym e ∙ m in absurd (zero-one cc))
