@@ -4,7 +4,7 @@ use mathlib.Core.Bool.{Bool, _&&_}
 use lib.Dec.{leb}
 use lib.ListN.{getD, replicate}
 use Rattle.lists.specs.Each.{each, between}
-use Rattle.gpio.specs.Candidates.{gpioIn}
+use Rattle.gpio.specs.Candidates.{gpioIn, lastGpio}
 use Rattle.gpio.specs.Line.{lineGpioIn}
 use Rattle.refusal.specs.declared.Refusal.{Refusal}
 use Rattle.gpio.specs.declared.line.LineGpio.the-variants.{Unused}
@@ -36,4 +36,4 @@ allLines l = l .«num_lines» + l .«num_excess»
 unfoldable pub layoutIn : AddrLayout → Bool
 layoutIn l =
     gpioIn (l .«gpio_base») && leb (l .«num_addr_pins») 48 && (lineGpioIn (l .«x1_gpio») && lineGpioIn (l .«x2_gpio»))
-    && (leb (allLines l) 24 && each (allLines l) (λ k. between 0 47 (getD (l .gpios) k 0)))
+    && (leb (allLines l) 24 && each (allLines l) (λ k. between 0 lastGpio (getD (l .gpios) k 0)))

@@ -1,4 +1,5 @@
 // The address layout: the address PIO reads `num_addr_pins` GPIOs from `gpio_base`, and that number indexes the table.
+use gpio::LAST_GPIO;
 use gpio::line::LineGpio;
 use lists::array::all_between;
 use refusal::Refusal;
@@ -6,6 +7,7 @@ ghost use mathlib.Core.Path.{_≡_};
 ghost use mathlib.Core.Bool.{_&&_};
 ghost use lib.Dec.{leb};
 ghost use lib.ListN.{getD};
+ghost use Rattle.gpio.specs.Candidates.{lastGpio};
 ghost use Rattle.lists.specs.Each.{each, between};
 ghost use Rattle.addr_layout.specs.Layout.{noLayout, addrRefused, allLines, layoutIn};
 
@@ -61,14 +63,14 @@ pub fn refused(why: Refusal) -> AddrAnswer
 }
 
 fn lines_in(l: AddrLayout) -> bool
-    ensures { λ r. ⌜ r ≡ (leb (allLines l) 24 && each (allLines l) (λ k. between 0 47 (getD (l .gpios) k 0))) ⌝ }
+    ensures { λ r. ⌜ r ≡ (leb (allLines l) 24 && each (allLines l) (λ k. between 0 lastGpio (getD (l .gpios) k 0))) ⌝ }
 {
     let all = l.num_lines as u32 + l.num_excess as u32;
     if 24 < all {
         return false;
     }
     let gpios = l.gpios;
-    all_between(&gpios, all as u8, 0, 47)
+    all_between(&gpios, all as u8, 0, LAST_GPIO)
 }
 
 // Whether a layout that is handed in keeps to the domain.
@@ -77,5 +79,8 @@ pub fn layout_in(l: AddrLayout) -> bool
 {
     let x1 = l.x1_gpio;
     let x2 = l.x2_gpio;
-    (l.gpio_base <= 47) & (l.num_addr_pins <= 48) & (x1.in_domain() & x2.in_domain()) & lines_in(l)
+    (l.gpio_base <= LAST_GPIO)
+        & (l.num_addr_pins <= 48)
+        & (x1.in_domain() & x2.in_domain())
+        & lines_in(l)
 }

@@ -68,7 +68,8 @@ fn layout(span: Span, all: [u8; 30], one: bool, both: bool, lines: u8, used: u8)
 
 // The layout that a choice makes which fits.
 pub fn laid_out(d: Description, l: Listing, choice: u32, score: u32) -> AddrAnswer
-    requires { ⌜ (l .count ≤ 30) × (lines d ≤ 24) × (spanTrial (choiceSpan (listOf l) (inRange d) (lines d) (fixedSpan d) choice) ≡ Trial.Score score) ⌝ }
+    requires { ⌜ (l .count ≤ 30) × (lines d ≤ 24)
+        × (spanTrial (choiceSpan (listOf l) (inRange d) (lines d) (fixedSpan d) choice) ≡ Trial.Score score) ⌝ }
     ensures { λ r. ⌜ r ≡ record { outcome = AddrOutcome.LaidOut; layout = addrLayoutOf d (listOf l) choice } ⌝ }
 {
     let used = in_range(d);

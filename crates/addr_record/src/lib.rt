@@ -13,6 +13,9 @@ ghost use Prim.Native.Nat.{_≤_};
 ghost use lib.ListN.{length, drop};
 ghost use Rattle.addr_record.specs.AddrRecord.{addrSize, xByte, xOf, addrHead, layoutBytes, layoutAt, layoutFormed, givenAt, givenFormed};
 
+// Bytes of a record.
+pub const SIZE: usize = 36;
+
 fn x_byte(x: LineGpio) -> u8
     ensures { λ r. ⌜ r ≡ xByte x ⌝ }
 {
@@ -83,7 +86,7 @@ pub fn formed(b: &[u8]) -> bool
     let spare = entry(b, 6);
     let spare_2 = entry(b, 7);
     let inverted = four_at(b, 32);
-    (b.len() == 36) & (spare == 0) & (spare_2 == 0) & (inverted == 0)
+    (b.len() == SIZE) & (spare == 0) & (spare_2 == 0) & (inverted == 0)
 }
 
 // The layout that a record gives; no bytes give none.

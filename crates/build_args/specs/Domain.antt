@@ -3,8 +3,9 @@ use Prim.Native.Nat.{ℕ}
 use mathlib.Core.Bool.{Bool, true, false, _&&_, _||_, not, cond}
 use lib.Dec.{leb}
 use lib.ListN.{getD}
+use Rattle.cs_roles.specs.Roles.{halfRole}
 use Rattle.lists.specs.Each.{each, between}
-use Rattle.gpio.specs.Candidates.{gpioIn}
+use Rattle.gpio.specs.Candidates.{gpioIn, lastGpio}
 use Rattle.domain.specs.Domain.{descriptionIn, qualifiersIn}
 use Rattle.addr_layout.specs.Layout.{layoutIn}
 use Rattle.cs_data_layout.specs.Layout.{line}
@@ -19,7 +20,7 @@ selectLineOf c commoned k = cond commoned (getD (c .«commoned_lines») k (line 
 -- the roles are 0 to 8
 -- 01 Domain 2: a select or commoned line has a GPIO of 0 to 47
 abbrev pub selectLineIn : SelectLine → Bool
-selectLineIn l = leb (l .role) 8 && gpioIn (l .gpio)
+selectLineIn l = leb (l .role) halfRole && gpioIn (l .gpio)
 
 unfoldable pub selectLinesIn : CsDataLayout → Bool → ℕ → Bool
 selectLinesIn c commoned n = each n (λ k. selectLineIn (selectLineOf c commoned k))
@@ -31,7 +32,7 @@ unfoldable pub csDataIn : CsDataLayout → Bool
 csDataIn c =
     (gpioIn (c .«gpio_base») && gpioIn (c .«base_data_pin») && gpioIn (c .«base_cs_pin»))
     && (not (c .qualifiers .present) || gpioIn (c .qualifiers .«base_qualifier_pin»))
-    && (between 1 16 (c .«num_data_pins») && each (c .«num_data_pins») (λ k. between 0 47 (getD (c .«data_pin_gpios») k 0)))
+    && (between 1 16 (c .«num_data_pins») && each (c .«num_data_pins») (λ k. between 0 lastGpio (getD (c .«data_pin_gpios») k 0)))
     && (leb (c .«num_select_lines») 30 && selectLinesIn c false (c .«num_select_lines»))
     && (leb (c .«num_commoned_lines») 6 && selectLinesIn c true (c .«num_commoned_lines»))
 

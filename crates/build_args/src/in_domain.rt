@@ -3,8 +3,10 @@ use crate::BuildArgs;
 use addr_layout::layout::layout_in;
 use cs_data_layout::layout::CsDataLayout;
 use cs_data_layout::layout::SelectLine;
+use cs_roles::HALF_ROLE;
 use domain::description::description_in;
 use domain::qualifiers::qualifiers_in;
+use gpio::LAST_GPIO;
 use lists::array::all_between;
 ghost use mathlib.Core.Path.{_≡_};
 ghost use mathlib.Core.Bool.{true, false};
@@ -43,7 +45,7 @@ fn line_of(c: CsDataLayout, commoned: bool, k: usize) -> SelectLine
 fn select_line_in(l: SelectLine) -> bool
     ensures { λ r. ⌜ r ≡ selectLineIn l ⌝ }
 {
-    (l.role <= 8) & (l.gpio <= 47)
+    (l.role <= HALF_ROLE) & (l.gpio <= LAST_GPIO)
 }
 
 fn select_lines_in(c: CsDataLayout, commoned: bool, count: u8) -> bool
@@ -65,10 +67,12 @@ fn cs_data_in(c: CsDataLayout) -> bool
 {
     let gpios = c.data_pin_gpios;
     let q = c.qualifiers;
-    let bases_in = (c.gpio_base <= 47) & (c.base_data_pin <= 47) & (c.base_cs_pin <= 47);
-    let qualifiers_in = !q.present | (q.base_qualifier_pin <= 47);
+    let bases_in = (c.gpio_base <= LAST_GPIO)
+        & (c.base_data_pin <= LAST_GPIO)
+        & (c.base_cs_pin <= LAST_GPIO);
+    let qualifiers_in = !q.present | (q.base_qualifier_pin <= LAST_GPIO);
     let n = c.num_data_pins;
-    let data_in = (1 <= n) & (n <= 16) & all_between(&gpios, n, 0, 47);
+    let data_in = (1 <= n) & (n <= 16) & all_between(&gpios, n, 0, LAST_GPIO);
     let selects_in = (c.num_select_lines <= 30) & select_lines_in(c, false, c.num_select_lines);
     let commoned_in = (c.num_commoned_lines <= 6) & select_lines_in(c, true, c.num_commoned_lines);
     bases_in & qualifiers_in & data_in & selects_in & commoned_in

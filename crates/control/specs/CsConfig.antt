@@ -2,6 +2,7 @@
 use Prim.Native.Nat.{ℕ}
 use mathlib.Core.Bool.{Bool, true, false, cond}
 use lib.Dec.{eqb}
+use Rattle.slot.specs.Description.{ceKind, oeKind, cs1Kind, cs2Kind, cs3Kind, cs4Kind}
 use Rattle.slot.specs.declared.description.CsLogic.{CsLogic}
 use Rattle.slot.specs.declared.description.CsLogic.the-variants.{ActiveLow, ActiveHigh, Ignore}
 use Rattle.slot.specs.declared.description.Setting.{Setting}
@@ -23,20 +24,20 @@ isIgnore Ignore = true
 -- 01 multi_cs_config 4: cs2, cs3 and cs4 read as active low if they have no setting, and so do lines of other kinds
 unfoldable pub chipSelectLogic : CsLogic → Setting → Setting → Setting → ℕ → CsLogic
 chipSelectLogic cs1 cs2 cs3 cs4 kind =
-    cond (eqb kind 2) cs1
-    (cond (eqb kind 3) (givenOr cs2)
-    (cond (eqb kind 4) (givenOr cs3)
-    (cond (eqb kind 5) (givenOr cs4) ActiveLow)))
+    cond (eqb kind cs1Kind) cs1
+    (cond (eqb kind cs2Kind) (givenOr cs2)
+    (cond (eqb kind cs3Kind) (givenOr cs3)
+    (cond (eqb kind cs4Kind) (givenOr cs4) ActiveLow)))
 
 -- 01 Shape 5: kinds 0 and 1 are ce and oe, 2 and 3 are cs1 and cs2
 -- 01 multi_cs_config 4: with explicit ce and oe, a line of any other kind reads as active low
 -- 01 multi_cs_config 5: cs1 has the setting of ce and cs2 that of oe; it is the other way round where ce is ignored
 unfoldable pub explicitLogic : CsLogic → CsLogic → ℕ → CsLogic
 explicitLogic ce oe kind =
-    cond (eqb kind 0) ce
-    (cond (eqb kind 1) oe
-    (cond (eqb kind 2) (cond (isIgnore ce) oe ce)
-    (cond (eqb kind 3) (cond (isIgnore ce) ce oe) ActiveLow)))
+    cond (eqb kind ceKind) ce
+    (cond (eqb kind oeKind) oe
+    (cond (eqb kind cs1Kind) (cond (isIgnore ce) oe ce)
+    (cond (eqb kind cs2Kind) (cond (isIgnore ce) ce oe) ActiveLow)))
 
 -- the line of a kind under a chip's settings
 -- 01 multi_cs_config 4: ce and oe that are not explicit give no setting, so that every line reads as active low

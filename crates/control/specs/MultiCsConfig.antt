@@ -4,7 +4,7 @@ use mathlib.Core.Bool.{Bool, true, false, _||_, not, cond}
 use lib.Dec.{leb, eqb}
 use lib.ListN.{set, replicate}
 use Rattle.lists.specs.Each.{tally}
-use Rattle.slot.specs.Description.{kindAt}
+use Rattle.slot.specs.Description.{kindAt, cs4Kind}
 use Rattle.slot.specs.declared.description.ControlLines.{ControlLines}
 use Rattle.slot.specs.declared.description.CsConfig.{CsConfig}
 use Rattle.slot.specs.declared.description.MultiCsConfig.{MultiCsConfig}
@@ -20,7 +20,7 @@ use Rattle.control.specs.declared.multi_cs_config.MultiAnswer.{MultiAnsw
 
 -- 01 Shape 5: a line has a name if its kind is at most 5
 abbrev pub named : ℕ → Bool
-named kind = leb kind 5
+named kind = leb kind cs4Kind
 
 -- 01 multi_cs_config 1: how many lines are left once those without a name are gone
 abbrev pub namedCount : ControlLines → ℕ

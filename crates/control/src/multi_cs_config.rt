@@ -7,6 +7,7 @@ use refusal::Refusal;
 use slot::description::ControlLines;
 use slot::description::CsConfig;
 use slot::description::MultiCsConfig;
+use slot::kinds::CS4;
 ghost use mathlib.Core.Path.{_≡_};
 ghost use mathlib.Core.Bool.{cond};
 ghost use Prim.Native.Nat.{_≤_, _<_};
@@ -42,7 +43,7 @@ pub struct MultiAnswer {
 fn counted(kind: u8) -> u8
     ensures { λ r. ⌜ (r ≡ cond (named kind) 1 0) × (r ≤ 1) ⌝ }
 {
-    if kind <= 5 {
+    if kind <= CS4 {
         return 1;
     }
     0

@@ -65,7 +65,8 @@ fn check_active(d: Description) -> Listing
 
 // The select pins in the order in which their faults answer.
 pub fn checked(d: Description) -> Listing
-    requires { ⌜ (chip0 d .control .count ≤ 8) × (isMulti (d .«set_type») ≡ true → (d .multi .«num_commoned» ≤ 6) × (d .multi .«num_ignored» ≤ 6)) ⌝ }
+    requires { ⌜ (chip0 d .control .count ≤ 8)
+        × (isMulti (d .«set_type») ≡ true → (d .multi .«num_commoned» ≤ 6) × (d .multi .«num_ignored» ≤ 6)) ⌝ }
     ensures { λ r. ⌜ (listOf r ≡ checked d) × (r .count ≤ 30) ⌝ }
 {
     let set_type = d.set_type;

@@ -5,6 +5,7 @@ use mathlib.Core.Logic.{_⊎_}
 use Prim.Native.Nat.{ℕ, _+_, _-_, _^_, _≤_, _<_}
 use lib.Bits.{bitAnd}
 use lib.ListN.{length, getD}
+use Rattle.gpio.specs.Candidates.{lastGpio}
 use Rattle.gpio.specs.Set.{Distinct, lowest, width, gapless, gap}
 use Rattle.slot.specs.Description.{isMulti, chip0}
 use Rattle.slot.specs.declared.description.Description.{Description}
@@ -132,7 +133,7 @@ pub record SoundLayout (d : Description) (c : ℕ) (l : CsDataLayout) : Type 0 w
   -- the GPIO of each is a candidate of its pin, in the window
   pub data-gpio : (k : ℕ) → k < l .«num_data_pins» → dataGpio l k ≡ gpioAt (numbered d) c k
   pub data-candidate : (k : ℕ) → k < l .«num_data_pins» → CandidateOf (pinCandidates d (getD (chip0 d .«data_pins») k 0)) (dataGpio l k)
-  pub data-in : (k : ℕ) → k < l .«num_data_pins» → dataGpio l k ≤ 47
+  pub data-in : (k : ℕ) → k < l .«num_data_pins» → dataGpio l k ≤ lastGpio
   pub data-window : (k : ℕ) → k < l .«num_data_pins» → InWindow l (dataGpio l k)
   -- 01 cs_data_layout 6: no data GPIO is below the base and the base data pin added up
   pub data-above : (k : ℕ) → k < l .«num_data_pins» → l .«gpio_base» + l .«base_data_pin» ≤ dataGpio l k

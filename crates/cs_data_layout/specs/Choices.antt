@@ -15,7 +15,7 @@ use Rattle.listing.specs.Choice.{gpioAt}
 use Rattle.listing.specs.declared.Listed.{Listed}
 use Rattle.addr_layout.specs.declared.layout.AddrLayout.{AddrLayout}
 use Rattle.cs_pins.specs.Pins.{kindListed, numbered}
-use Rattle.cs_roles.specs.Roles.{selectRoles}
+use Rattle.cs_roles.specs.Roles.{selectRoles, halfRole}
 use Rattle.cs_data_layout.specs.Layout.{line, noQualifiers}
 use Rattle.cs_verdict.specs.Verdict.{allOf, baseOf}
 use Rattle.cs_choices.specs.Sets.{dataSet, selectSet, verdictOn}
@@ -74,7 +74,7 @@ qualifiersFrom qualifiers base =
 abbrev pub selectLine : List ℕ → AddrLayout → (ℕ → ℕ) → ℕ → SelectLine
 selectLine roles h gpio k =
     cond (ltb k (length roles)) (line (getD roles k 0) (gpio k))
-    (cond (ltb k (length roles + h .«num_excess»)) (line 8 (excessGpio h (k - length roles))) (line 0 0))
+    (cond (ltb k (length roles + h .«num_excess»)) (line halfRole (excessGpio h (k - length roles))) (line 0 0))
 
 -- the commoned lines of a Multi set, behind the select lines
 abbrev pub numCommoned : Description → ℕ

@@ -2,6 +2,7 @@
 use Prim.Native.Nat.{_^_}
 use mathlib.Core.Bool.{Bool, not, _&&_, _||_, cond}
 use lib.Dec.{ltb}
+use Rattle.slot.specs.Description.{cs1Kind}
 use Rattle.slot.specs.declared.description.Description.{Description}
 use Rattle.refusal.specs.declared.Refusal.the-variants.{OutOfDomain, MissingAddrPinGpios, RomTooLargeNoCsConfig, NoValidLayout}
 use Rattle.domain.specs.Domain.{qualifiersIn}
@@ -38,7 +39,7 @@ missingLayout d a = cond (not (a .given) && ltb 0 (d .«num_qualifiers»)) (Of M
 
 -- 01 Number 6: the address layout has excess lines, and the setting that is read for cs1 is to ignore it
 abbrev pub romTooLarge : Description → AddrLayout → FirstFault
-romTooLarge d h = cond (ltb 0 (h .«num_excess») && ignores (d .«cs_config») 2) (Of RomTooLargeNoCsConfig) None
+romTooLarge d h = cond (ltb 0 (h .«num_excess») && ignores (d .«cs_config») cs1Kind) (Of RomTooLargeNoCsConfig) None
 
 -- 01 cs_data_layout 1: 5 is tested first, then 6, then the data pins, then the select pins
 unfoldable pub earlier : Description → GivenLayout → FirstFault

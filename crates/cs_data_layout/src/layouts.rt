@@ -10,6 +10,7 @@ use addr_layout::layout::AddrLayout;
 use cs_choices::choices::Fixed;
 use cs_choices::choices::Sets;
 use cs_choices::choices::whole;
+use cs_roles::HALF_ROLE;
 use cs_roles::Roles;
 use cs_roles::select_roles;
 use cs_verdict::above;
@@ -85,7 +86,7 @@ fn select_line(r: Roles, h: AddrLayout, gpio: u8, k: usize) -> SelectLine
     }
     if k < count + h.num_excess as usize {
         return SelectLine {
-            role: 8,
+            role: HALF_ROLE,
             gpio: excess_gpio(h, k - count),
         };
     }
@@ -158,7 +159,9 @@ fn data_lines(gpios: [u8; 30], count: usize) -> [u8; 16]
 // The layout of resolved pins.
 fn layout(d: Description, h: AddrLayout, gpios: [u8; 30], s: Sets, q: u64) -> CsDataLayout
     requires { ⌜ (numData d ≤ 16) × (chip0 d .control .count ≤ 8) × (q ≡ qualifierSet d h) × (h .«num_excess» ≤ 24) ⌝ }
-    ensures { λ r. ⌜ r ≡ csDataLayoutFrom d h (λ k. getD gpios k 0) (s .«data_gpios») (s .«select_gpios») (baseOf (allOf (s .«data_gpios») (s .«select_gpios») q)) ⌝ }
+    ensures { λ r. ⌜ r
+        ≡ csDataLayoutFrom d h (λ k. getD gpios k 0) (s .«data_gpios») (s .«select_gpios»)
+        (baseOf (allOf (s .«data_gpios») (s .«select_gpios») q)) ⌝ }
 {
     let chip = d.chip0();
     let data = chip.num_data_pins as usize;
@@ -188,7 +191,9 @@ pub fn laid_out(
     fixed: Fixed,
     choice: u32,
 ) -> CsDataAnswer
-    requires { ⌜ (fixed .«num_data» ≡ numData d) × (numData d ≤ 16) × (chip0 d .control .count ≤ 8) × (numData d ≤ l .count) × (l .count ≤ 30) × GpiosIn (listOf l) × (fixed .excess ≡ excessSet h) × (fixed .qualifiers ≡ qualifierSet d h) × (h .«num_excess» ≤ 24) ⌝ }
+    requires { ⌜ (fixed .«num_data» ≡ numData d) × (numData d ≤ 16) × (chip0 d .control .count ≤ 8) × (numData d ≤ l .count)
+        × (l .count ≤ 30) × GpiosIn (listOf l) × (fixed .excess ≡ excessSet h) × (fixed .qualifiers ≡ qualifierSet d h)
+        × (h .«num_excess» ≤ 24) ⌝ }
     ensures { λ r. ⌜ r ≡ record { outcome = CsDataOutcome.LaidOut; layout = csDataLayoutOf d h (listOf l) choice } ⌝ }
 {
     CsDataAnswer {

@@ -35,7 +35,8 @@ fn none_fits(why: FirstFault) -> CsDataAnswer
 
 // The search over all choices.
 fn search(d: Description, h: AddrLayout) -> CsDataAnswer
-    requires { ⌜ (csSearchIn d ≡ true) × (layoutIn h ≡ true) × (qualifiersIn (d .qualifiers) (d .«num_qualifiers») (h .gpios) (h .«num_lines») ≡ true) ⌝ }
+    requires { ⌜ (csSearchIn d ≡ true) × (layoutIn h ≡ true)
+        × (qualifiersIn (d .qualifiers) (d .«num_qualifiers») (h .gpios) (h .«num_lines») ≡ true) ⌝ }
     ensures { λ r. ⌜ r ≡ csDataAnswerOf d h (csBest d h) ⌝ }
 {
     let chip = d.chip0();

@@ -14,6 +14,9 @@ ghost use Prim.Native.Nat.{_+_, _<_, _/_, _%_, _≤_};
 ghost use lib.ListN.{length, drop};
 ghost use Rattle.cs_data_record.specs.CsDataRecord.{csDataSize, ignoreByte, csDataHead, selectLineAt, lineByte, linesBytes, csDataBytes, ignoreOf, lineFrom, linesFrom, qualifiersAt, csDataAt, csDataFormed};
 
+// Bytes of a record.
+pub const SIZE: usize = 100;
+
 fn ignore_byte(index: IgnoreIndex) -> u8
     ensures { λ r. ⌜ r ≡ ignoreByte index ⌝ }
 {
@@ -172,5 +175,5 @@ pub fn layout_at(b: &[u8]) -> CsDataLayout
 pub fn formed(b: &[u8]) -> bool
     ensures { λ r. ⌜ r ≡ csDataFormed (now (b .entry)) ⌝ }
 {
-    (b.len() == 100) & (entry(b, 8) <= 1)
+    (b.len() == SIZE) & (entry(b, 8) <= 1)
 }

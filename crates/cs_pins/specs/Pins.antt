@@ -6,7 +6,7 @@ use lib.Dec.{leb, eqb}
 use lib.ListN.{getD}
 use Rattle.lists.specs.Tab.{tab}
 use Rattle.gpio.specs.declared.candidates.Candidates.the-variants.{Absent}
-use Rattle.slot.specs.Description.{isMulti, chip0, lineAt, kindAt}
+use Rattle.slot.specs.Description.{isMulti, chip0, lineAt, kindAt, cs4Kind}
 use Rattle.slot.specs.declared.description.Description.{Description}
 use Rattle.refusal.specs.declared.Refusal.the-variants.{NoSelectLine, UnmappedPin}
 use Rattle.domain.specs.Domain.{descriptionIn}
@@ -26,7 +26,7 @@ dataListed d = tab (chip0 d .«num_data_pins») (λ k. pinListed d (getD (chip0 
 
 -- a line of kind 0 to 5 whose setting, as read, is not ignored
 abbrev pub active : Description → ℕ → Bool
-active d k = leb (kindAt (chip0 d .control) k) 5 && not (ignores (d .«cs_config») (kindAt (chip0 d .control) k))
+active d k = leb (kindAt (chip0 d .control) k) cs4Kind && not (ignores (d .«cs_config») (kindAt (chip0 d .control) k))
 
 abbrev pub ifActive : Description → ℕ → List Listed
 ifActive d k = cond (active d k) (pinListed d (lineAt (chip0 d .control) k .pin) ∷ []) []

@@ -13,6 +13,7 @@ use listing::lines::pin_candidates;
 use lists::array::entry;
 use refusal::Refusal;
 use slot::description::Description;
+use slot::kinds::CS4;
 ghost use mathlib.Core.Path.{_≡_};
 ghost use mathlib.Core.List.{_++_};
 ghost use Prim.Native.Nat.{_+_, _≤_};
@@ -64,7 +65,7 @@ pub fn line_active(d: Description, k: usize) -> bool
     let chip = d.chip0();
     let config = d.cs_config;
     let kind = kind_at(chip.control, k);
-    (kind <= 5) & !line_ignored(kind, config)
+    (kind <= CS4) & !line_ignored(kind, config)
 }
 
 // The list, with the `k`-th control line where it selects the chip.
@@ -144,7 +145,8 @@ pub fn push_commoned(d: Description, selects: Listing) -> Listing
 
 // All the pins that the search numbers.
 pub fn list(d: Description) -> Listing
-    requires { ⌜ (chip0 d .«num_data_pins» ≤ 16) × (chip0 d .control .count ≤ 8) × (isMulti (d .«set_type») ≡ true → d .multi .«num_commoned» ≤ 6) ⌝ }
+    requires { ⌜ (chip0 d .«num_data_pins» ≤ 16) × (chip0 d .control .count ≤ 8)
+        × (isMulti (d .«set_type») ≡ true → d .multi .«num_commoned» ≤ 6) ⌝ }
     ensures { λ r. ⌜ (listOf r ≡ numbered d) × (r .count ≤ 30) ⌝ }
 {
     let set_type = d.set_type;

@@ -9,6 +9,16 @@ use Rattle.slot.specs.declared.description.Description.{Description}
 use Rattle.cs_pins.specs.Pins.{active}
 use Rattle.cs_roles.specs.declared.Roles.{Roles}
 
+-- the role of a control line is its kind; those of X1, of X2 and of an excess line go on from there
+abbrev pub x1Role : ℕ
+x1Role = 6
+
+abbrev pub x2Role : ℕ
+x2Role = 7
+
+abbrev pub halfRole : ℕ
+halfRole = 8
+
 -- the roles of the select lines, in the order of their pins
 abbrev pub ifActiveKind : Description → ℕ → List ℕ
 ifActiveKind d k = cond (active d k) (kindAt (chip0 d .control) k ∷ []) []
@@ -18,7 +28,7 @@ activeKinds d zero = []
 activeKinds d (suc k) = activeKinds d k ++ ifActiveKind d k
 
 abbrev pub xRoles : Bool → Bool → List ℕ
-xRoles one both = cond one (6 ∷ cond both (7 ∷ []) []) []
+xRoles one both = cond one (x1Role ∷ cond both (x2Role ∷ []) []) []
 
 -- 01 cs_data_layout 6: the roles stand in the order in which the select pins are numbered
 unfoldable pub selectRoles : Description → List ℕ

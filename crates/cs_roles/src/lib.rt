@@ -8,6 +8,13 @@ ghost use Prim.Native.Nat.{_+_, _≤_, _<_};
 ghost use Rattle.slot.specs.Description.{chip0};
 ghost use Rattle.cs_roles.specs.Roles.{rolesOf, ifActiveKind, activeKinds, xRoles, selectRoles};
 
+// The role of a control line is its kind; those of X1, of X2 and of an excess line, half a select, go on from there.
+pub const X1_ROLE: u8 = 6;
+
+pub const X2_ROLE: u8 = 7;
+
+pub const HALF_ROLE: u8 = 8;
+
 // The roles of the select lines.
 pub struct Roles {
     pub roles: [u8; 8],
@@ -71,11 +78,11 @@ fn x_roles(r: Roles, one: bool, both: bool) -> Roles
     if !one {
         return r;
     }
-    let with_x1 = push_role(r, 6);
+    let with_x1 = push_role(r, X1_ROLE);
     if !both {
         return with_x1;
     }
-    push_role(with_x1, 7)
+    push_role(with_x1, X2_ROLE)
 }
 
 // The roles of all select lines but the excess ones.

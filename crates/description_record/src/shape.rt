@@ -5,6 +5,9 @@ ghost use mathlib.Core.Path.{_≡_};
 ghost use Prim.Native.Nat.{_+_, _≤_};
 ghost use Rattle.description_record.specs.Record.{recordSize, offsetIn, logicIn, settingIn, headIn, csConfigIn, pairsIn, levelsIn, chipZeros, chipPlacesIn, wellFormed};
 
+// Bytes of a record.
+const SIZE: usize = 424;
+
 fn offset_in(x: u8) -> bool
     ensures { λ r. ⌜ r ≡ offsetIn x ⌝ }
 {
@@ -112,5 +115,5 @@ fn chips_in(b: &[u8]) -> bool
 pub fn well_formed(b: &[u8]) -> bool
     ensures { λ r. ⌜ r ≡ wellFormed (now (b .entry)) ⌝ }
 {
-    (b.len() == 424) & head_in(b) & cs_config_in(b) & pairs_in(b) & chips_in(b)
+    (b.len() == SIZE) & head_in(b) & cs_config_in(b) & pairs_in(b) & chips_in(b)
 }

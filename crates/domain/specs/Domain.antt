@@ -8,7 +8,7 @@ use lib.Dec.{leb, ltb, eqb}
 use lib.IntN.{ℤ}
 use lib.ListN.{getD}
 use Rattle.gpio.specs.Candidates.{candidatesIn}
-use Rattle.slot.specs.Description.{isMulti, noPin, noChip, lineAt, kindAt}
+use Rattle.slot.specs.Description.{isMulti, noPin, noChip, lineAt, kindAt, ceKind, cs4Kind, otherKind}
 use Rattle.slot.specs.SlotContext.{boardPinsIn, raisedOf}
 use Rattle.slot.specs.declared.description.Board.{Board}
 use Rattle.slot.specs.declared.description.ControlLines.{ControlLines}
@@ -31,8 +31,8 @@ boardIn b = boardPinsIn (b .pins) && socketIn b && candidatesIn (b .x1) && candi
 -- 01 Domain 3: a line is on a pin from 1 to 40, and no line before it is of its kind, unless that is 6
 unfoldable pub lineIn : ControlLines → ℕ → Bool
 lineIn c k =
-    between 1 40 (lineAt c k .pin) && leb (kindAt c k) 6
-    && (eqb (kindAt c k) 6 || each k (λ j. not (eqb (kindAt c j) (kindAt c k))))
+    between 1 40 (lineAt c k .pin) && leb (kindAt c k) otherKind
+    && (eqb (kindAt c k) otherKind || each k (λ j. not (eqb (kindAt c j) (kindAt c k))))
 
 unfoldable pub linesIn : ControlLines → Bool
 linesIn c = each (c .count) (λ k. lineIn c k)
@@ -61,13 +61,13 @@ chipsIn chips n w = each 4 (λ k. leb n k || chipIn (getD chips k noChip) w)
 
 -- 01 Domain 6: the first n lines of a list are of kinds up to 5
 abbrev pub kindsIn : List ℕ → ℕ → Bool
-kindsIn kinds n = each n (λ k. between 0 5 (getD kinds k 0))
+kindsIn kinds n = each n (λ k. between ceKind cs4Kind (getD kinds k 0))
 
 -- 01 Domain 6: the kind of the select is at most 5, and so is that of each commoned and ignored line; there are no more than 6 of
 -- either
 abbrev pub multiIn : MultiCsConfig → Bool
 multiIn m =
-    leb (m .select) 5
+    leb (m .select) cs4Kind
     && (leb (m .«num_commoned») 6 && kindsIn (m .commoned) (m .«num_commoned»))
     && (leb (m .«num_ignored») 6 && kindsIn (m .ignored) (m .«num_ignored»))
 

@@ -3,6 +3,7 @@ use lists::array::all_between;
 use slot::description::Chip;
 use slot::description::ControlLine;
 use slot::description::ControlLines;
+use slot::kinds::OTHER;
 ghost use mathlib.Core.Path.{_≡_};
 ghost use mathlib.Core.Bool.{not};
 ghost use lib.Dec.{eqb};
@@ -47,7 +48,10 @@ fn line_in(c: ControlLines, k: usize) -> bool
     ensures { λ r. ⌜ r ≡ lineIn c k ⌝ }
 {
     let line = control_line(c, k);
-    (1 <= line.pin) & (line.pin <= 40) & (line.kind <= 6) & ((line.kind == 6) | kind_new(c, k))
+    (1 <= line.pin)
+        & (line.pin <= 40)
+        & (line.kind <= OTHER)
+        & ((line.kind == OTHER) | kind_new(c, k))
 }
 
 fn lines_in(c: ControlLines) -> bool

@@ -5,6 +5,8 @@ use slot::description::Board;
 use slot::description::Chip;
 use slot::description::Description;
 use slot::description::MultiCsConfig;
+use slot::kinds::CE;
+use slot::kinds::CS4;
 use slot::slot_context;
 ghost use mathlib.Core.Path.{_≡_};
 ghost use Rattle.domain.specs.Domain.{socketIn, boardIn, multiIn, chipsIn, descriptionIn};
@@ -37,9 +39,9 @@ fn multi_in(m: MultiCsConfig) -> bool
 {
     let commoned = m.commoned;
     let ignored = m.ignored;
-    let select_in = m.select <= 5;
-    let commoned_in = (m.num_commoned <= 6) & all_between(&commoned, m.num_commoned, 0, 5);
-    let ignored_in = (m.num_ignored <= 6) & all_between(&ignored, m.num_ignored, 0, 5);
+    let select_in = m.select <= CS4;
+    let commoned_in = (m.num_commoned <= 6) & all_between(&commoned, m.num_commoned, CE, CS4);
+    let ignored_in = (m.num_ignored <= 6) & all_between(&ignored, m.num_ignored, CE, CS4);
     select_in & commoned_in & ignored_in
 }
 

@@ -1,4 +1,5 @@
 // The GPIO of a line that may have none.
+use crate::LAST_GPIO;
 ghost use mathlib.Core.Path.{_≡_};
 ghost use Rattle.gpio.specs.Line.{lineGpioIn};
 
@@ -15,7 +16,7 @@ impl LineGpio {
     {
         match self {
             LineGpio::Unused => true,
-            LineGpio::At(g) => g <= 47,
+            LineGpio::At(g) => g <= LAST_GPIO,
         }
     }
 }

@@ -8,6 +8,9 @@ ghost use mathlib.Core.Path.{_≡_};
 ghost use Prim.Native.Nat.{_+_, _≤_};
 ghost use Rattle.image_record.specs.ImageRecord.{spansSize, spanFrom, spansAt, spansFormed};
 
+// Bytes of a record.
+const SIZE: usize = 48;
+
 fn span_from(b: &[u8], p: usize) -> ImageSpan
     requires { ⌜ p + 12 ≤ spansSize ⌝ }
     ensures { λ r. ⌜ r ≡ spanFrom (now (b .entry)) p ⌝ }
@@ -39,5 +42,5 @@ pub fn formed(b: &[u8]) -> bool
     let second = flag_formed(b, 12);
     let third = flag_formed(b, 24);
     let fourth = flag_formed(b, 36);
-    (b.len() == 48) & (first & second & third & fourth)
+    (b.len() == SIZE) & (first & second & third & fourth)
 }

@@ -12,7 +12,7 @@ ghost use Rattle.onerom.specs.Calls.{answer, written, addrFound};
 fn write(l: AddrLayout, buffer: &mut [u8]) -> u64
     ensures { λ r. ⌜ answer r (now (buffer .exit)) ≡ written addrSize (layoutBytes l) (now (buffer .entry)) ⌝ }
 {
-    if buffer.len() < 36 {
+    if buffer.len() < addr_record::SIZE {
         return packed(Refusal::ShortBuffer);
     }
     addr_record::store(l, buffer);

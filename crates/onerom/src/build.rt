@@ -24,7 +24,9 @@ pub fn hand_over(
     images: &[u8],
     table: &mut [u8],
 ) -> u64
-    ensures { λ r. ⌜ answer r (now (table .exit)) ≡ buildFrom d (now («addr_layout» .entry)) (now («cs_data_layout» .entry)) (now (spans .entry)) (now (images .entry)) (now (table .entry)) ⌝ }
+    ensures { λ r. ⌜ answer r (now (table .exit))
+        ≡ buildFrom d (now («addr_layout» .entry)) (now («cs_data_layout» .entry)) (now (spans .entry)) (now (images .entry))
+        (now (table .entry)) ⌝ }
 {
     let args = BuildArgs {
         description: d,

@@ -12,7 +12,7 @@ ghost use Rattle.onerom.specs.Calls.{answer, written, csDataFound};
 fn write(l: CsDataLayout, buffer: &mut [u8]) -> u64
     ensures { λ r. ⌜ answer r (now (buffer .exit)) ≡ written csDataSize (csDataBytes l) (now (buffer .entry)) ⌝ }
 {
-    if buffer.len() < 100 {
+    if buffer.len() < cs_data_record::SIZE {
         return packed(Refusal::ShortBuffer);
     }
     cs_data_record::store(l, buffer);

@@ -38,7 +38,8 @@ pub extern "C" fn onerom_derive_cs_data_layout(
     addr_layout: &[u8],
     layout: &mut [u8],
 ) -> u64
-    ensures { λ r. ⌜ answer r (now (layout .exit)) ≡ csDataCall (now (description .entry)) (now («addr_layout» .entry)) (now (layout .entry)) ⌝ }
+    ensures { λ r. ⌜ answer r (now (layout .exit))
+        ≡ csDataCall (now (description .entry)) (now («addr_layout» .entry)) (now (layout .entry)) ⌝ }
 {
     if !given_formed(addr_layout) {
         return packed(Refusal::OutOfDomain);
@@ -67,7 +68,9 @@ pub extern "C" fn onerom_build_rom_image(
     images: &[u8],
     table: &mut [u8],
 ) -> u64
-    ensures { λ r. ⌜ answer r (now (table .exit)) ≡ buildCall (now (description .entry)) (now («addr_layout» .entry)) (now («cs_data_layout» .entry)) (now (spans .entry)) (now (images .entry)) (now (table .entry)) ⌝ }
+    ensures { λ r. ⌜ answer r (now (table .exit))
+        ≡ buildCall (now (description .entry)) (now («addr_layout» .entry)) (now («cs_data_layout» .entry)) (now (spans .entry))
+        (now (images .entry)) (now (table .entry)) ⌝ }
 {
     if !build::formed(addr_layout, cs_data_layout, spans) {
         return packed(Refusal::OutOfDomain);
@@ -97,7 +100,8 @@ pub extern "C" fn onerom_unscramble_slot(
     output: &mut [u8],
     marks: &mut [u8],
 ) -> u64
-    ensures { λ r. ⌜ readAnswer r (now (output .exit)) (now (marks .exit)) ≡ readBackCall (now (slot .entry)) (now (stored .entry)) (now (output .entry)) (now (marks .entry)) ⌝ }
+    ensures { λ r. ⌜ readAnswer r (now (output .exit)) (now (marks .exit))
+        ≡ readBackCall (now (slot .entry)) (now (stored .entry)) (now (output .entry)) (now (marks .entry)) ⌝ }
 {
     if !stored_record::formed(slot) {
         return packed(Refusal::OutOfDomain);
@@ -115,7 +119,9 @@ pub extern "C" fn onerom_round_trip(
     output: &mut [u8],
     marks: &mut [u8],
 ) -> u64
-    ensures { λ r. ⌜ tripAnswer r (now (table .exit)) (now (output .exit)) (now (marks .exit)) ≡ tripCall (now (description .entry)) (now (spans .entry)) (now (images .entry)) (now (table .entry)) (now (output .entry)) (now (marks .entry)) ⌝ }
+    ensures { λ r. ⌜ tripAnswer r (now (table .exit)) (now (output .exit)) (now (marks .exit))
+        ≡ tripCall (now (description .entry)) (now (spans .entry)) (now (images .entry)) (now (table .entry))
+        (now (output .entry)) (now (marks .entry)) ⌝ }
 {
     if !image_record::formed(spans) {
         return packed(Refusal::OutOfDomain);

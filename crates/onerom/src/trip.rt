@@ -14,7 +14,8 @@ pub fn hand_over(
     output: &mut [u8],
     marks: &mut [u8],
 ) -> u64
-    ensures { λ r. ⌜ tripAnswer r (now (table .exit)) (now (output .exit)) (now (marks .exit)) ≡ tripFrom d (now (spans .entry)) (now (images .entry)) (now (table .entry)) (now (output .entry)) (now (marks .entry)) ⌝ }
+    ensures { λ r. ⌜ tripAnswer r (now (table .exit)) (now (output .exit)) (now (marks .exit))
+        ≡ tripFrom d (now (spans .entry)) (now (images .entry)) (now (table .entry)) (now (output .entry)) (now (marks .entry)) ⌝ }
 {
     result(round_trip(
         d,

@@ -384,8 +384,9 @@ fn one_entry(size: u8, gpios: [u8; 16], bytes: &[u8], index: usize) {
         length: size as u32,
     };
     let mut table = [0u8; 4];
+    let description = decoded.description;
     let args = BuildArgs {
-        description: decoded.description,
+        description,
         addr: two_lines(),
         cs_data: data_lines(gpios),
         spans: [chip; 4],

@@ -20,7 +20,8 @@ const PAD_BYTE: u8 = 0xAA;
 // Writes the table to the front of a buffer.
 pub fn fill(b: BuildArgs, images: &[u8], table: &mut [u8])
     requires { ⌜ (buildIn b ≡ true) × (buildFault b (now images) (length (now table)) ≡ None) ⌝ }
-    ensures { λ _. ⌜ now (table .exit) ≡ tableOf padByte b (now (images .entry)) ++ drop (tableSize (b .description) (b .addr)) (now (table .entry)) ⌝ }
+    ensures { λ _. ⌜ now (table .exit) ≡ tableOf padByte b (now (images .entry))
+        ++ drop (tableSize (b .description) (b .addr)) (now (table .entry)) ⌝ }
 {
     let d = b.description;
     let a = b.addr;

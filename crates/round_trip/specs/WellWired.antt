@@ -116,4 +116,4 @@ pub record StoredAs (d : Description) (a : AddrLayout) (c : CsDataLayout) (s : S
 abbrev pub Unforced : AddrLayout → StoredSlot → Type 0
 Unforced a s =
     (g : ℕ) → InWindow a g
-    → (stored.names (s .«num_overrides») (s .overrides) 2 g ≡ false) × (stored.names (s .«num_overrides») (s .overrides) 3 g ≡ false)
+    → (stored.names (s .«num_overrides») (s .overrides) stored.forceLow g ≡ false) × (stored.names (s .«num_overrides») (s .overrides) stored.forceHigh g ≡ false)

@@ -68,7 +68,9 @@ fn select_and_build(
     output: &mut [u8],
     marks: &mut [u8],
 ) -> Answer
-    ensures { λ r. ⌜ trip r (now (table .exit)) (now (output .exit)) (now (marks .exit)) ≡ selectTrip d a (now (images .entry)) spans (now (table .entry)) (now (output .entry)) (now (marks .entry)) (csDataAnswer d (record { given = true; layout = a })) ⌝ }
+    ensures { λ r. ⌜ trip r (now (table .exit)) (now (output .exit)) (now (marks .exit))
+        ≡ selectTrip d a (now (images .entry)) spans (now (table .entry)) (now (output .entry)) (now (marks .entry))
+        (csDataAnswer d (record { given = true; layout = a })) ⌝ }
 {
     let found = derive_cs_data_layout(
         d,
@@ -103,8 +105,11 @@ pub fn round_trip(
     output: &mut [u8],
     marks: &mut [u8],
 ) -> Answer
-    ensures { λ r. ⌜ trip r (now (table .exit)) (now (output .exit)) (now (marks .exit)) ≡ roundTripOf d (now (images .entry)) spans (now (table .entry)) (now (output .entry)) (now (marks .entry)) ⌝ }
-    ensures { λ r. ⌜ AsDemanded d (now (images .entry)) spans (now (table .entry)) (now (output .entry)) (now (marks .entry)) (readBack r (now (output .exit)) (now (marks .exit))) ⌝ }
+    ensures { λ r. ⌜ trip r (now (table .exit)) (now (output .exit)) (now (marks .exit))
+        ≡ roundTripOf d (now (images .entry)) spans (now (table .entry)) (now (output .entry)) (now (marks .entry)) ⌝ }
+    ensures { λ r. ⌜
+        AsDemanded d (now (images .entry)) spans (now (table .entry)) (now (output .entry)) (now (marks .entry))
+        (readBack r (now (output .exit)) (now (marks .exit))) ⌝ }
 {
     let found = derive_addr_layout(d);
     let outcome = found.outcome;

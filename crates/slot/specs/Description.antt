@@ -38,6 +38,28 @@ noChip = record {
   size = 0;
 }
 
+-- 01 Shape 5: the kinds of control lines, by number: ce, oe, cs1 to cs4, and any other
+abbrev pub ceKind : ℕ
+ceKind = 0
+
+abbrev pub oeKind : ℕ
+oeKind = 1
+
+abbrev pub cs1Kind : ℕ
+cs1Kind = 2
+
+abbrev pub cs2Kind : ℕ
+cs2Kind = 3
+
+abbrev pub cs3Kind : ℕ
+cs3Kind = 4
+
+abbrev pub cs4Kind : ℕ
+cs4Kind = 5
+
+abbrev pub otherKind : ℕ
+otherKind = 6
+
 -- a chip's control line, and its kind
 abbrev pub lineAt : ControlLines → ℕ → ControlLine
 lineAt c k = getD (c .lines) k noLine

@@ -9,6 +9,9 @@ use stored_slot::stored::StoredSlot;
 ghost use mathlib.Core.Path.{_≡_};
 ghost use Rattle.stored_record.specs.StoredRecord.{storedAt, storedFormed};
 
+// Bytes of a record.
+const SIZE: usize = 376;
+
 // What the record stores; of bytes that are no record, what is left of them to read.
 pub fn stored_at(b: &[u8]) -> StoredSlot
     ensures { λ r. ⌜ r ≡ storedAt (now (b .entry)) ⌝ }
@@ -38,5 +41,5 @@ pub fn formed(b: &[u8]) -> bool
     let x1 = pair_in(b, 83);
     let x2 = pair_in(b, 85);
     let roms = parts::roms_formed(b);
-    (b.len() == 376) & (has_layout <= 1) & x1 & x2 & roms
+    (b.len() == SIZE) & (has_layout <= 1) & x1 & x2 & roms
 }

@@ -80,6 +80,13 @@ xInside s Absent = 0
 xInside s (One g) = g
 xInside s (Two g h) = cond (inWindow s g) g h
 
+-- 01 Shape 10: the kinds of override that force a GPIO
+abbrev pub forceLow : ℕ
+forceLow = 2
+
+abbrev pub forceHigh : ℕ
+forceHigh = 3
+
 -- whether one of the first n overrides names a GPIO by a kind
 -- 01 Domain 12: an override's remainder by 64 is its GPIO, and the quotient its kind
 unfoldable pub names : ℕ → List ℕ → ℕ → ℕ → Bool
@@ -91,8 +98,8 @@ names (suc n) l kind gpio = names n l kind gpio || (eqb (getD l n 0 % 64) gpio &
 -- 01 unscramble 4: a bit has to be 1 where any override forces its position high, else 0 where any forces it low
 abbrev pub allowed : StoredSlot → ℕ → ℕ → Bool
 allowed s p b =
-    cond (names (s .«num_overrides») (s .overrides) 3 (addrBase s + p)) (eqb b 1)
-    (cond (names (s .«num_overrides») (s .overrides) 2 (addrBase s + p)) (eqb b 0) true)
+    cond (names (s .«num_overrides») (s .overrides) forceHigh (addrBase s + p)) (eqb b 1)
+    (cond (names (s .«num_overrides») (s .overrides) forceLow (addrBase s + p)) (eqb b 0) true)
 
 -- 01 unscramble 7: an entry counts where no bit of its index is other than it is forced to be
 unfoldable pub free : StoredSlot → ℕ → Bool

@@ -46,6 +46,11 @@ pub struct Rom {
     pub data_lines: [u8; 32],
 }
 
+// The kinds of override that force a GPIO; 0 and 1 force nothing.
+pub const FORCE_LOW: u8 = 2;
+
+pub const FORCE_HIGH: u8 = 3;
+
 // A slot as read-back takes it; counts say how many overrides and ROMs there are.
 pub struct StoredSlot {
     // Declared size in bytes.
@@ -56,7 +61,7 @@ pub struct StoredSlot {
     pub alg_data: AlgData,
     pub alg_dma: AlgDma,
     pub alg_cs: AlgCs,
-    // GPIO in the low six bits, kind in the top two: 2 forces low, 3 high.
+    // GPIO in the low six bits, kind in the top two.
     pub overrides: [u8; 64],
     pub num_overrides: u8,
     pub x1: Candidates,

@@ -24,7 +24,8 @@ pub fn clear(buffer: &mut [u8], n: usize)
 // Keeps a value of word f where it has none yet. Whether it is the one kept.
 pub fn keep(output: &mut [u8], marks: &mut [u8], w: usize, f: u32, value: u32) -> bool
     requires { ⌜ (w ≤ 2) × (f < length (now marks)) × (f * w + w ≤ length (now output)) ⌝ }
-    ensures { λ r. ⌜ kept r (now (output .exit)) (now (marks .exit)) ≡ keepWord w f value (now (output .entry)) (now (marks .entry)) ⌝ }
+    ensures { λ r. ⌜ kept r (now (output .exit)) (now (marks .exit))
+        ≡ keepWord w f value (now (output .entry)) (now (marks .entry)) ⌝ }
 {
     let k = f as usize;
     if marks[k] == 0 {

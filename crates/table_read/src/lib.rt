@@ -29,7 +29,8 @@ pub enum Outcome {
 
 fn clear_both(r: Reading, output: &mut [u8], marks: &mut [u8])
     requires { ⌜ (r .words ≤ 2 ^ 26) × (r .words * r .«word_bytes» ≤ length (now output)) × (r .words ≤ length (now marks)) ⌝ }
-    ensures { λ _. ⌜ now (output .exit) ≡ replicate (r .words * r .«word_bytes») 0 ++ drop (r .words * r .«word_bytes») (now (output .entry)) ⌝ }
+    ensures { λ _. ⌜ now (output .exit) ≡ replicate (r .words * r .«word_bytes») 0
+        ++ drop (r .words * r .«word_bytes») (now (output .entry)) ⌝ }
     ensures { λ _. ⌜ now (marks .exit) ≡ replicate (r .words) 0 ++ drop (r .words) (now (marks .entry)) ⌝ }
 {
     let words = r.words as usize;
@@ -40,7 +41,9 @@ fn clear_both(r: Reading, output: &mut [u8], marks: &mut [u8])
 // What the marks say once no entry disagrees.
 fn served(r: Reading, output: &mut [u8], marks: &mut [u8]) -> Outcome
     requires { ⌜ (r .words ≤ 2 ^ 26) × (r .words * r .«word_bytes» ≤ length (now output)) × (r .words ≤ length (now marks)) ⌝ }
-    ensures { λ x. ⌜ kept x (now (output .exit)) (now (marks .exit)) ≡ servedBy (r .«word_bytes») (r .words) (now (output .entry)) (now (marks .entry)) (firstWhere (r .words) (λ f. eqb (getD (now (marks .entry)) f 0) 0)) ⌝ }
+    ensures { λ x. ⌜ kept x (now (output .exit)) (now (marks .exit))
+        ≡ servedBy (r .«word_bytes») (r .words) (now (output .entry)) (now (marks .entry))
+        (firstWhere (r .words) (λ f. eqb (getD (now (marks .entry)) f 0) 0)) ⌝ }
 {
     let f = first_missing(marks, r.words);
     if f < r.words {
@@ -60,7 +63,9 @@ pub fn collect(
 ) -> Outcome
     requires { ⌜ ReadingIn r × (entries ≤ 2 ^ 31) × (entries * r .«word_bytes» ≤ length (now stored)) ⌝ }
     requires { ⌜ (r .words * r .«word_bytes» ≤ length (now output)) × (r .words ≤ length (now marks)) ⌝ }
-    ensures { λ x. ⌜ kept x (now (output .exit)) (now (marks .exit)) ≡ collectedOf (r .«word_bytes») (wordBy r) (valueBy r (now (stored .entry))) (r .words) entries (now (output .entry)) (now (marks .entry)) ⌝ }
+    ensures { λ x. ⌜ kept x (now (output .exit)) (now (marks .exit))
+        ≡ collectedOf (r .«word_bytes») (wordBy r) (valueBy r (now (stored .entry))) (r .words) entries (now (output .entry))
+        (now (marks .entry)) ⌝ }
 {
     clear_both(r, output, marks);
     match walk(r, stored, entries, output, marks) {

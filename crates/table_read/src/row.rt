@@ -29,8 +29,10 @@ pub enum Walked {
 // What an entry says of a word of a ROM, by the tables of its bytes.
 fn said(low_bytes: &[u32], high_bytes: &[u32], rom: u8, entry: u32) -> u32
     requires { ⌜ (rom < 5) × (entry < 2 ^ 16) × (length (now «low_bytes») ≡ 1280) × (length (now «high_bytes») ≡ 1280) ⌝ }
-    requires { ⌜ getD (now «low_bytes») (rom * 256 + entry % 256) 0 + getD (now «high_bytes») (rom * 256 + entry / 256) 0 < 2 ^ 32 ⌝ }
-    ensures { λ r. ⌜ r ≡ getD (now («low_bytes» .entry)) (rom * 256 + entry % 256) 0 + getD (now («high_bytes» .entry)) (rom * 256 + entry / 256) 0 ⌝ }
+    requires { ⌜
+        getD (now «low_bytes») (rom * 256 + entry % 256) 0 + getD (now «high_bytes») (rom * 256 + entry / 256) 0 < 2 ^ 32 ⌝ }
+    ensures { λ r. ⌜ r ≡ getD (now («low_bytes» .entry)) (rom * 256 + entry % 256) 0
+        + getD (now («high_bytes» .entry)) (rom * 256 + entry / 256) 0 ⌝ }
 {
     let place = rom as usize * 256;
     let low = place + (entry % 256) as usize;
@@ -50,12 +52,20 @@ pub fn read_row(
     marks: &mut [u8],
 ) -> Walked
     requires { ⌜ ReadingIn r × RowIn r row × TablesIn r (now lows) (now «low_bytes») (now «high_bytes») ⌝ }
-    requires { ⌜ ((row .start + row .count) * r .«word_bytes» ≤ length (now stored)) × (r .words * r .«word_bytes» ≤ length (now output)) × (r .words ≤ length (now marks)) ⌝ }
+    requires { ⌜ ((row .start + row .count) * r .«word_bytes» ≤ length (now stored))
+        × (r .words * r .«word_bytes» ≤ length (now output)) × (r .words ≤ length (now marks)) ⌝ }
     requires { ⌜ walkedOf (wordBy r) (valueBy r (now stored)) (r .words) (row .start) ≡ Through ⌝ }
-    requires { ⌜ (now output ≡ outputHeld (r .«word_bytes») (wordBy r) (valueBy r (now stored)) (r .words) (row .start) (now output)) × (now marks ≡ marksHeld (wordBy r) (r .words) (row .start) (now marks)) ⌝ }
+    requires { ⌜
+        (now output ≡ outputHeld (r .«word_bytes») (wordBy r) (valueBy r (now stored)) (r .words) (row .start) (now output))
+        × (now marks ≡ marksHeld (wordBy r) (r .words) (row .start) (now marks)) ⌝ }
     ensures { λ x. ⌜ x ≡ walkedOf (wordBy r) (valueBy r (now (stored .entry))) (r .words) (row .start + row .count) ⌝ }
-    ensures { λ _. ⌜ (drop (r .words * r .«word_bytes») (now (output .exit)) ≡ drop (r .words * r .«word_bytes») (now (output .entry))) × (drop (r .words) (now (marks .exit)) ≡ drop (r .words) (now (marks .entry))) ⌝ }
-    ensures { λ x. ⌜ (x ≡ Through → (now (output .exit) ≡ outputHeld (r .«word_bytes») (wordBy r) (valueBy r (now (stored .entry))) (r .words) (row .start + row .count) (now (output .entry))) × (now (marks .exit) ≡ marksHeld (wordBy r) (r .words) (row .start + row .count) (now (marks .entry)))) ⌝ }
+    ensures { λ _. ⌜
+        (drop (r .words * r .«word_bytes») (now (output .exit)) ≡ drop (r .words * r .«word_bytes») (now (output .entry)))
+        × (drop (r .words) (now (marks .exit)) ≡ drop (r .words) (now (marks .entry))) ⌝ }
+    ensures { λ x. ⌜ (x ≡ Through →
+        (now (output .exit)
+        ≡ outputHeld (r .«word_bytes») (wordBy r) (valueBy r (now (stored .entry))) (r .words) (row .start + row .count) (now (output .entry)))
+        × (now (marks .exit) ≡ marksHeld (wordBy r) (r .words) (row .start + row .count) (now (marks .entry)))) ⌝ }
 {
     let w = r.word_bytes as usize;
     let roms = r.roms;

@@ -26,10 +26,16 @@ fn fewer(a: u32, b: u32) -> u32
 pub fn walk(r: Reading, stored: &[u8], entries: u32, output: &mut [u8], marks: &mut [u8]) -> Walked
     requires { ⌜ ReadingIn r × (entries ≤ 2 ^ 31) × (entries * r .«word_bytes» ≤ length (now stored)) ⌝ }
     requires { ⌜ (r .words * r .«word_bytes» ≤ length (now output)) × (r .words ≤ length (now marks)) ⌝ }
-    requires { ⌜ (now output ≡ outputHeld (r .«word_bytes») (wordBy r) (valueBy r (now stored)) (r .words) 0 (now output)) × (now marks ≡ marksHeld (wordBy r) (r .words) 0 (now marks)) ⌝ }
+    requires { ⌜ (now output ≡ outputHeld (r .«word_bytes») (wordBy r) (valueBy r (now stored)) (r .words) 0 (now output))
+        × (now marks ≡ marksHeld (wordBy r) (r .words) 0 (now marks)) ⌝ }
     ensures { λ x. ⌜ x ≡ walkedOf (wordBy r) (valueBy r (now (stored .entry))) (r .words) entries ⌝ }
-    ensures { λ _. ⌜ (drop (r .words * r .«word_bytes») (now (output .exit)) ≡ drop (r .words * r .«word_bytes») (now (output .entry))) × (drop (r .words) (now (marks .exit)) ≡ drop (r .words) (now (marks .entry))) ⌝ }
-    ensures { λ x. ⌜ (x ≡ Through → (now (output .exit) ≡ outputHeld (r .«word_bytes») (wordBy r) (valueBy r (now (stored .entry))) (r .words) entries (now (output .entry))) × (now (marks .exit) ≡ marksHeld (wordBy r) (r .words) entries (now (marks .entry)))) ⌝ }
+    ensures { λ _. ⌜
+        (drop (r .words * r .«word_bytes») (now (output .exit)) ≡ drop (r .words * r .«word_bytes») (now (output .entry)))
+        × (drop (r .words) (now (marks .exit)) ≡ drop (r .words) (now (marks .entry))) ⌝ }
+    ensures { λ x. ⌜ (x ≡ Through →
+        (now (output .exit)
+        ≡ outputHeld (r .«word_bytes») (wordBy r) (valueBy r (now (stored .entry))) (r .words) entries (now (output .entry)))
+        × (now (marks .exit) ≡ marksHeld (wordBy r) (r .words) entries (now (marks .entry)))) ⌝ }
 {
     let address = r.address;
     let data_lines = r.data_lines;

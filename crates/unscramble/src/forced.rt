@@ -1,4 +1,6 @@
 // The bits that overrides force, as two masks: an index goes through just if it has the forced bits as they are forced.
+use stored_slot::stored::FORCE_HIGH;
+use stored_slot::stored::FORCE_LOW;
 use stored_slot::stored::StoredSlot;
 use stored_slot::window::addr_base;
 ghost use mathlib.Core.Path.{_≡_};
@@ -38,7 +40,12 @@ fn high_at(s: StoredSlot, p: u8) -> bool
     ensures { λ r. ⌜ r ≡ highAt s p ⌝ }
 {
     let overrides = s.overrides;
-    names(&overrides, s.num_overrides, 3, addr_base(s) + p as u32)
+    names(
+        &overrides,
+        s.num_overrides,
+        FORCE_HIGH,
+        addr_base(s) + p as u32,
+    )
 }
 
 // Whether one forces it at all.
@@ -47,7 +54,13 @@ fn forced_at(s: StoredSlot, p: u8) -> bool
 {
     let overrides = s.overrides;
     let high = high_at(s, p);
-    high | names(&overrides, s.num_overrides, 2, addr_base(s) + p as u32)
+    high
+        | names(
+            &overrides,
+            s.num_overrides,
+            FORCE_LOW,
+            addr_base(s) + p as u32,
+        )
 }
 
 fn bit_if(b: bool, p: u8) -> u32

@@ -31,7 +31,9 @@ ghost use Rattle.unscramble.specs.Recovered.{readBack, pluginRead, incon
 
 // A plugin is stored as it is.
 fn plugin(stored: &[u8], output: &mut [u8]) -> Answer
-    ensures { λ r. ⌜ ((marks : List ℕ) → readBack r (now (output .exit)) marks ≡ pluginRead (now (stored .entry)) (now (output .entry)) marks) ⌝ }
+    ensures { λ r. ⌜
+        ((marks : List ℕ) → readBack r (now (output .exit)) marks ≡ pluginRead (now (stored .entry)) (now (output .entry)) marks)
+        ⌝ }
 {
     if output.len() < stored.len() {
         return Answer::Refused(Refusal::ShortBuffer);
@@ -49,7 +51,9 @@ fn read_entries(
     marks: &mut [u8],
 ) -> Answer
     requires { ⌜ (storedIn s ≡ true) × (romsFault s «set_type» (now stored) (length (now output)) (length (now marks)) ≡ None) ⌝ }
-    ensures { λ r. ⌜ readBack r (now (output .exit)) (now (marks .exit)) ≡ afterEntries s «set_type» (now (stored .entry)) (now (output .entry)) (now (marks .entry)) (orElse (inconsistent s «set_type» (now (stored .entry))) (unserved s «set_type»)) ⌝ }
+    ensures { λ r. ⌜ readBack r (now (output .exit)) (now (marks .exit))
+        ≡ afterEntries s «set_type» (now (stored .entry)) (now (output .entry)) (now (marks .entry))
+        (orElse (inconsistent s «set_type» (now (stored .entry))) (unserved s «set_type»)) ⌝ }
 {
     let outcome = collect(reading(s, set_type), stored, entries(s), output, marks);
     answered(fault_of(s, outcome))
@@ -63,7 +67,9 @@ fn roms_read(
     marks: &mut [u8],
 ) -> Answer
     requires { ⌜ storedIn s ≡ true ⌝ }
-    ensures { λ r. ⌜ readBack r (now (output .exit)) (now (marks .exit)) ≡ readAfter s «set_type» (now (stored .entry)) (now (output .entry)) (now (marks .entry)) (romsFault s «set_type» (now (stored .entry)) (length (now (output .entry))) (length (now (marks .entry)))) ⌝ }
+    ensures { λ r. ⌜ readBack r (now (output .exit)) (now (marks .exit))
+        ≡ readAfter s «set_type» (now (stored .entry)) (now (output .entry)) (now (marks .entry))
+        (romsFault s «set_type» (now (stored .entry)) (length (now (output .entry))) (length (now (marks .entry)))) ⌝ }
 {
     match roms_fault(s, set_type, stored, output.len(), marks.len()) {
         FirstFault::Of(why) => Answer::Refused(why),
@@ -73,7 +79,8 @@ fn roms_read(
 
 // Reads a stored slot back: its ROMs' words, chip after chip, and a mark for each; a plugin's bytes as they are.
 pub fn unscramble_slot(s: StoredSlot, stored: &[u8], output: &mut [u8], marks: &mut [u8]) -> Answer
-    ensures { λ r. ⌜ readBack r (now (output .exit)) (now (marks .exit)) ≡ unscrambled s (now (stored .entry)) (now (output .entry)) (now (marks .entry)) ⌝ }
+    ensures { λ r. ⌜ readBack r (now (output .exit)) (now (marks .exit))
+        ≡ unscrambled s (now (stored .entry)) (now (output .entry)) (now (marks .entry)) ⌝ }
 {
     if !stored_in(s) {
         return Answer::Refused(Refusal::OutOfDomain);

@@ -13,7 +13,7 @@ use Rattle.picks.specs.declared.Picked.the-variants.{NoChip, Chip}
 use Rattle.table_read.specs.declared.maps.Map.{Map}
 use Rattle.table_read.specs.declared.reading.Extent.{Extent}
 use Rattle.table_read.specs.declared.reading.Reading.{Reading}
-use Rattle.stored_slot.specs.Stored.{romAt, wordBytes, addrBase, storedDataBase, storedPins, mapLines, names}
+use Rattle.stored_slot.specs.Stored.{romAt, wordBytes, addrBase, storedDataBase, storedPins, mapLines, names, forceLow, forceHigh}
 use Rattle.stored_slot.specs.Words.{romWords, wordsBefore, allWords, pickGpio, storedPickPosition}
 use Rattle.stored_slot.specs.declared.stored.StoredSlot.{StoredSlot}
 
@@ -59,11 +59,11 @@ maskOf (suc n) p = maskOf n p + cond (p n) (2 ^ n) 0
 
 -- a position is high where any override forces it high, whatever others say of it
 abbrev pub highAt : StoredSlot → ℕ → Bool
-highAt s p = names (s .«num_overrides») (s .overrides) 3 (addrBase s + p)
+highAt s p = names (s .«num_overrides») (s .overrides) forceHigh (addrBase s + p)
 
 -- a position is forced where any override forces it high or low
 abbrev pub forcedAt : StoredSlot → ℕ → Bool
-forcedAt s p = highAt s p || names (s .«num_overrides») (s .overrides) 2 (addrBase s + p)
+forcedAt s p = highAt s p || names (s .«num_overrides») (s .overrides) forceLow (addrBase s + p)
 
 unfoldable pub readingOf : StoredSlot → ChipSetType → Reading
 readingOf s set = record {
