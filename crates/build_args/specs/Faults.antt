@@ -4,7 +4,7 @@ use mathlib.Core.Bool.{Bool, _&&_, not}
 use mathlib.Core.List.{List}
 use lib.Dec.{ltb}
 use lib.ListN.{length, getD}
-use Rattle.lists.specs.Each.{each, between}
+use Rattle.lists.specs.Each.{each}
 use Rattle.slot.specs.Description.{noChip}
 use Rattle.slot.specs.declared.description.Description.{Description}
 use Rattle.refusal.specs.declared.Refusal.the-variants.{RomTableTooLarge, InvalidConfig, BadPosition, MissingImageData, ShortImageData, ShortBuffer}
@@ -26,7 +26,6 @@ entriesOf a = 2 ^ a .«num_addr_pins»
 
 -- entries of w bytes each
 abbrev pub tableSize : Description → AddrLayout → ℕ
--- entries of w bytes each
 tableSize d a = entriesOf a * d .«word_bytes»
 
 -- 01 Number 11: the table would have more than L bytes

@@ -20,7 +20,6 @@ numPicks d = picksOf (d .«set_type») (d .«num_chips»)
 
 -- the first select line's GPIO, if there is one
 abbrev pub firstSelect : CsDataLayout → LineGpio
--- the first select line's GPIO, if there is one
 firstSelect c = cond (eqb (c .«num_select_lines») 0) Unused (At (getD (c .«select_lines») 0 (line 0 0) .gpio))
 
 -- 01 rom_image 3: the GPIOs of X1 and X2 are taken from the address layout alone

@@ -92,7 +92,7 @@ module _ (d : Description) where
     kinds-few : (k : ℕ) → k ≤ chip0 d .control .count → length (activeKinds d k) ≤ 6
     kinds-few k l = rw (kinds-size k l) (ones-le 6 (kindSet d k) (set-six k))
 
-    -- "kinds 0 to 5 at most once each", and in Multi the select, X1 and X2
+    -- no named kind twice; in Multi the select, X1 and X2
     multi-few : (one both : Bool) (k : ℕ) → length (k ∷ xRoles one both) ≤ 6
     multi-few true true k = omega arith
     multi-few true false k = omega arith

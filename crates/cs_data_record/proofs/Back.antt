@@ -2,7 +2,6 @@
 use mathlib.Core.Path.{_≡_, refl}
 use mathlib.Core.Bool.{true}
 use Rattle.lists.specs.Tab.{tab}
-use Rattle.fields.specs.Fields.{byteAt}
 use Rattle.fields.proofs.Parts.{array-is, not-none}
 use Rattle.description_record.proofs.Encodes.{flag}
 use Rattle.cs_data_layout.specs.Layout.{line}

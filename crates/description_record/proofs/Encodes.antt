@@ -32,7 +32,7 @@ use Rattle.domain.specs.Domain.{descriptionIn}
 use Rattle.refusal.specs.declared.Answer.the-variants.{Done}
 use Rattle.description_record.specs.Record.{recordSize, setTypeOf, offsetOf, offsetIn, logicFrom, logicIn, settingOf, settingIn, csConfigAt, csConfigIn, multiAt, boardAt, chipAt, described, headIn, pairsIn, wellFormed, decodedOf}
 use Rattle.fields.specs.Candidates.{pairAt, pairIn, pairBytes, pairField}
-use Rattle.fields.specs.Fields.{byteAt, fourAt, field, fourBytes}
+use Rattle.fields.specs.Fields.{fourAt, field, fourBytes}
 use Rattle.slot.specs.Description.{noPin, noLine, noChip}
 use Rattle.description_record.specs.Encoded.{setTypeByte, offsetByte, logicByte, settingByte, csConfigBytes, multiBytes, socketPinOf, controlLineOf, chipOf, boardBytes, lineBytes, chipRecord, descriptionHead, encoded, Bytes, ValuedBoard, ValuedChip, ValuedMulti, Valued}
 use Rattle.description_record.proofs.InDomain.{GpiosIn, OffsetIn, EncodableBoard, Encodable, in-domain}

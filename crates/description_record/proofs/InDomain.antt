@@ -17,13 +17,13 @@ use Rattle.domain.specs.Domain.{descriptionIn}
 use Rattle.domain.proofs.Bounds.{BoardIn, description-in}
 use Rattle.description_record.specs.Encoded.{socketPinOf}
 
--- "GPIO 0 to 47."
+-- candidates that are GPIOs
 abbrev pub GpiosIn : Candidates → Type 0
 GpiosIn Absent = Unit
 GpiosIn (One g) = g ≤ 47
 GpiosIn (Two g h) = (g ≤ 47) × (h ≤ 47)
 
--- "The offset is -4 to 4."
+-- one of the nine offsets
 abbrev pub OffsetIn : ℤ → Type 0
 OffsetIn (pos n) = n ≤ 4
 OffsetIn (negsuc n) = n ≤ 3

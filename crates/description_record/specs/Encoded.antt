@@ -3,14 +3,12 @@
 use mathlib.Core.Path.{_≡_}
 use mathlib.Core.Bool.{cond}
 use mathlib.Core.List.{List, [], _∷_, _++_}
-use Prim.Native.Nat.{ℕ, _-_, _/_, _%_, _^_, _<_}
+use Prim.Native.Nat.{ℕ, _-_, _^_, _<_}
 use lib.IntN.{ℤ, pos, negsuc}
 use lib.ListN.{length, getD}
 use Rattle.fields.specs.Fields.{field, fourBytes}
 use Rattle.fields.specs.Candidates.{pairField}
-use Rattle.lists.specs.Tab.{tab, joined}
-use Rattle.gpio.specs.declared.candidates.Candidates.{Candidates}
-use Rattle.gpio.specs.declared.candidates.Candidates.the-variants.{Absent, One, Two}
+use Rattle.lists.specs.Tab.{joined}
 use Rattle.gpio.specs.declared.candidates.Pin.{Pin}
 use Rattle.slot.specs.Description.{noPin, noLine, noChip}
 use Rattle.slot.specs.declared.description.Board.{Board}

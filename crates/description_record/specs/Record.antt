@@ -1,17 +1,15 @@
 -- The description record of docs/INTERFACE.md: what its bytes describe, place by place, and which records are refused.
 -- Assumes nothing.
 use Prim.Native.Nat.{ℕ, _+_, _*_, _-_}
-use mathlib.Core.Bool.{Bool, _&&_, _||_, not, cond}
+use mathlib.Core.Bool.{Bool, _&&_, _||_, cond}
 use mathlib.Core.List.{List}
 use lib.Dec.{leb, eqb}
 use lib.IntN.{ℤ, pos, negsuc}
-use lib.ListN.{length, getD}
+use lib.ListN.{length}
 use Rattle.fields.specs.Fields.{byteAt, bytesAt, fourAt}
 use Rattle.fields.specs.Candidates.{pairAt, pairIn}
 use Rattle.lists.specs.Each.{each}
 use Rattle.lists.specs.Tab.{tab}
-use Rattle.gpio.specs.declared.candidates.Candidates.{Candidates}
-use Rattle.gpio.specs.declared.candidates.Candidates.the-variants.{Absent, One, Two}
 use Rattle.gpio.specs.declared.candidates.Pin.{Pin}
 use Rattle.slot.specs.declared.description.Board.{Board}
 use Rattle.slot.specs.declared.description.ControlLine.{ControlLine}

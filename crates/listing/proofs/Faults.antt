@@ -14,7 +14,6 @@ use Rattle.refusal.specs.declared.first.FirstFault.the-variants.{None, Of}
 use Rattle.listing.specs.declared.Listed.{Listed}
 use Rattle.refusal.specs.declared.first.FirstFault.{FirstFault}
 use Rattle.listing.specs.Listing.{faultFrom, faultOf, firstFault, keepFault}
-use Rattle.refusal.specs.First.{orElse}
 
 pub fault-snoc : (f : FirstFault) (ls : List Listed) (l : Listed) → faultFrom f (ls ++ (l ∷ [])) ≡ keepFault (faultFrom f ls) l
 unfolding faultFrom

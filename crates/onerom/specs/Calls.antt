@@ -23,7 +23,6 @@ use Rattle.rom_image.specs.Build.{Built, buildOf}
 use Rattle.addr_record.specs.AddrRecord.{addrSize, layoutBytes, layoutAt, layoutFormed, givenAt, givenFormed}
 use Rattle.cs_data_record.specs.CsDataRecord.{csDataSize, csDataBytes, csDataAt, csDataFormed}
 use Rattle.image_record.specs.ImageRecord.{spansAt, spansFormed}
-use Rattle.refusal.specs.declared.first.FirstFault.{FirstFault}
 use Rattle.stored_record.specs.StoredRecord.{storedAt, storedFormed}
 use Rattle.unscramble.specs.Recovered.{ReadBack, unscrambled}
 use Rattle.round_trip.specs.Chain.{Trip, roundTripOf}

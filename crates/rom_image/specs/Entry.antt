@@ -6,7 +6,7 @@ use lib.Count.{ones}
 use lib.Dec.{ltb, eqb}
 use lib.ListN.{getD}
 use Rattle.bits.specs.Bits.{gather, indexAddress, scatter}
-use Rattle.words.specs.Words.{word, padWord, chipWord, entriesBytes}
+use Rattle.words.specs.Words.{padWord, chipWord, entriesBytes}
 use Rattle.slot.specs.Description.{noChip}
 use Rattle.slot.specs.declared.description.Description.{Description}
 use Rattle.addr_layout.specs.declared.layout.AddrLayout.{AddrLayout}

@@ -15,8 +15,7 @@ use Rattle.stored_slot.specs.Words as sizes
 use Rattle.unscramble.specs.Words as read
 use Rattle.stored_slot.specs.declared.stored.StoredSlot.{StoredSlot}
 
--- "the same .. chips, sizes and w", "Its address base and pins are the address layout's, its data base the lowest data GPIO, every
--- ROM's map the lines in use and the data GPIOs", and the lines that pick at the same positions
+-- read-back is given the chips, sizes and w of the build, and its positions are the layouts'
 pub record Fitted (d : Description) (a : AddrLayout) (c : CsDataLayout) (s : StoredSlot) : Type 0 where
   pub chips : s .«num_roms» ≡ d .«num_chips»
   pub bytes : stored.wordBytes s ≡ d .«word_bytes»

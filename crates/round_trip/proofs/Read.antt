@@ -110,7 +110,7 @@ module _ (d : Description) (a : AddrLayout) (c : CsDataLayout) (images : List �
   pub all-served : unserved s (d .«set_type») ≡ None
   all-served = none-of (s .«num_roms») _ (λ rom l. none-of (sizes.romWords s rom) _ (λ n q. served-one rom n (rw (← f .chips) l) q))
 
-  -- "each chip's first min(size / word bytes rounded down, 2^lines) words .. chip after chip"
+  -- each chip's words as far as they are counted, one chip behind the other
   pub recovered-words : recovered s (d .«set_type») table ≡ joined (d .«num_chips») (λ rom. wordsBytes (d .«word_bytes») (wordIn rom) (sizes.romWords s rom))
   unfolding recovered
   recovered-words =

@@ -6,13 +6,11 @@ use Prim.Native.Nat.{ℕ, zero, suc, _+_, _*_, _^_, _≤_, min}
 use lib.ListN.{length, take, replicate}
 use Rattle.lists.specs.Tab.{joined}
 use Rattle.slot.specs.declared.description.Description.{Description}
-use Rattle.refusal.specs.declared.first.FirstFault.the-variants.{None}
 use Rattle.addr_layout.specs.Search.{addrAnswer}
 use Rattle.addr_layout.specs.declared.layout.AddrLayout.{AddrLayout}
 use Rattle.addr_layout.specs.declared.layout.AddrOutcome.{AddrOutcome}
 use Rattle.addr_layout.specs.declared.layout.AddrAnswer.{AddrAnswer}
 use Rattle.cs_data_layout.specs.Search.{csDataAnswer}
-use Rattle.cs_data_layout.specs.declared.layout.CsDataLayout.{CsDataLayout}
 use Rattle.cs_data_layout.specs.declared.layout.CsDataOutcome.{CsDataOutcome}
 use Rattle.cs_data_layout.specs.declared.layout.CsDataAnswer.{CsDataAnswer}
 use Rattle.build_args.specs.Images.{chipSpan, chipBytes}

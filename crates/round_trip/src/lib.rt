@@ -19,7 +19,7 @@ use slot::description::Description;
 use unscramble::unscramble_slot;
 ghost use mathlib.Core.Path.{_≡_};
 ghost use mathlib.Core.Bool.{true};
-ghost use Prim.Native.Nat.{_≤_, _<_, _^_};
+ghost use Prim.Native.Nat.{_≤_};
 ghost use lib.ListN.{length};
 ghost use Rattle.build_args.specs.Faults.{tableSize};
 ghost use Rattle.rom_image.specs.Build.{buildOf};

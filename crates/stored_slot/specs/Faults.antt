@@ -65,11 +65,8 @@ selectFault s =
 
 -- the lines that pick: none in Single, the X pins in Banked, the X pins and then the select in Multi
 abbrev pub pickFault : StoredSlot → ChipSetType → FirstFault
--- the lines that pick: none in Single, the X pins in Banked, the X pins and then the select in Multi
 pickFault s Single = None
--- the lines that pick: none in Single, the X pins in Banked, the X pins and then the select in Multi
 pickFault s Banked = xFaults s
--- the lines that pick: none in Single, the X pins in Banked, the X pins and then the select in Multi
 pickFault s Multi = orElse (xFaults s) (selectFault s)
 
 -- 01 Number 16: the output has less than w bytes for each word, or the marks less than one

@@ -11,7 +11,6 @@ use Rattle.slot.specs.declared.description.ChipSetType.{ChipSetType}
 use Rattle.refusal.specs.First.{orElse, answered}
 use Rattle.refusal.specs.declared.Answer.{Answer}
 use Rattle.refusal.specs.declared.Answer.the-variants.{Done}
-use Rattle.refusal.specs.declared.first.FirstFault.{FirstFault}
 use Rattle.refusal.specs.declared.first.FirstFault.the-variants.{None}
 use Rattle.picks.specs.Picks.{chipsFit}
 use Rattle.table_read.specs.design.Kept.{outputAfter, outcomeOf}

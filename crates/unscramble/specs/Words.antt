@@ -1,17 +1,16 @@
 -- The words of the ROMs, and what each entry says of them. Assumes nothing.
-use Prim.Native.Nat.{ℕ, zero, suc, _+_, _-_, _*_, _/_, _^_, min}
-use mathlib.Core.Bool.{Bool, false, cond, _&&_}
+use Prim.Native.Nat.{ℕ, _*_}
+use mathlib.Core.Bool.{Bool, false, _&&_}
 use mathlib.Core.List.{List}
 use lib.Dec.{ltb, eqb}
 use Rattle.bits.specs.Bits.{gather, indexAddress}
-use Rattle.words.specs.Words.{word, entryWord}
+use Rattle.words.specs.Words.{entryWord}
 use Rattle.slot.specs.declared.description.ChipSetType.{ChipSetType}
-use Rattle.slot.specs.declared.description.ChipSetType.the-variants.{Single, Banked, Multi}
 use Rattle.picks.specs.Picks.{picksOf, pickedBy}
 use Rattle.picks.specs.declared.Picked.{Picked}
 use Rattle.picks.specs.declared.Picked.the-variants.{NoChip, Chip}
 use Rattle.stored_slot.specs.Words.{romWords, storedPickPosition}
-use Rattle.stored_slot.specs.Stored.{romAt, wordBytes, addrBase, storedSelect, addrLines, addrPosition, storedDataPosition, xInside, free}
+use Rattle.stored_slot.specs.Stored.{romAt, wordBytes, addrLines, addrPosition, storedDataPosition, free}
 use Rattle.stored_slot.specs.declared.stored.StoredSlot.{StoredSlot}
 
 -- 01 unscramble 6: the lines that pick a ROM are read as a build reads them

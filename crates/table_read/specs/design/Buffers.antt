@@ -4,7 +4,7 @@ use mathlib.Core.Bool.{Bool, true, cond}
 use mathlib.Core.List.{List, _++_, _∷_}
 use lib.Dec.{eqb, ltb}
 use lib.ListN.{getD, take, drop, replicate}
-use Rattle.words.specs.Words.{bytesOf, word, chipWord}
+use Rattle.words.specs.Words.{bytesOf, chipWord}
 use Rattle.table_read.specs.design.Kept.{outputAfter, marksAfter, firstBad, outcomeOf}
 use Rattle.table_read.specs.declared.Outcome.{Outcome}
 use Rattle.table_read.specs.declared.Outcome.the-variants.{Whole, Disagrees, Missing}

@@ -6,7 +6,7 @@ use lib.Bits.{bitAnd}
 use lib.Dec.{ltb, eqb}
 use lib.ListN.{getD}
 use Rattle.bits.specs.Bits.{gather}
-use Rattle.words.specs.Words.{word, entryWord}
+use Rattle.words.specs.Words.{entryWord}
 use Rattle.table_read.specs.declared.maps.Map.{Map}
 use Rattle.table_read.specs.declared.reading.Extent.{Extent}
 use Rattle.table_read.specs.declared.reading.Reading.{Reading}
