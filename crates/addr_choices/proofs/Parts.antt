@@ -7,7 +7,7 @@ use native.Mathlib.Omega.{arith}
 use lib.Dec.{ltb}
 use borrow.Author.Tests.{le-ltb, ltb-true, ltb-false}
 use Rattle.gpio.specs.design.Span.{spansJoined}
-use Rattle.gpio.specs.declared.span.Span.{Span}
+use Rattle.addr_choices.specs.declared.Spanning.{Spanning}
 use Rattle.lists.proofs.Bools.{and-true}
 use Rattle.gpio.proofs.Spans.{joined-turn, joined-same}
 use Rattle.listing.specs.Choice.{gpioAt, bitOf}
@@ -17,16 +17,16 @@ use Rattle.addr_choices.specs.Choices.{spanned, spanUpTo}
 use Rattle.addr_choices.specs.design.Parts.{spanPartAt}
 
 -- every bit is at or past 0
-pub part-all : (ls : List Listed) (r n : ℕ) (fixed : Span) (c k : ℕ) → spanPartAt ls r n fixed false 0 c k ≡ spanUpTo ls r n fixed c k
+pub part-all : (ls : List Listed) (f : Spanning) (c k : ℕ) → spanPartAt ls f false 0 c k ≡ spanUpTo ls f c k
 unfolding spanPartAt spanUpTo
-part-all ls r n fixed c zero = refl
-part-all ls r n fixed c (suc k) = rw (le-ltb (bitOf ls k) 0 (omega arith), and-true (spanned r n k), part-all ls r n fixed c k)
+part-all ls f c zero = refl
+part-all ls f c (suc k) = rw (le-ltb (bitOf ls k) 0 (omega arith), and-true (spanned f k), part-all ls f c k)
 
-module _ (ls : List Listed) (r n : ℕ) (fixed : Span) (b s q : ℕ) (h : q < 2 ^ s) where
-  pub parts-join : (k : ℕ) → spanUpTo ls r n fixed (b * 2 ^ s + q) k ≡ spansJoined (spanPartAt ls r n fixed true s q k) (spanPartAt ls r n fixed false s (b * 2 ^ s) k)
+module _ (ls : List Listed) (f : Spanning) (b s q : ℕ) (h : q < 2 ^ s) where
+  pub parts-join : (k : ℕ) → spanUpTo ls f (b * 2 ^ s + q) k ≡ spansJoined (spanPartAt ls f true s q k) (spanPartAt ls f false s (b * 2 ^ s) k)
   unfolding spanPartAt spanUpTo
-  parts-join zero = sym (joined-same fixed)
+  parts-join zero = sym (joined-same (f .fixed))
   parts-join (suc k) =
       -- the k-th pin is of one part, and has there the GPIO that it has under the whole number
-      rw (parts-join k) (joined-turn (spanPartAt ls r n fixed true s q k) (spanPartAt ls r n fixed false s (b * 2 ^ s) k) (gpioAt ls (b * 2 ^ s + q) k) (gpioAt ls q k) (gpioAt ls (b * 2 ^ s) k)
-      (spanned r n k) (ltb (bitOf ls k) s) (λ e. gpio-low ls b s q k h (ltb-true _ _ e)) (λ e. gpio-high ls b s q k h (ltb-false _ _ e)))
+      rw (parts-join k) (joined-turn (spanPartAt ls f true s q k) (spanPartAt ls f false s (b * 2 ^ s) k) (gpioAt ls (b * 2 ^ s + q) k) (gpioAt ls q k) (gpioAt ls (b * 2 ^ s) k)
+      (spanned f k) (ltb (bitOf ls k) s) (λ e. gpio-low ls b s q k h (ltb-true _ _ e)) (λ e. gpio-high ls b s q k h (ltb-false _ _ e)))

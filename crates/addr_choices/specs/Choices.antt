@@ -18,6 +18,7 @@ use Rattle.search.specs.declared.Trial.{Trial}
 use Rattle.search.specs.declared.Trial.the-variants.{Misfit, Score}
 use Rattle.addr_lines.specs.Lines.{lines, addrListed}
 use Rattle.addr_lines.specs.Range.{inRange}
+use Rattle.addr_choices.specs.declared.Spanning.{Spanning}
 
 -- 01 addr_layout 8: a select or commoned line widens the span by its first candidate, or not at all if it has none
 abbrev pub widenedFirst : Span → Candidates → Span
@@ -38,18 +39,21 @@ selectSpan d (suc k) = widenedFirst (selectSpan d k) (kindCandidates d (getD (d 
 unfoldable pub fixedSpan : Description → Span
 fixedSpan d = cond (isMulti (d .«set_type»)) (selectSpan d (d .multi .«num_commoned»)) empty
 
--- 01 addr_layout 8: of n lines the first r are in range and are spanned, as are the X pins behind the n; excess lines are not
-abbrev pub spanned : ℕ → ℕ → ℕ → Bool
-spanned r n k = ltb k r || leb n k
+-- what no choice changes
+abbrev pub spanningOf : Description → Spanning
+spanningOf d = record { «in_range» = inRange d; lines = lines d; fixed = fixedSpan d }
+
+-- 01 addr_layout 8: of the lines the first that are in range are spanned, as are the X pins behind them all; excess lines are not
+abbrev pub spanned : Spanning → ℕ → Bool
+spanned s k = ltb k (s .«in_range») || leb (s .lines) k
 
 -- the GPIOs that a choice spans, the first k listed pins passed
-unfoldable pub spanUpTo : List Listed → ℕ → ℕ → Span → ℕ → ℕ → Span
-spanUpTo ls r n fixed c zero = fixed
-spanUpTo ls r n fixed c (suc k) =
-    cond (spanned r n k) (widened (spanUpTo ls r n fixed c k) (gpioAt ls c k)) (spanUpTo ls r n fixed c k)
+unfoldable pub spanUpTo : List Listed → Spanning → ℕ → ℕ → Span
+spanUpTo ls s c zero = s .fixed
+spanUpTo ls s c (suc k) = cond (spanned s k) (widened (spanUpTo ls s c k) (gpioAt ls c k)) (spanUpTo ls s c k)
 
-abbrev pub choiceSpan : List Listed → ℕ → ℕ → Span → ℕ → Span
-choiceSpan ls r n fixed c = spanUpTo ls r n fixed c (length ls)
+abbrev pub choiceSpan : List Listed → Spanning → ℕ → Span
+choiceSpan ls s c = spanUpTo ls s c (length ls)
 
 -- 01 addr_layout 8: the span is how many GPIOs there are from the lowest to the highest
 abbrev pub spanWidth : Span → ℕ
@@ -67,4 +71,4 @@ spanTrial s = cond (fits (s .low) (paddedPins s)) (Score (paddedPins s * 1000 + 
 
 -- what choice c of a description comes to
 abbrev pub addrTrial : Description → ℕ → Trial
-addrTrial d c = spanTrial (choiceSpan (addrListed d) (inRange d) (lines d) (fixedSpan d) c)
+addrTrial d c = spanTrial (choiceSpan (addrListed d) (spanningOf d) c)

@@ -25,9 +25,7 @@ ghost use Rattle.gpio.specs.design.Span.{spansJoined};
 ghost use Rattle.listing.specs.Listing.{listOf};
 ghost use Rattle.search.specs.Search.{best};
 ghost use Rattle.search.specs.design.Rows.{bestOnward};
-ghost use Rattle.addr_lines.specs.Lines.{lines};
-ghost use Rattle.addr_lines.specs.Range.{inRange};
-ghost use Rattle.addr_choices.specs.Choices.{widenedFirst, kindCandidates, selectSpan, fixedSpan, choiceSpan, spanWidth, paddedPins, spanTrial};
+ghost use Rattle.addr_choices.specs.Choices.{widenedFirst, kindCandidates, selectSpan, fixedSpan, spanningOf, choiceSpan, spanWidth, paddedPins, spanTrial};
 ghost use Rattle.addr_choices.specs.design.Parts.{partSpan, pastSpans};
 
 fn widen_first(s: Span, gpios: Candidates) -> Span
@@ -67,7 +65,7 @@ fn select_span(d: Description) -> Span
 }
 
 // The GPIOs that every choice spans.
-pub fn fixed_span(d: Description) -> Span
+fn fixed_span(d: Description) -> Span
     ensures { λ r. ⌜ r ≡ fixedSpan d ⌝ }
 {
     let set_type = d.set_type;
@@ -77,6 +75,24 @@ pub fn fixed_span(d: Description) -> Span
     Span::empty()
 }
 
+// What no choice changes: of `lines` lines the first `in_range` are spanned, and some GPIOs by every choice.
+pub struct Spanning {
+    pub in_range: usize,
+    pub lines: usize,
+    pub fixed: Span,
+}
+
+// What no choice of a description changes.
+pub fn every_choice(d: Description) -> Spanning
+    ensures { λ r. ⌜ r ≡ spanningOf d ⌝ }
+{
+    Spanning {
+        in_range: in_range(d) as usize,
+        lines: num_lines(d) as usize,
+        fixed: fixed_span(d),
+    }
+}
+
 fn widen_if(s: Span, wanted: bool, g: u8) -> Span
     ensures { λ r. ⌜ r ≡ cond wanted (widened s g) s ⌝ }
 {
@@ -84,22 +100,16 @@ fn widen_if(s: Span, wanted: bool, g: u8) -> Span
 }
 
 // The GPIOs that one part of a choice number spans, the bits below `split` or those from it on: of the pins that they
-// serve, the first `in_range` of `lines` lines, and the X pins behind the lines.
-fn part_span(
-    l: Listing,
-    in_range: usize,
-    lines: usize,
-    fixed: Span,
-    low: bool,
-    split: u32,
-    choice: u32,
-) -> Span
+// serve, the lines in range, and the X pins behind the lines.
+fn part_span(l: Listing, every: Spanning, low: bool, split: u32, choice: u32) -> Span
     requires { ⌜ l .count ≤ 30 ⌝ }
-    ensures { λ r. ⌜ r ≡ partSpan (listOf l) «in_range» lines fixed low split choice ⌝ }
+    ensures { λ r. ⌜ r ≡ partSpan (listOf l) every low split choice ⌝ }
 {
     let pins = l.pins;
     let count = l.count;
-    let mut s = fixed;
+    let in_range = every.in_range;
+    let lines = every.lines;
+    let mut s = every.fixed;
     let mut rest = choice;
     let mut bit: u32 = 0;
     let mut k: usize = 0;
@@ -117,11 +127,11 @@ fn part_span(
 }
 
 // The GPIOs that a choice spans.
-pub fn span_of(l: Listing, in_range: usize, lines: usize, fixed: Span, choice: u32) -> Span
+pub fn span_of(l: Listing, every: Spanning, choice: u32) -> Span
     requires { ⌜ l .count ≤ 30 ⌝ }
-    ensures { λ r. ⌜ r ≡ choiceSpan (listOf l) «in_range» lines fixed choice ⌝ }
+    ensures { λ r. ⌜ r ≡ choiceSpan (listOf l) every choice ⌝ }
 {
-    part_span(l, in_range, lines, fixed, false, 0, choice)
+    part_span(l, every, false, 0, choice)
 }
 
 fn width(s: Span) -> u32
@@ -156,15 +166,15 @@ fn trial(s: Span) -> Trial
 }
 
 // The spans of the bits below `split`.
-fn low_spans(l: Listing, in_range: usize, lines: usize, fixed: Span, split: u32) -> [Span; 64]
+fn low_spans(l: Listing, every: Spanning, split: u32) -> [Span; 64]
     requires { ⌜ (l .count ≤ 30) × (split ≤ 6) ⌝ }
-    ensures { λ r. ⌜ take (2 ^ split) r ≡ tab (2 ^ split) (λ q. partSpan (listOf l) «in_range» lines fixed true split q) ⌝ }
+    ensures { λ r. ⌜ take (2 ^ split) r ≡ tab (2 ^ split) (λ q. partSpan (listOf l) every true split q) ⌝ }
 {
     let count = 1usize << split;
-    let mut out = [fixed; 64];
+    let mut out = [Span::empty(); 64];
     let mut q: usize = 0;
     while q < count {
-        out[q] = part_span(l, in_range, lines, fixed, true, split, q as u32);
+        out[q] = part_span(l, every, true, split, q as u32);
         q += 1;
     }
     out
@@ -188,19 +198,17 @@ fn best_in_row(before: Found, lows: [Span; 64], high: Span, first: u32, len: u32
 // The best of the choices that `bits` two-candidate pins leave.
 pub fn best(d: Description, l: Listing, bits: u32) -> Found
     requires { ⌜ (l .count ≤ 30) × (bits ≤ 16) ⌝ }
-    ensures { λ r. ⌜ r ≡ best (λ c. spanTrial (choiceSpan (listOf l) (inRange d) (lines d) (fixedSpan d) c)) (2 ^ bits) ⌝ }
+    ensures { λ r. ⌜ r ≡ best (λ c. spanTrial (choiceSpan (listOf l) (spanningOf d) c)) (2 ^ bits) ⌝ }
 {
-    let used = in_range(d) as usize;
-    let all = num_lines(d) as usize;
-    let fixed = fixed_span(d);
+    let every = every_choice(d);
     let split = row_bits(bits);
-    let lows = low_spans(l, used, all, fixed, split);
+    let lows = low_spans(l, every, split);
     let rows = 1u32 << (bits - split);
     let mut found = Found::Nothing;
     let mut row: u32 = 0;
     while row < rows {
         let first = row << split;
-        let high = part_span(l, used, all, fixed, false, split, first);
+        let high = part_span(l, every, false, split, first);
         found = best_in_row(found, lows, high, first, 1 << split);
         row += 1;
     }

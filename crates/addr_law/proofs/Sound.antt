@@ -34,7 +34,7 @@ use Rattle.listing.proofs.Faults.{no-fault-at}
 use Rattle.search.specs.declared.Trial.the-variants.{Misfit, Score}
 use Rattle.addr_lines.specs.Lines.{lines, lineListed, addrListed}
 use Rattle.addr_lines.specs.Range.{reach, inRange}
-use Rattle.addr_choices.specs.Choices.{widenedFirst, kindCandidates, selectSpan, fixedSpan, spanned, spanUpTo, choiceSpan, spanWidth, paddedPins, spanTrial, addrTrial}
+use Rattle.addr_choices.specs.Choices.{widenedFirst, kindCandidates, selectSpan, fixedSpan, spanningOf, spanned, spanUpTo, choiceSpan, spanWidth, paddedPins, spanTrial, addrTrial}
 use Rattle.addr_layout.specs.Layouts.{addrLayoutOf}
 use Rattle.addr_law.specs.Law.{FirstOf, PastTests, Spanned, of-pin, of-select, of-commoned, InWindow, XLaid, SoundLayout, Sound}
 use Rattle.gpio.specs.declared.line.LineGpio.{LineGpio}
@@ -111,17 +111,17 @@ counted-first g x false e = absurd e
 module _ (d : Description) (c : ℕ) where
   -- the span once k listed pins are passed, what pin k adds to it, and the k-th commoned line
   abbrev spanTo : ℕ → Span
-  spanTo k = spanUpTo (addrListed d) (inRange d) (lines d) (fixedSpan d) c k
+  spanTo k = spanUpTo (addrListed d) (spanningOf d) c k
 
   abbrev addedAt : ℕ → Candidates
-  addedAt k = counted (spanned (inRange d) (lines d) k) (gpioAt (addrListed d) c k)
+  addedAt k = counted (spanned (spanningOf d) k) (gpioAt (addrListed d) c k)
 
   abbrev commonedAt : ℕ → Candidates
   commonedAt k = kindCandidates d (getD (d .multi .commoned) k 0)
 
   span-turn : (k : ℕ) → spanTo (suc k) ≡ widenedFirst (spanTo k) (addedAt k)
   unfolding spanUpTo
-  span-turn k = counted-turn (spanTo k) (gpioAt (addrListed d) c k) (spanned (inRange d) (lines d) k)
+  span-turn k = counted-turn (spanTo k) (gpioAt (addrListed d) c k) (spanned (spanningOf d) k)
 
   select-turn : (k : ℕ) → selectSpan d (suc k) ≡ widenedFirst (selectSpan d k) (commonedAt k)
   unfolding selectSpan
@@ -150,7 +150,7 @@ module _ (d : Description) (c : ℕ) where
   unfolding spanUpTo fixedSpan
   lowest =
       turns-attain spanTo addedAt span-turn (Spanned d c) (length (addrListed d))
-      (λ k g l h. let is = counted-first (gpioAt (addrListed d) c k) g (spanned (inRange d) (lines d) k) h in of-pin k l (is .0) (is .1))
+      (λ k g l h. let is = counted-first (gpioAt (addrListed d) c k) g (spanned (spanningOf d) k) h in of-pin k l (is .0) (is .1))
       (fixed-attained (isMulti (d .«set_type»)) refl)
 
 pins-wide : (s : Span) (t : Bool) → ltb 8 (spanWidth s) ≡ t → (8 ≤ cond t (spanWidth s) 8) × (spanWidth s ≤ cond t (spanWidth s) 8)
@@ -246,7 +246,7 @@ module _ (d : Description) (c : ℕ) (e : descriptionIn d ≡ true)
 pub sound : (d : Description) → PastTests d → (c s : ℕ) → addrTrial d c ≡ Score s → Sound d c
 sound d past c s e =
     let ls = addrListed d in
-    let span = choiceSpan ls (inRange d) (lines d) (fixedSpan d) c in
+    let span = choiceSpan ls (spanningOf d) c in
     let wide = pins-wide span (ltb 8 (spanWidth span)) refl in
     let window = window-of span s e in
     let inside : (g : ℕ) → Spanned d c g → InWindow (addrLayoutOf d ls c) g = λ g t. let w = within d c g t in (w .0, omega (arith, wide .1, w .0, w .1)) in

@@ -12,9 +12,9 @@ use Rattle.listing.specs.Listing.{twos, firstFault}
 use Rattle.listing.specs.Choice.{CandidateOf, pinAt, gpioAt}
 use Rattle.refusal.specs.declared.first.FirstFault.the-variants.{None}
 use Rattle.search.specs.Law.{Best}
-use Rattle.addr_lines.specs.Lines.{lines, lineListed, addrListed}
+use Rattle.addr_lines.specs.Lines.{lineListed, addrListed}
 use Rattle.addr_lines.specs.Range.{inRange}
-use Rattle.addr_choices.specs.Choices.{kindCandidates, spanned, addrTrial}
+use Rattle.addr_choices.specs.Choices.{kindCandidates, spanningOf, spanned, addrTrial}
 use Rattle.addr_layout.specs.Layouts.{addrLayoutOf}
 use Rattle.addr_layout.specs.Search.{addrSearchIn, addrAnswer}
 use Rattle.gpio.specs.declared.line.LineGpio.{LineGpio}
@@ -46,7 +46,7 @@ FirstOf (Two a b) g = g ≡ a
 -- 01 addr_layout 8: a GPIO that choice c spans: that of an in-range line or of an X pin behind the lines; in Multi, also the one
 -- that comes first among the candidates of the select line or of a commoned line
 pub data Spanned (d : Description) (c g : ℕ) : Type 0 where
-  of-pin : (k : ℕ) → k < length (addrListed d) → spanned (inRange d) (lines d) k ≡ true
+  of-pin : (k : ℕ) → k < length (addrListed d) → spanned (spanningOf d) k ≡ true
       → g ≡ gpioAt (addrListed d) c k → Spanned d c g
   of-select : isMulti (d .«set_type») ≡ true → FirstOf (kindCandidates d (d .multi .select)) g → Spanned d c g
   of-commoned : isMulti (d .«set_type») ≡ true → (k : ℕ) → k < d .multi .«num_commoned»

@@ -13,7 +13,7 @@ use Rattle.listing.specs.Choice.{gpioAt}
 use Rattle.listing.specs.declared.Listed.{Listed}
 use Rattle.addr_lines.specs.Lines.{lines}
 use Rattle.addr_lines.specs.Range.{inRange}
-use Rattle.addr_choices.specs.Choices.{fixedSpan, choiceSpan, paddedPins}
+use Rattle.addr_choices.specs.Choices.{spanningOf, choiceSpan, paddedPins}
 use Rattle.addr_layout.specs.declared.layout.AddrLayout.{AddrLayout}
 
 -- the X pins that pick a bank or a chip, behind the lines
@@ -41,5 +41,5 @@ addrLayoutFrom s gpio one both n u = record {
 -- 01 addr_layout 5: X1 is behind the lines in any set but Single, and X2 behind X1 if there are at least 3 chips
 abbrev pub addrLayoutOf : Description → List Listed → ℕ → AddrLayout
 addrLayoutOf d ls c =
-    addrLayoutFrom (choiceSpan ls (inRange d) (lines d) (fixedSpan d) c) (λ k. gpioAt ls c k) (not (isSingle (d .«set_type»)))
+    addrLayoutFrom (choiceSpan ls (spanningOf d) c) (λ k. gpioAt ls c k) (not (isSingle (d .«set_type»)))
     (not (isSingle (d .«set_type»)) && leb 3 (d .«num_chips»)) (lines d) (inRange d)

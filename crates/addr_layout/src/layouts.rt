@@ -2,7 +2,7 @@
 use crate::layout::AddrAnswer;
 use crate::layout::AddrLayout;
 use crate::layout::AddrOutcome;
-use addr_choices::fixed_span;
+use addr_choices::every_choice;
 use addr_choices::pins;
 use addr_choices::span_of;
 use addr_lines::num_lines;
@@ -22,8 +22,7 @@ ghost use lib.ListN.{getD};
 ghost use Rattle.lists.specs.Tab.{tab};
 ghost use Rattle.listing.specs.Listing.{listOf};
 ghost use Rattle.addr_lines.specs.Lines.{lines};
-ghost use Rattle.addr_lines.specs.Range.{inRange};
-ghost use Rattle.addr_choices.specs.Choices.{fixedSpan, choiceSpan, paddedPins, spanTrial};
+ghost use Rattle.addr_choices.specs.Choices.{spanningOf, choiceSpan, paddedPins, spanTrial};
 ghost use Rattle.addr_layout.specs.Layouts.{lineGpio, addrLayoutFrom, addrLayoutOf};
 
 // The GPIOs of the lines, 0 past them.
@@ -69,12 +68,12 @@ fn layout(span: Span, all: [u8; 30], one: bool, both: bool, lines: u8, used: u8)
 // The layout that a choice makes which fits.
 pub fn laid_out(d: Description, l: Listing, choice: u32, score: u32) -> AddrAnswer
     requires { ⌜ (l .count ≤ 30) × (lines d ≤ 24)
-        × (spanTrial (choiceSpan (listOf l) (inRange d) (lines d) (fixedSpan d) choice) ≡ Trial.Score score) ⌝ }
+        × (spanTrial (choiceSpan (listOf l) (spanningOf d) choice) ≡ Trial.Score score) ⌝ }
     ensures { λ r. ⌜ r ≡ record { outcome = AddrOutcome.LaidOut; layout = addrLayoutOf d (listOf l) choice } ⌝ }
 {
     let used = in_range(d);
     let all = num_lines(d);
-    let span = span_of(l, used as usize, all as usize, fixed_span(d), choice);
+    let span = span_of(l, every_choice(d), choice);
     let gpios = resolve(l, choice);
     let set_type = d.set_type;
     let one = !set_type.is_single();

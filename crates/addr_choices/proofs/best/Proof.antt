@@ -18,45 +18,44 @@ use Rattle.search.specs.Search.{best}
 use Rattle.search.specs.declared.Found.{Found}
 use Rattle.search.specs.declared.Trial.{Trial}
 use Rattle.search.proofs.Rows.{row-first, row-fits, rows-turn, rows-done}
-use Rattle.addr_lines.specs.Lines.{lines}
-use Rattle.addr_lines.specs.Range.{inRange}
-use Rattle.addr_choices.specs.Choices.{fixedSpan, choiceSpan, spanTrial}
+use Rattle.addr_choices.specs.Choices.{spanningOf, choiceSpan, spanTrial}
+use Rattle.addr_choices.specs.declared.Spanning.{Spanning}
 use Rattle.addr_choices.specs.design.Parts.{partSpan, pastSpans}
 use Rattle.addr_choices.proofs.Parts.{parts-join}
 use borrow.Author.Needs.{needs}
 use Rattle.addr_choices.proofs.best.Statement.{statement}
 use Rattle.addr_choices.proofs.best.Tie as tie
 
-module _ (ls : List Listed) (r n : ℕ) (fixed : Span) (s : ℕ) where
+module _ (ls : List Listed) (f : Spanning) (s : ℕ) where
   -- the table of low spans
   abbrev Lows : List Span → Type 0
-  Lows lows = take (2 ^ s) lows ≡ tab (2 ^ s) (λ q. partSpan ls r n fixed true s q)
+  Lows lows = take (2 ^ s) lows ≡ tab (2 ^ s) (λ q. partSpan ls f true s q)
 
   abbrev trials : ℕ → Trial
-  trials c = spanTrial (choiceSpan ls r n fixed c)
+  trials c = spanTrial (choiceSpan ls f c)
 
   -- a choice of a row spans what its two parts span
-  row-trial : (lows : List Span) (high : Span) (row q : ℕ) → Lows lows → high ≡ partSpan ls r n fixed false s (row * 2 ^ s) → q < 2 ^ s
+  row-trial : (lows : List Span) (high : Span) (row q : ℕ) → Lows lows → high ≡ partSpan ls f false s (row * 2 ^ s) → q < 2 ^ s
       → spanTrial (spansJoined (getD lows q pastSpans) high) ≡ trials (row * 2 ^ s + q)
-  row-trial lows high row q t e l = ap spanTrial (rw (getD-begins (partSpan ls r n fixed true s) lows (2 ^ s) q pastSpans t l, e) (sym (parts-join ls r n fixed row s q l (length ls))))
+  row-trial lows high row q t e l = ap spanTrial (rw (getD-begins (partSpan ls f true s) lows (2 ^ s) q pastSpans t l, e) (sym (parts-join ls f row s q l (length ls))))
 
-done : (ls : List Listed) (d : Description) (u n row rows s bits : ℕ) (fixed : Span) (found : Found) → u ≡ inRange d → n ≡ lines d → fixed ≡ fixedSpan d → row ≡ rows
-    → rows ≡ 2 ^ (bits - s) → s ≤ bits → found ≡ best (trials ls u n fixed s) (row * 2 ^ s)
-    → found ≡ best (λ c. spanTrial (choiceSpan ls (inRange d) (lines d) (fixedSpan d) c)) (2 ^ bits)
-done ls d u n row rows s bits fixed found eu en ef er eb h f = rw (eu, en, ef) at (rows-done (best (trials ls u n fixed s)) row rows bits s found er eb h f)
+done : (ls : List Listed) (d : Description) (every : Spanning) (row rows s bits : ℕ) (found : Found) → every ≡ spanningOf d → row ≡ rows → rows ≡ 2 ^ (bits - s) → s ≤ bits
+    → found ≡ best (trials ls every s) (row * 2 ^ s) → found ≡ best (λ c. spanTrial (choiceSpan ls (spanningOf d) c)) (2 ^ bits)
+done ls d every row rows s bits found e er eb h f =
+    rows-done (best (trials ls every s)) row rows bits s found er eb h f ∙ ap (λ (x : Spanning). best (λ c. spanTrial (choiceSpan ls x c)) (2 ^ bits)) e
 
 abbrev Inv-loop : tie.InvT-loop
-Inv-loop l bits used all fixed split lows rows found₀ row₀ found row =
-    (row ≤ rows) × (rows ≡ 2 ^ (bits - split)) × (split ≤ bits) × (split ≤ 6) × (bits ≤ 16) × Lows (listOf l) used all fixed split lows
-    × (found ≡ best (trials (listOf l) used all fixed split) (row * 2 ^ split))
+Inv-loop l bits every split lows rows found₀ row₀ found row =
+    (row ≤ rows) × (rows ≡ 2 ^ (bits - split)) × (split ≤ bits) × (split ≤ 6) × (bits ≤ 16) × Lows (listOf l) every split lows
+    × (found ≡ best (trials (listOf l) every split) (row * 2 ^ split))
 
 abbrev μ-loop : tie.MeasureT-loop
-μ-loop l bits used all fixed split lows rows found₀ row₀ found row = rows - row
+μ-loop l bits every split lows rows found₀ row₀ found row = rows - row
 
 loop-holds : tie.Need-loop-holds Inv-loop μ-loop
 unfolding best
 loop-holds c =
-    let a = c .before .before .before .before .before .args in
+    let a = c .before .before .before .args in
     let s = c .before .row-bits .ensures in
     (omega arith, shifted-one _ 32 (omega arith), s .0, s .1, omega arith, c .low-spans .ensures, rw zero-mul refl)
 
@@ -78,15 +77,14 @@ loop-again c =
       i .3,
       i .4,
       i .5,
-      rows-turn _ _ _ _ _ _ _ _ first (shifted-one _ 32 (omega arith)) (λ q h. row-trial _ _ _ _ _ _ _ _ q (i .5) (c .before .part-span .ensures ∙ ap (partSpan _ _ _ _ false _) first) h) (i .6) (c .best-in-row .ensures),
+      rows-turn _ _ _ _ _ _ _ _ first (shifted-one _ 32 (omega arith)) (λ q h. row-trial _ _ _ _ _ _ q (i .5) (c .before .part-span .ensures ∙ ap (partSpan _ _ false _) first) h) (i .6) (c .best-in-row .ensures),
     )
 
 returns : tie.Need-returns Inv-loop μ-loop
 returns c =
     let v = c .before .loop in
-    let a = c .before .before .before .before .before .before .before .args in
-    done (listOf (a .l)) (a .d) _ _ _ _ _ (a .bits) _ _ (c .before .before .before .before .before .before .in-range .ensures) (c .before .before .before .before .before .num-lines .ensures)
-    (c .before .before .before .before .fixed-span .ensures) (omega arith) (v .inv .1) (v .inv .2) (v .inv .6)
+    let a = c .before .before .before .before .before .args in
+    done (listOf (a .l)) (a .d) _ _ _ _ (a .bits) _ (c .before .before .before .before .every-choice .ensures) (omega arith) (v .inv .1) (v .inv .2) (v .inv .6)
 
 pub best-spec : {M : Type 1} → statement M
-best-spec = tie.close (tie.spec Inv-loop μ-loop (λ c κs. search needs) (λ c. search needs) (λ c κs. search needs) (λ c. search needs) (λ c κs. search needs) (λ c κs. search needs) (λ c κs. search needs) (λ c. search needs) (λ c. search needs) loop-holds (λ c. search needs) (λ c κs. search needs) (λ c. search needs) best-in-row-requires (λ c. search needs) (λ c. search needs) loop-again returns)
+best-spec = tie.close (tie.spec Inv-loop μ-loop (λ c κs. search needs) (λ c κs. search needs) (λ c κs. search needs) (λ c. search needs) (λ c. search needs) loop-holds (λ c. search needs) (λ c κs. search needs) (λ c. search needs) best-in-row-requires (λ c. search needs) (λ c. search needs) loop-again returns)

@@ -17,15 +17,15 @@ use Rattle.addr_choices.proofs.low_spans.Statement.{statement}
 use Rattle.addr_choices.proofs.low_spans.Tie as tie
 
 abbrev Inv-loop : tie.InvT-loop
-Inv-loop l in-range lines fixed split count out₀ q₀ out q =
-    (q ≤ count) × (count ≤ 64) × (count ≡ 2 ^ split) × Filled 64 (λ j. partSpan (listOf l) in-range lines fixed true split j) out q
+Inv-loop l every split count out₀ q₀ out q =
+    (q ≤ count) × (count ≤ 64) × (count ≡ 2 ^ split) × Filled 64 (λ j. partSpan (listOf l) every true split j) out q
 
 abbrev μ-loop : tie.MeasureT-loop
-μ-loop l in-range lines fixed split count out₀ q₀ out q = count - q
+μ-loop l every split count out₀ q₀ out q = count - q
 
 loop-holds : tie.Need-loop-holds Inv-loop μ-loop
 loop-holds c =
-    let a = c .args in
+    let a = c .before .args in
     let e = shifted-one (a .split) 64 (omega arith) in
     (omega arith, rw e (row-short (a .split) (omega arith)), e, filled-none refl)
 
@@ -41,4 +41,4 @@ returns : tie.Need-returns Inv-loop μ-loop
 returns c = let v = c .before .loop in done _ _ _ _ _ (omega arith) (v .inv .2) (v .inv .3 .first)
 
 pub low-spans-spec : {M : Type 1} → statement M
-low-spans-spec = tie.close (tie.spec Inv-loop μ-loop (λ c. search needs) loop-holds (λ c. search needs) (λ c κs. search needs) (λ c. search needs) (λ c. search needs) (λ c. search needs) (λ c. search needs) loop-again returns)
+low-spans-spec = tie.close (tie.spec Inv-loop μ-loop (λ c. search needs) (λ c κs. search needs) loop-holds (λ c. search needs) (λ c κs. search needs) (λ c. search needs) (λ c. search needs) (λ c. search needs) (λ c. search needs) loop-again returns)

@@ -14,31 +14,30 @@ use Rattle.listing.specs.Listing.{listOf}
 use Rattle.listing.specs.Choice.{chosen, leftBy, pinAt, restAt, gpioAt, bitOf}
 use Rattle.listing.specs.design.Parts.{inPart}
 use Rattle.lists.proofs.Each.{tally-none}
+use Rattle.lists.proofs.Loops.{at-count}
 use Rattle.listing.proofs.Walked.{pin-taken, rest-left, bit-served}
 use Rattle.listing.specs.declared.Listed.{Listed}
 use Rattle.listing.specs.declared.choice.Picked.{Picked}
 use Rattle.addr_choices.specs.Choices.{spanned}
+use Rattle.addr_choices.specs.declared.Spanning.{Spanning}
 use Rattle.addr_choices.specs.design.Parts.{spanPartAt}
 use borrow.Author.Needs.{needs}
 use Rattle.addr_choices.proofs.part_span.Statement.{statement}
 use Rattle.addr_choices.proofs.part_span.Tie as tie
 
-wider : (ls : List Listed) (u n split c k r t : ℕ) (low : Bool) (fixed s s' : Span) (g : Candidates) (p : Picked) (b : Bool) → r ≡ restAt ls c k → t ≡ bitOf ls k → g ≡ pinAt ls k
-    → p ≡ record { gpio = chosen g r; rest = leftBy g r } → b ≡ inPart low split t → s ≡ spanPartAt ls u n fixed low split c k → s' ≡ cond (spanned u n k && b) (widened s (p .gpio)) s
-    → s' ≡ spanPartAt ls u n fixed low split c (k + 1)
+wider : (ls : List Listed) (f : Spanning) (split c k r t : ℕ) (low : Bool) (s s' : Span) (g : Candidates) (p : Picked) (b : Bool) → r ≡ restAt ls c k → t ≡ bitOf ls k → g ≡ pinAt ls k
+    → p ≡ record { gpio = chosen g r; rest = leftBy g r } → b ≡ inPart low split t → s ≡ spanPartAt ls f low split c k → s' ≡ cond (spanned f k && b) (widened s (p .gpio)) s
+    → s' ≡ spanPartAt ls f low split c (k + 1)
 unfolding spanPartAt gpioAt
-wider ls u n split c k r t low fixed s s' g p b e f h i j m o = rw (o, j, i, h, e, f, m, add-one)
-
-done : (ls : List Listed) (u n split c k m : ℕ) (low : Bool) (fixed s : Span) → k ≡ m → s ≡ spanPartAt ls u n fixed low split c k → s ≡ spanPartAt ls u n fixed low split c m
-done ls u n split c k m low fixed s e h = rw e at h
+wider ls f split c k r t low s s' g p b e y h i j m o = rw (o, j, i, h, e, y, m, add-one)
 
 abbrev Inv-loop : tie.InvT-loop
-Inv-loop in-range lines low split choice pins count s₀ rest₀ bit₀ k₀ s rest bit k =
+Inv-loop low split choice pins count in-range lines s₀ rest₀ bit₀ k₀ s rest bit k =
     (k ≤ count) × (count ≤ 30) × (bit ≤ k) × (length pins ≡ 30) × (rest ≡ restAt (take count pins) choice k)
-    × (bit ≡ bitOf (take count pins) k) × (s ≡ spanPartAt (take count pins) in-range lines s₀ low split choice k)
+    × (bit ≡ bitOf (take count pins) k) × (s ≡ spanPartAt (take count pins) (record { «in_range» = in-range; lines = lines; fixed = s₀ }) low split choice k)
 
 abbrev μ-loop : tie.MeasureT-loop
-μ-loop in-range lines low split choice pins count s₀ rest₀ bit₀ k₀ s rest bit k = count - k
+μ-loop low split choice pins count in-range lines s₀ rest₀ bit₀ k₀ s rest bit k = count - k
 
 loop-holds : tie.Need-loop-holds Inv-loop μ-loop
 unfolding restAt spanPartAt
@@ -46,7 +45,7 @@ loop-holds c = (omega arith, omega arith, omega arith, search (mapped-length, ne
 
 loop-again : tie.Need-loop-again Inv-loop μ-loop
 loop-again c =
-    let a = c .before .before .before .before .before .before .before .before .args in
+    let a = c .before .before .before .before .before .before .before .before .before .args in
     let v = c .before .before .before .before .before .before .loop in
     let pick = c .before .before .before .pick .ensures in
     let h : v .k < a .l .count = omega arith in
@@ -57,15 +56,15 @@ loop-again c =
       v .inv .3,
       rest-left _ _ _ _ _ _ (v .inv .4) g pick,
       bit-served (listOf (a .l)) (v .k) _ _ _ (v .inv .5) g (c .bits .ensures .0),
-      wider _ _ _ _ _ _ _ _ _ _ _ _ _ _ _ (v .inv .4) (v .inv .5) g pick (c .before .before .in-part .ensures) (v .inv .6) (c .before .widen-if .ensures),
+      wider _ _ _ _ _ _ _ _ _ _ _ _ _ (v .inv .4) (v .inv .5) g pick (c .before .before .in-part .ensures) (v .inv .6) (c .before .widen-if .ensures),
     )
 
 returns : tie.Need-returns Inv-loop μ-loop
 returns c =
-    let a = c .before .before .before .args in
+    let a = c .before .before .before .before .args in
     let v = c .before .loop in
     let e : v .k ≡ length (listOf (a .l)) = simp length-take (omega arith) in
-    done (listOf (a .l)) (a .in-range) (a .lines) (a .split) (a .choice) (v .k) (length (listOf (a .l))) (a .low) (a .fixed) (v .s) e (v .inv .6)
+    at-count (spanPartAt (listOf (a .l)) (a .every) (a .low) (a .split) (a .choice)) (v .k) _ (v .s) e (v .inv .6)
 
 pub part-span-spec : {M : Type 1} → statement M
 part-span-spec = tie.close (tie.spec Inv-loop μ-loop loop-holds (λ c. search needs) (λ c. search needs) (λ c κs. search needs) (λ c κs. search needs) (λ c κs. search needs) (λ c κs. search needs) (λ c. search needs) (λ c. search needs) (λ c. search needs) loop-again returns)

@@ -20,8 +20,7 @@ use Rattle.search.specs.declared.Found.{Found}
 use Rattle.search.proofs.Law.{found-best}
 use Rattle.addr_lines.specs.Lines.{lines, addrListed}
 use Rattle.addr_layout.specs.Layout.{addrRefused}
-use Rattle.addr_lines.specs.Range.{inRange}
-use Rattle.addr_choices.specs.Choices.{fixedSpan, choiceSpan, spanTrial}
+use Rattle.addr_choices.specs.Choices.{spanningOf, choiceSpan, spanTrial}
 use Rattle.addr_layout.specs.Layouts.{addrLayoutOf}
 use Rattle.addr_layout.specs.Search.{addrBest, addrAnswerOf, afterFaults, addrAnswer}
 use Rattle.addr_layout.specs.declared.layout.AddrOutcome.the-variants.{LaidOut}
@@ -35,7 +34,7 @@ few-lines d e = omega (arith, chip0-in d e .address-pins)
 
 -- a choice's trial, of the pins as the code listed them
 abbrev trial : Description → List Listed → ℕ → Trial
-trial d ls c = spanTrial (choiceSpan ls (inRange d) (lines d) (fixedSpan d) c)
+trial d ls c = spanTrial (choiceSpan ls (spanningOf d) c)
 
 outside : (d : Description) → descriptionIn d ≡ false → addrRefused OutOfDomain ≡ addrAnswer d
 outside d e = rw e

@@ -15,7 +15,8 @@ use Rattle.lists.proofs.Tab.{getD-tab, tab-cong}
 use Rattle.lists.proofs.Loops.{zero-one}
 use Rattle.search.specs.declared.Trial.the-variants.{Misfit, Score}
 use Rattle.addr_lines.specs.Range.{reach, inRange}
-use Rattle.addr_choices.specs.Choices.{fixedSpan, choiceSpan, paddedPins, spanTrial}
+use Rattle.addr_choices.specs.Choices.{spanningOf, choiceSpan, paddedPins, spanTrial}
+use Rattle.addr_choices.specs.declared.Spanning.{Spanning}
 use Rattle.addr_layout.specs.Layouts.{addrLayoutFrom, addrLayoutOf}
 use Rattle.slot.specs.Description.{isSingle}
 use Rattle.listing.specs.Choice.{gpioAt}
@@ -53,9 +54,9 @@ from-tab s f one both n u h =
     )
 
 -- the span is that of the description's own numbers
-span-is : (d : Description) (l : Listing) (choice u n : ℕ) (fixed s : Span) → u ≡ inRange d → n ≡ lines d → fixed ≡ fixedSpan d
-    → s ≡ choiceSpan (listOf l) u n fixed choice → s ≡ choiceSpan (listOf l) (inRange d) (lines d) (fixedSpan d) choice
-span-is d l choice u n fixed s eu en ef e = rw (eu, en, ef) at e
+span-is : (d : Description) (l : Listing) (choice : ℕ) (every : Spanning) (s : Span) → every ≡ spanningOf d
+    → s ≡ choiceSpan (listOf l) every choice → s ≡ choiceSpan (listOf l) (spanningOf d) choice
+span-is d l choice every s e h = rw e at h
 
 used-some : (d : Description) (u n : ℕ) → u ≡ inRange d → n ≡ lines d → u ≤ n
 used-some d u n eu en = rw (eu, en) (smaller (lines d) (reach d) (ltb (lines d) (reach d)) refl)
@@ -63,14 +64,14 @@ used-some d u n eu en = rw (eu, en) (smaller (lines d) (reach d) (ltb (lines d) 
 layout-requires : tie.Need-layout-requires
 layout-requires c κs =
     let a = c .before .before .before .before .before .before .before .args in
-    let s = span-is (a .d) (a .l) (a .choice) _ _ _ _ (c .before .before .before .before .before .before .in-range .ensures) (c .before .before .before .before .before .num-lines .ensures) (c .before .before .before .before .fixed-span .ensures)
+    let s = span-is (a .d) (a .l) (a .choice) _ _ (c .before .before .before .before .every-choice .ensures)
     (c .before .before .before .span-of .ensures) in
     let p : paddedPins (c .before .before .before .span-of .result) ≤ 48 = rw s (pins-fit _ (a .score) (c .before .before .before .before .before .before .before .pre .2)) in
     let u = used-some (a .d) _ _ (c .before .before .before .before .before .before .in-range .ensures) (c .before .before .before .before .before .num-lines .ensures) in
     (omega arith, u, omega (arith, c .before .before .before .before .before .num-lines .ensures, c .before .before .before .before .before .before .before .pre .1))
 
 laid : (d : Description) (l : Listing) (choice u n : ℕ) (s : Span) (gs : List ℕ) (single : Bool) (r : AddrLayout) → n ≤ 24 → u ≡ inRange d → n ≡ lines d
-    → s ≡ choiceSpan (listOf l) (inRange d) (lines d) (fixedSpan d) choice → gs ≡ tab 30 (λ k. gpioAt (listOf l) choice k)
+    → s ≡ choiceSpan (listOf l) (spanningOf d) choice → gs ≡ tab 30 (λ k. gpioAt (listOf l) choice k)
     → single ≡ isSingle (d .«set_type») → r ≡ addrLayoutFrom s (λ k. getD gs k 0) (not single) (not single && leb 3 (d .«num_chips»)) n u
     → r ≡ addrLayoutOf d (listOf l) choice
 laid d l choice u n s gs single r few eu en es eg ei e =
@@ -82,11 +83,11 @@ laid d l choice u n s gs single r few eu en es eg ei e =
 returns : tie.Need-returns
 returns c =
     let a = c .before .before .before .before .before .before .before .before .args in
-    let s = span-is (a .d) (a .l) (a .choice) _ _ _ _ (c .before .before .before .before .before .before .before .in-range .ensures) (c .before .before .before .before .before .before .num-lines .ensures) (c .before .before .before .before .before .fixed-span .ensures)
+    let s = span-is (a .d) (a .l) (a .choice) _ _ (c .before .before .before .before .before .every-choice .ensures)
     (c .before .before .before .before .span-of .ensures) in
     ap (λ (x : AddrLayout). record { outcome = LaidOut; layout = x })
     (laid (a .d) (a .l) (a .choice) _ _ _ _ _ _ (omega (arith, c .before .before .before .before .before .before .num-lines .ensures, c .before .before .before .before .before .before .before .before .pre .1)) (c .before .before .before .before .before .before .before .in-range .ensures)
     (c .before .before .before .before .before .before .num-lines .ensures) s (c .before .before .before .resolve .ensures) (c .before .before .is-single .ensures) (c .layout .ensures))
 
 pub laid-out-spec : {M : Type 1} → statement M
-laid-out-spec = tie.close (tie.spec (λ c κs. search needs) (λ c κs. search needs) (λ c. search needs) (λ c. search needs) (λ c κs. search needs) (λ c κs. search needs) (λ c κs. search needs) (λ c κs. search needs) layout-requires returns)
+laid-out-spec = tie.close (tie.spec (λ c κs. search needs) (λ c κs. search needs) (λ c κs. search needs) (λ c κs. search needs) (λ c κs. search needs) (λ c κs. search needs) layout-requires returns)
