@@ -19,13 +19,13 @@ use Rattle.addr_layout.specs.declared.layout.AddrLayout.{AddrLayout}
 use Rattle.cs_data_layout.specs.declared.layout.CsDataLayout.{CsDataLayout}
 use Rattle.build_args.specs.Args.{argsOf}
 use Rattle.build_args.specs.Images.{chipSpan, chipBytes}
-use Rattle.build_args.specs.Domain.{buildIn}
 use Rattle.build_args.specs.Faults.{entriesOf, tableSize, tableTooLarge, tooShort, addressIn, picksIn, dataPositionsIn, missingAt, shortAt, linesFault, imagesFault, lentFault, buildFault}
 use Rattle.picks.specs.Picks.{chipsFit}
 use Rattle.refusal.specs.First.{faultIf, firstOf}
 use Rattle.build_args.specs.declared.images.ImageSpan.{ImageSpan}
 use Rattle.refusal.proofs.Firsts.{or-left, or-right, first-all}
 use Rattle.build_args.proofs.Facts.{described, selected, lines-few, data-count}
+use Rattle.rom_image.specs.design.Past.{PastTests}
 use Rattle.rom_image.proofs.Buildable.{Buildable}
 
 -- a test that found nothing
@@ -47,21 +47,21 @@ pins-of p true e h = ltb-true p 32 e
 pins-of p false e h = let b = pow-mono {i = 32} {j = p} (ltb-false p 32 e) in absurd (omega arith)
 
 module _ (d : Description) (a : AddrLayout) (c : CsDataLayout) (images : List ℕ) (spans : List ImageSpan) (room : ℕ)
-    (e : buildIn (argsOf d a c spans) ≡ true) (f : buildFault (argsOf d a c spans) images room ≡ None) where
+    (past : PastTests (argsOf d a c spans) images room) where
   in-domain : DescriptionIn d
-  in-domain = description-in d (described (argsOf d a c spans) e)
+  in-domain = description-in d (described (argsOf d a c spans) (past .domain))
 
   past-large : faultIf (tableTooLarge d a) RomTableTooLarge ≡ None
   unfolding buildFault
-  past-large = or-left (faultIf (tableTooLarge d a) RomTableTooLarge) _ f
+  past-large = or-left (faultIf (tableTooLarge d a) RomTableTooLarge) _ (past .no-fault)
 
   past-lines : linesFault d a c ≡ None
   unfolding buildFault
-  past-lines = or-left (linesFault d a c) (lentFault d a images spans room) (or-right (faultIf (tableTooLarge d a) RomTableTooLarge) _ f)
+  past-lines = or-left (linesFault d a c) (lentFault d a images spans room) (or-right (faultIf (tableTooLarge d a) RomTableTooLarge) _ (past .no-fault))
 
   past-lent : lentFault d a images spans room ≡ None
   unfolding buildFault
-  past-lent = or-right (linesFault d a c) (lentFault d a images spans room) (or-right (faultIf (tableTooLarge d a) RomTableTooLarge) _ f)
+  past-lent = or-right (linesFault d a c) (lentFault d a images spans room) (or-right (faultIf (tableTooLarge d a) RomTableTooLarge) _ (past .no-fault))
 
   pub table-small : tableSize d a ≤ 2 ^ 20
   table-small =
@@ -92,8 +92,8 @@ module _ (d : Description) (a : AddrLayout) (c : CsDataLayout) (images : List �
 
   pub buildable : Buildable d a c images spans
   buildable = record {
-    lines = lines-few (argsOf d a c spans) e;
-    data-lines = data-count c (selected (argsOf d a c spans) e) .1;
+    lines = lines-few (argsOf d a c spans) (past .domain);
+    data-lines = data-count c (selected (argsOf d a c spans) (past .domain)) .1;
     some-bytes = in-domain .word-bytes .0;
     bytes = in-domain .word-bytes .1;
     chips = chips-right;

@@ -6,20 +6,18 @@ use table_fill::table::fill_by;
 use words::pad_word;
 ghost use mathlib.Core.Path.{_≡_};
 ghost use mathlib.Core.List.{_++_};
-ghost use mathlib.Core.Bool.{true};
 ghost use lib.ListN.{length, drop};
-ghost use Rattle.refusal.specs.declared.first.FirstFault.the-variants.{None};
-ghost use Rattle.build_args.specs.Domain.{buildIn};
-ghost use Rattle.build_args.specs.Faults.{tableSize, buildFault};
+ghost use Rattle.build_args.specs.Faults.{tableSize};
 ghost use Rattle.rom_image.specs.Entry.{tableOf};
 ghost use Rattle.rom_image.specs.Build.{padByte};
+ghost use Rattle.rom_image.specs.design.Past.{PastTests};
 
 // What an entry's bytes are where no word stands.
 const PAD_BYTE: u8 = 0xAA;
 
 // Writes the table to the front of a buffer.
 pub fn fill(b: BuildArgs, images: &[u8], table: &mut [u8])
-    requires { ⌜ (buildIn b ≡ true) × (buildFault b (now images) (length (now table)) ≡ None) ⌝ }
+    requires { ⌜ PastTests b (now images) (length (now table)) ⌝ }
     ensures { λ _. ⌜ now (table .exit) ≡ tableOf padByte b (now (images .entry))
         ++ drop (tableSize (b .description) (b .addr)) (now (table .entry)) ⌝ }
 {

@@ -51,6 +51,7 @@ use Rattle.round_trip.proofs.Fitted.{Fitted, ToldApart}
 use Rattle.round_trip.specs.RoundTrip.{Accepted, tableBuilt, chipWords, wordsTo, words, Room, firstBytes, returnedWhole, ReadsBack}
 use Rattle.build_args.proofs.Facts.{described, selected, data-base}
 use Rattle.rom_image.proofs.Buildable.{Buildable}
+use Rattle.rom_image.specs.design.Past.{PastTests}
 use Rattle.rom_image.proofs.Past.{buildable, pins-few}
 use Rattle.round_trip.proofs.Laid.{Found-at, addr-found, Cs-found-at, cs-found}
 use Rattle.round_trip.proofs.Told.{told-apart, select-at}
@@ -70,14 +71,13 @@ refused-not-built why e = zero-one (ap done e)
 
 module _ (d : Description) (a : AddrLayout) (c : CsDataLayout) (images : List ℕ) (spans : List ImageSpan) (lent : List ℕ) where
   pub record Past : Type 0 where
-    pub domain : buildIn (argsOf d a c spans) ≡ true
-    pub none : buildFault (argsOf d a c spans) images (length lent) ≡ None
+    pub tests : PastTests (argsOf d a c spans) images (length lent)
     pub table : buildOf (argsOf d a c spans) images lent .table ≡ tableOf padByte (argsOf d a c spans) images ++ drop (tableSize d a) lent
 
   by-fault : (f : FirstFault) → buildFault (argsOf d a c spans) images (length lent) ≡ f → buildIn (argsOf d a c spans) ≡ true
       → buildOf (argsOf d a c spans) images lent ≡ buildAfter (argsOf d a c spans) images lent f → buildAfter (argsOf d a c spans) images lent f .answer ≡ Answer.Done → Past
   by-fault (Of why) q i w e = absurd (refused-not-built why e)
-  by-fault None q i w e = record { domain = i; none = q; table = ap (λ (b : Built). b .table) w }
+  by-fault None q i w e = record { tests = record { domain = i; no-fault = q }; table = ap (λ (b : Built). b .table) w }
 
   by-domain : (t : Bool) → buildIn (argsOf d a c spans) ≡ t
       → buildOf (argsOf d a c spans) images lent
@@ -133,10 +133,10 @@ module _ (d : Description) (a : AddrLayout) (c : CsDataLayout) (images : List �
   past = build-past d a c images spans lent (ok .build)
 
   in-description : descriptionIn d ≡ true
-  in-description = described (argsOf d a c spans) (past .domain)
+  in-description = described (argsOf d a c spans) (past .tests .domain)
 
   can : Buildable d a c images spans
-  can = buildable d a c images spans (length lent) (past .domain) (past .none)
+  can = buildable d a c images spans (length lent) (past .tests)
 
   -- the found layouts
   laid : Found-at d a
@@ -190,9 +190,9 @@ module _ (d : Description) (a : AddrLayout) (c : CsDataLayout) (images : List �
   small : Small d a c
   small = record {
     base = base-small _ (laid .is) (laid .sound .window) (laid .sound .wide);
-    data-base = data-base c (selected (argsOf d a c spans) (past .domain));
+    data-base = data-base c (selected (argsOf d a c spans) (past .tests .domain));
     bytes = can .bytes;
-    pins = pins-few d a c images spans (length lent) (past .domain) (past .none);
+    pins = pins-few d a c images spans (length lent) (past .tests);
   }
 
   select-window : isMulti (d .«set_type») ≡ true → addr.InWindow a (stored.storedSelect s)

@@ -151,11 +151,11 @@ module _ (d : Description) (a : AddrLayout) (c : CsDataLayout) (images : List �
 
   storable : Storable d a c
   storable = record {
-    bytes = description-in d (described (argsOf d a c spans) (past .domain)) .word-bytes .0;
-    chips = description-in d (described (argsOf d a c spans) (past .domain)) .chip-count .1;
-    lines = omega (arith, lines-few (argsOf d a c spans) (past .domain));
-    line-gpio = λ k l. line-in a (addressed (argsOf d a c spans) (past .domain)) k (omega (arith, l));
-    data-lines = omega (arith, data-count c (selected (argsOf d a c spans) (past .domain)) .1);
+    bytes = description-in d (described (argsOf d a c spans) (past .tests .domain)) .word-bytes .0;
+    chips = description-in d (described (argsOf d a c spans) (past .tests .domain)) .chip-count .1;
+    lines = omega (arith, lines-few (argsOf d a c spans) (past .tests .domain));
+    line-gpio = λ k l. line-in a (addressed (argsOf d a c spans) (past .tests .domain)) k (omega (arith, l));
+    data-lines = omega (arith, data-count c (selected (argsOf d a c spans) (past .tests .domain)) .1);
     data-gpio = selects .sound .data-in;
     select = selects .sound .first-select;
   }
@@ -168,12 +168,12 @@ pub callable : (b : BuildArgs) (images lent : List ℕ) → buildOf b images len
     → Readable b × (tableSize (b .description) (b .addr) ≤ length lent)
 callable b images lent e =
     let past = build-past (b .description) (b .addr) (b .«cs_data») images (b .spans) lent e in
-    let w = description-in (b .description) (described b (past .domain)) .word-bytes in (
+    let w = description-in (b .description) (described b (past .tests .domain)) .word-bytes in (
       record {
-        pins = pins-few (b .description) (b .addr) (b .«cs_data») images (b .spans) _ (past .domain) (past .none);
+        pins = pins-few (b .description) (b .addr) (b .«cs_data») images (b .spans) _ (past .tests);
         some-bytes = w .0;
         bytes = w .1;
-        small = table-small (b .description) (b .addr) (b .«cs_data») images (b .spans) _ (past .domain) (past .none);
+        small = table-small (b .description) (b .addr) (b .«cs_data») images (b .spans) _ (past .tests);
       },
-      table-fits (b .description) (b .addr) (b .«cs_data») images (b .spans) (length lent) (past .domain) (past .none),
+      table-fits (b .description) (b .addr) (b .«cs_data») images (b .spans) (length lent) (past .tests),
     )

@@ -4,7 +4,7 @@ ghost use mathlib.Core.Path.{_≡_};
 ghost use Prim.Native.Nat.{_+_, _*_, _≤_, _<_, _^_};
 ghost use lib.ListN.{length};
 ghost use Rattle.words.specs.Words.{wordFrom};
-ghost use Rattle.table_fill.specs.design.Entries.{rawFrom, SourceIn};
+ghost use Rattle.table_fill.specs.design.Entries.{rawFrom, RawIn};
 
 // A chip's words: where the first stands, how many there are, and what is read past them.
 pub struct Source {
@@ -26,7 +26,7 @@ fn word_of(images: &[u8], w: usize, s: Source, n: u32) -> u32
 
 // The word at an address of a source, or the pad word.
 pub fn raw(images: &[u8], w: usize, s: Source, pad: u32, n: u32) -> u32
-    requires { ⌜ (w ≤ 2) × SourceIn (now images) w s × (pad < 2 ^ (8 * w)) ⌝ }
+    requires { ⌜ RawIn (now images) w s pad ⌝ }
     ensures { λ r. ⌜ r ≡ rawFrom (now (images .entry)) w s pad n ⌝ }
     ensures { λ r. ⌜ r < 2 ^ (8 * w) ⌝ }
 {

@@ -8,9 +8,7 @@ use crate::wiring::next_high;
 use crate::wiring::part_of;
 use words::put_word;
 ghost use mathlib.Core.Path.{_≡_};
-ghost use Prim.Native.Nat.{_*_, _≤_, _<_, _^_};
-ghost use lib.ListN.{length};
-ghost use Rattle.table_fill.specs.design.Entries.{WiringIn, SourcesIn, tableBy};
+ghost use Rattle.table_fill.specs.design.Entries.{TableIn, tableBy};
 
 // Writes the first entries to the front of a buffer.
 pub fn fill_by(
@@ -21,8 +19,7 @@ pub fn fill_by(
     entries: u32,
     table: &mut [u8],
 )
-    requires { ⌜ WiringIn w × SourcesIn (now images) w sources × (pad < 2 ^ (8 * w .«word_bytes»)) ⌝ }
-    requires { ⌜ (entries ≤ 2 ^ 20) × (entries * w .«word_bytes» ≤ length (now table)) ⌝ }
+    requires { ⌜ TableIn w sources pad (now images) entries (now table) ⌝ }
     ensures { λ _. ⌜ now (table .exit) ≡ tableBy w sources pad (now (images .entry)) entries (now (table .entry)) ⌝ }
 {
     let bytes = w.word_bytes as usize;

@@ -1,9 +1,9 @@
 // The positions of the lines, and what an index says by them.
 use bits::gather;
 ghost use mathlib.Core.Path.{_≡_};
-ghost use Prim.Native.Nat.{_+_, _*_, _/_, _<_, _^_};
+ghost use Prim.Native.Nat.{_+_, _*_, _/_};
 ghost use Rattle.lists.specs.Tab.{tab};
-ghost use Rattle.table_fill.specs.design.Entries.{WiringIn, partOf};
+ghost use Rattle.table_fill.specs.design.Entries.{WiringIn, HighIn, partOf};
 
 // All that an entry takes of the layouts.
 pub struct Wiring {
@@ -58,7 +58,7 @@ pub fn low_parts(w: Wiring) -> [Part; 256]
 
 // What the bits above the low eight say of the index after i: they change with every 256th.
 pub fn next_high(w: Wiring, high: Part, i: u32) -> Part
-    requires { ⌜ WiringIn w × (i < 2 ^ 24) × (high ≡ partOf w (i / 256 * 256)) ⌝ }
+    requires { ⌜ HighIn w high i ⌝ }
     ensures { λ r. ⌜ r ≡ partOf w ((i + 1) / 256 * 256) ⌝ }
 {
     if (i + 1) % 256 == 0 {

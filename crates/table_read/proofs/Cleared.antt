@@ -10,7 +10,7 @@ use Rattle.words.specs.Words.{bytesOf, wordsBytes}
 use Rattle.lists.specs.First.{firstWhere}
 use Rattle.table_read.specs.design.Buffers.{outputHeld, marksHeld, walkedOf}
 use Rattle.table_read.specs.declared.row.Walked.the-variants.{Through}
-use Rattle.table_read.proofs.Held.{Held}
+use Rattle.table_read.specs.design.Held.{Held}
 
 bytes-zero : (w : ℕ) → bytesOf w 0 ≡ replicate w 0
 unfolding bytesOf

@@ -13,7 +13,7 @@ use Rattle.table_read.specs.declared.Outcome.the-variants.{Whole, Disagr
 use Rattle.table_read.specs.declared.row.Walked as walked
 use Rattle.lists.proofs.First.{first-cong}
 use Rattle.table_read.proofs.Step.{mark-at}
-use Rattle.table_read.proofs.Held.{Held, Read}
+use Rattle.table_read.specs.design.Held.{Held, Read}
 use Rattle.table_read.proofs.RowRead.{row-rest, row-marks-rest, row-through}
 
 -- what the walk comes to is in the outcome
@@ -50,7 +50,7 @@ module _ (w : ℕ) (t v : ℕ → ℕ) (words n : ℕ) (output marks : List ℕ)
         → k₃ ≡ replicate words 0 ++ drop words k₂ → kept (Disagrees f) o₃ k₃ ≡ collectedOf w t v words n output marks
     unfolding collectedOf outcomeOf
     collected-bad f o₃ k₃ e p q =
-        let b = bad-case (ltb (firstBad t v words n) n) (t (firstBad t v words n)) f _ (sym (s .0) ∙ e) in
+        let b = bad-case (ltb (firstBad t v words n) n) (t (firstBad t v words n)) f _ (sym (s .answer) ∙ e) in
         rw (p, q, row-rest n h s, row-marks-rest n h s) (sym (ap (heldBy w t v words n output marks) b))
 
     pub collected-served : (y : Outcome) (o₃ k₃ : List ℕ) → x ≡ walked.the-variants.Through → length o₂ ≡ length o₁ → length k₂ ≡ length k₁
@@ -62,4 +62,4 @@ module _ (w : ℕ) (t v : ℕ → ℕ) (words n : ℕ) (output marks : List ℕ)
         r
         ∙ ap (servedBy w words o₂ k₂) (missing-marks t words n k₂ marks (all .told))
         ∙ served-case (ltb g words) g o₂ k₂ (all .values) (all .told) (row-rest n h s) (row-marks-rest n h s)
-        ∙ sym (ap (heldBy w t v words n output marks) (through-case (ltb (firstBad t v words n) n) (t (firstBad t v words n)) _ (sym (s .0) ∙ e)))
+        ∙ sym (ap (heldBy w t v words n output marks) (through-case (ltb (firstBad t v words n) n) (t (firstBad t v words n)) _ (sym (s .answer) ∙ e)))

@@ -8,18 +8,11 @@ use lib.Seq.{drop-at}
 use Rattle.lists.proofs.Loops.{zero-one}
 use Rattle.table_read.specs.design.Kept.{outputAfter, marksAfter}
 use Rattle.table_read.specs.design.Buffers.{kept, keepWord, outputHeld, marksHeld, walkedOf}
-use Rattle.table_read.specs.declared.row.Walked.{Walked}
+use Rattle.table_read.specs.declared.reading.Reading.{Reading}
+use Rattle.table_read.specs.design.Held.{Room, Held, Read}
 use Rattle.table_read.specs.declared.row.Walked.the-variants.{Through, Disagrees}
 use Rattle.table_read.proofs.Cong.{output-length, marks-length}
 use Rattle.table_read.proofs.Step.{step-skip, step-keep, step-bad}
-
--- the loop's invariant: none of the m entries passed disagrees, and the buffers hold what they told
-pub record Held (w words : ℕ) (t v : ℕ → ℕ) (output₀ marks₀ : List ℕ) (m : ℕ) (output marks : List ℕ) : Type 0 where
-  pub long : length output ≡ length output₀
-  pub marks-long : length marks ≡ length marks₀
-  pub through : walkedOf t v words m ≡ Through
-  pub values : output ≡ outputHeld w t v words m output₀
-  pub told : marks ≡ marksHeld t words m marks₀
 
 -- an entry that is for a word f, and says x
 pub record Entry (w words : ℕ) (t v : ℕ → ℕ) (output₀ marks₀ : List ℕ) (m : ℕ) (output marks : List ℕ) (f x : ℕ) : Type 0 where
@@ -31,19 +24,17 @@ pub record Entry (w words : ℕ) (t v : ℕ → ℕ) (output₀ marks₀ : List 
   pub says : x ≡ v m
   pub below : f < words
 
--- what a walk over n entries answers, and leaves in the buffers
-abbrev pub Read : ℕ → ℕ → (ℕ → ℕ) → (ℕ → ℕ) → ℕ → List ℕ → List ℕ → Walked → List ℕ → List ℕ → Type 0
-Read w words t v n output₀ marks₀ x output marks =
-    (x ≡ walkedOf t v words n)
-    × (((drop (words * w) output ≡ drop (words * w) output₀) × (drop words marks ≡ drop words marks₀))
-    × (x ≡ Through → (output ≡ outputHeld w t v words n output₀) × (marks ≡ marksHeld t words n marks₀)))
-
 -- what stands behind a front that was put before it
 behind : (n : ℕ) (front old new : List ℕ) → length front ≡ n → new ≡ front ++ drop n old → drop n new ≡ drop n old
 behind n front old new l e = ap (λ (x : List ℕ). drop n x) e ∙ drop-at front (drop n old) n l
 
 pub never : (f : ℕ) → Disagrees f ≡ Through → ⊥
 never f e = zero-one cc
+
+-- buffers as long as those with room have room
+pub same-room : {r : Reading} {t v : ℕ → ℕ} {output₀ marks₀ output marks : List ℕ} {m : ℕ}
+    → Held (r .«word_bytes») (r .words) t v output₀ marks₀ m output marks → Room r output₀ marks₀ → Room r output marks
+same-room h r = record { few = r .few; output-room = rw (h .long) (r .output-room); marks-room = rw (h .marks-long) (r .marks-room) }
 
 module _ {w words : ℕ} {t v : ℕ → ℕ} {output₀ marks₀ : List ℕ} {m : ℕ} {output marks : List ℕ} where
   module _ (h : Held w words t v output₀ marks₀ m output marks) where
@@ -54,11 +45,14 @@ module _ {w words : ℕ} {t v : ℕ → ℕ} {output₀ marks₀ : List ℕ} {m 
     marks-rest = behind words (marksAfter t words m) marks₀ marks (marks-length t words m) (h .told)
 
     -- against what stands there now
-    pub own : output ≡ outputHeld w t v words m output
+    own : output ≡ outputHeld w t v words m output
     own = h .values ∙ ap (λ (x : List ℕ). outputAfter w t v words m ++ x) (sym rest)
 
-    pub marks-own : marks ≡ marksHeld t words m marks
+    marks-own : marks ≡ marksHeld t words m marks
     marks-own = h .told ∙ ap (λ (x : List ℕ). marksAfter t words m ++ x) (sym marks-rest)
+
+    pub held-own : Held w words t v output marks m output marks
+    held-own = record { long = refl; marks-long = refl; through = h .through; values = own; told = marks-own }
 
     -- one entry more
     held-next : (n : ℕ) (output′ marks′ : List ℕ) → n ≡ suc m → length output′ ≡ length output → length marks′ ≡ length marks
@@ -80,7 +74,13 @@ module _ {w words : ℕ} {t v : ℕ → ℕ} {output₀ marks₀ : List ℕ} {m 
 
     -- the end
     pub held-done : (n : ℕ) → m ≡ n → Read w words t v n output₀ marks₀ Through output marks
-    held-done n e = (sym (rw e at (h .through)), ((rest, marks-rest), λ _. (rw e at (h .values), rw e at (h .told))))
+    held-done n e = record {
+      answer = sym (rw e at (h .through));
+      rest = rest;
+      marks-rest = marks-rest;
+      values = λ _. rw e at (h .values);
+      told = λ _. rw e at (h .told);
+    }
 
     -- by other names
     pub held-same : (output′ marks′ : List ℕ) → output′ ≡ output → marks′ ≡ marks → Held w words t v output₀ marks₀ m output′ marks′
@@ -106,4 +106,10 @@ module _ {w words : ℕ} {t v : ℕ → ℕ} {output₀ marks₀ : List ℕ} {m 
     pub held-bad : (n : ℕ) → m < n → kept false output′ marks′ ≡ keepWord w f x output marks → Read w words t v n output₀ marks₀ (Disagrees f) output′ marks′
     held-bad n b k =
         let s = step-bad w words m t v output marks output′ marks′ below (h .few) room marks-room (h .held .through) (own (h .held)) (marks-own (h .held)) (rw (h .for, h .says) at k) n b in
-        (ap Disagrees (h .for) ∙ sym (s .0), ((s .1 ∙ rest (h .held), s .2 ∙ marks-rest (h .held)), λ e. absurd (never f e)))
+        record {
+          answer = ap Disagrees (h .for) ∙ sym (s .0);
+          rest = s .1 ∙ rest (h .held);
+          marks-rest = s .2 ∙ marks-rest (h .held);
+          values = λ e. absurd (never f e);
+          told = λ e. absurd (never f e);
+        }

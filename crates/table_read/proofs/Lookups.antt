@@ -67,6 +67,7 @@ valueFound low-bytes high-bytes rom entry = getD low-bytes (rom * 256 + entry % 
 -- an index of a row
 pub record Looked (r : Reading) (row : Row) (lows low-bytes high-bytes : List ℕ) (low : ℕ) : Type 0 where
   pub reading : ReadingIn r
+  pub few : row .start + row .count ≤ 2 ^ 31
   pub in-row : RowIn r row
   pub tables : TablesIn r lows low-bytes high-bytes
   pub within : low < row .count
@@ -77,7 +78,7 @@ module _ {r : Reading} {row : Row} {lows low-bytes high-bytes : List ℕ} {low :
 
   -- how many there are
   pub index-few : index < 2 ^ 31
-  index-few = omega (arith, h .within, h .in-row .few)
+  index-few = omega (arith, h .within, h .few)
 
   pub low-few : low < 256
   low-few = omega (arith, h .within, h .in-row .count)

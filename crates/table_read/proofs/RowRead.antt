@@ -9,10 +9,11 @@ use lib.ListN.{length, drop}
 use borrow.Author.Tests.{ltb-true, lt-ltb}
 use Rattle.table_read.specs.design.Kept.{disagrees, firstBad, outputAfter, marksAfter}
 use Rattle.table_read.specs.design.Buffers.{walkedOf}
+use Rattle.table_read.specs.design.Held.{Held, Read}
 use Rattle.table_read.specs.declared.row.Walked.{Walked}
 use Rattle.table_read.specs.declared.row.Walked.the-variants.{Through, Disagrees}
 use Rattle.lists.proofs.First.{first-stays}
-use Rattle.table_read.proofs.Held.{Held, Read, never, rest, marks-rest}
+use Rattle.table_read.proofs.Held.{never, rest, marks-rest}
 
 -- one that disagrees does so however many entries follow
 module _ (t v : ℕ → ℕ) (words m n f : ℕ) where
@@ -31,22 +32,27 @@ module _ {w words : ℕ} {t v : ℕ → ℕ} {output₀ marks₀ : List ℕ} {m 
     (h : Held w words t v output₀ marks₀ m output marks) (s : Read w words t v n output marks x output′ marks′) where
   -- what stands past the words
   pub row-rest : drop (words * w) output′ ≡ drop (words * w) output₀
-  row-rest = s .1 .0 .0 ∙ rest h
+  row-rest = s .rest ∙ rest h
 
   pub row-marks-rest : drop words marks′ ≡ drop words marks₀
-  row-marks-rest = s .1 .0 .1 ∙ marks-rest h
+  row-marks-rest = s .marks-rest ∙ marks-rest h
 
   -- entries that are read
   pub row-through : x ≡ Through → length output′ ≡ length output → length marks′ ≡ length marks → Held w words t v output₀ marks₀ n output′ marks′
   row-through e l k = record {
     long = l ∙ h .long;
     marks-long = k ∙ h .marks-long;
-    through = sym (s .0) ∙ e;
-    values = s .1 .1 e .0 ∙ ap (λ (a : List ℕ). outputAfter w t v words n ++ a) (rest h);
-    told = s .1 .1 e .1 ∙ ap (λ (a : List ℕ). marksAfter t words n ++ a) (marks-rest h);
+    through = sym (s .answer) ∙ e;
+    values = s .values e ∙ ap (λ (a : List ℕ). outputAfter w t v words n ++ a) (rest h);
+    told = s .told e ∙ ap (λ (a : List ℕ). marksAfter t words n ++ a) (marks-rest h);
   }
 
   -- one that disagrees
   pub row-bad : (entries f : ℕ) → x ≡ Disagrees f → n ≤ entries → Read w words t v entries output₀ marks₀ (Disagrees f) output′ marks′
-  row-bad entries f e l =
-      (sym (disagrees-on t v words n entries f (sym (s .0) ∙ e) l), ((row-rest, row-marks-rest), λ q. absurd (never f q)))
+  row-bad entries f e l = record {
+    answer = sym (disagrees-on t v words n entries f (sym (s .answer) ∙ e) l);
+    rest = row-rest;
+    marks-rest = row-marks-rest;
+    values = λ q. absurd (never f q);
+    told = λ q. absurd (never f q);
+  }

@@ -3,3 +3,4 @@ pub mod Kept
 pub mod Reading
 pub mod Rows
 pub mod Buffers
+pub mod Held

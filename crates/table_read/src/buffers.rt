@@ -3,11 +3,11 @@ use words::put_word;
 use words::word_at;
 ghost use mathlib.Core.Path.{_≡_};
 ghost use mathlib.Core.List.{_++_};
-ghost use Prim.Native.Nat.{_+_, _*_, _≤_, _<_};
+ghost use Prim.Native.Nat.{_≤_};
 ghost use lib.Dec.{eqb};
 ghost use lib.ListN.{length, getD, drop, replicate};
 ghost use Rattle.lists.specs.First.{firstWhere};
-ghost use Rattle.table_read.specs.design.Buffers.{kept, keepWord};
+ghost use Rattle.table_read.specs.design.Buffers.{WordIn, kept, keepWord};
 
 // Makes the first n bytes 0.
 pub fn clear(buffer: &mut [u8], n: usize)
@@ -23,7 +23,7 @@ pub fn clear(buffer: &mut [u8], n: usize)
 
 // Keeps a value of word f where it has none yet. Whether it is the one kept.
 pub fn keep(output: &mut [u8], marks: &mut [u8], w: usize, f: u32, value: u32) -> bool
-    requires { ⌜ (w ≤ 2) × (f < length (now marks)) × (f * w + w ≤ length (now output)) ⌝ }
+    requires { ⌜ WordIn w f (now output) (now marks) ⌝ }
     ensures { λ r. ⌜ kept r (now (output .exit)) (now (marks .exit))
         ≡ keepWord w f value (now (output .entry)) (now (marks .entry)) ⌝ }
 {

@@ -13,12 +13,13 @@ use crate::row::Walked;
 use crate::walk::walk;
 ghost use mathlib.Core.Path.{_≡_};
 ghost use mathlib.Core.List.{_++_};
-ghost use Prim.Native.Nat.{_*_, _^_, _≤_};
+ghost use Prim.Native.Nat.{_*_};
 ghost use lib.Dec.{eqb};
-ghost use lib.ListN.{length, getD, drop, replicate};
-ghost use Rattle.table_read.specs.design.Reading.{ReadingIn, wordBy, valueBy};
+ghost use lib.ListN.{getD, drop, replicate};
+ghost use Rattle.table_read.specs.design.Reading.{wordBy, valueBy};
 ghost use Rattle.lists.specs.First.{firstWhere};
 ghost use Rattle.table_read.specs.design.Buffers.{kept, servedBy, collectedOf};
+ghost use Rattle.table_read.specs.design.Held.{Room, Lent};
 
 // What all entries come to; the word that one is at fault for is counted through all ROMs.
 pub enum Outcome {
@@ -28,7 +29,7 @@ pub enum Outcome {
 }
 
 fn clear_both(r: Reading, output: &mut [u8], marks: &mut [u8])
-    requires { ⌜ (r .words ≤ 2 ^ 26) × (r .words * r .«word_bytes» ≤ length (now output)) × (r .words ≤ length (now marks)) ⌝ }
+    requires { ⌜ Room r (now output) (now marks) ⌝ }
     ensures { λ _. ⌜ now (output .exit) ≡ replicate (r .words * r .«word_bytes») 0
         ++ drop (r .words * r .«word_bytes») (now (output .entry)) ⌝ }
     ensures { λ _. ⌜ now (marks .exit) ≡ replicate (r .words) 0 ++ drop (r .words) (now (marks .entry)) ⌝ }
@@ -40,7 +41,7 @@ fn clear_both(r: Reading, output: &mut [u8], marks: &mut [u8])
 
 // What the marks say once no entry disagrees.
 fn served(r: Reading, output: &mut [u8], marks: &mut [u8]) -> Outcome
-    requires { ⌜ (r .words ≤ 2 ^ 26) × (r .words * r .«word_bytes» ≤ length (now output)) × (r .words ≤ length (now marks)) ⌝ }
+    requires { ⌜ Room r (now output) (now marks) ⌝ }
     ensures { λ x. ⌜ kept x (now (output .exit)) (now (marks .exit))
         ≡ servedBy (r .«word_bytes») (r .words) (now (output .entry)) (now (marks .entry))
         (firstWhere (r .words) (λ f. eqb (getD (now (marks .entry)) f 0) 0)) ⌝ }
@@ -61,8 +62,7 @@ pub fn collect(
     output: &mut [u8],
     marks: &mut [u8],
 ) -> Outcome
-    requires { ⌜ ReadingIn r × (entries ≤ 2 ^ 31) × (entries * r .«word_bytes» ≤ length (now stored)) ⌝ }
-    requires { ⌜ (r .words * r .«word_bytes» ≤ length (now output)) × (r .words ≤ length (now marks)) ⌝ }
+    requires { ⌜ Lent r (now stored) (now output) (now marks) entries ⌝ }
     ensures { λ x. ⌜ kept x (now (output .exit)) (now (marks .exit))
         ≡ collectedOf (r .«word_bytes») (wordBy r) (valueBy r (now (stored .entry))) (r .words) entries (now (output .entry))
         (now (marks .entry)) ⌝ }

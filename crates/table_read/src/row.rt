@@ -5,12 +5,9 @@ use crate::reading::unforced;
 use crate::reading::word_for;
 use words::word_at;
 ghost use mathlib.Core.Path.{_≡_};
-ghost use Prim.Native.Nat.{_+_, _*_, _/_, _%_, _<_, _≤_, _^_};
-ghost use lib.ListN.{length, drop, getD};
-ghost use Rattle.table_read.specs.design.Reading.{ReadingIn, wordBy, valueBy};
-ghost use Rattle.table_read.specs.design.Buffers.{outputHeld, marksHeld, walkedOf};
-ghost use Rattle.table_read.specs.design.Rows.{TablesIn, RowIn};
-ghost use Rattle.table_read.specs.declared.row.Walked.the-variants.{Through};
+ghost use Prim.Native.Nat.{_+_, _*_, _/_, _%_, _<_, _^_};
+ghost use lib.ListN.{length, getD};
+ghost use Rattle.table_read.specs.design.Held.{OnwardRow, ReadBy};
 
 // A row: what the bits above the low eight say of its indices, the first of them, and how many there are.
 pub struct Row {
@@ -51,21 +48,9 @@ pub fn read_row(
     output: &mut [u8],
     marks: &mut [u8],
 ) -> Walked
-    requires { ⌜ ReadingIn r × RowIn r row × TablesIn r (now lows) (now «low_bytes») (now «high_bytes») ⌝ }
-    requires { ⌜ ((row .start + row .count) * r .«word_bytes» ≤ length (now stored))
-        × (r .words * r .«word_bytes» ≤ length (now output)) × (r .words ≤ length (now marks)) ⌝ }
-    requires { ⌜ walkedOf (wordBy r) (valueBy r (now stored)) (r .words) (row .start) ≡ Through ⌝ }
-    requires { ⌜
-        (now output ≡ outputHeld (r .«word_bytes») (wordBy r) (valueBy r (now stored)) (r .words) (row .start) (now output))
-        × (now marks ≡ marksHeld (wordBy r) (r .words) (row .start) (now marks)) ⌝ }
-    ensures { λ x. ⌜ x ≡ walkedOf (wordBy r) (valueBy r (now (stored .entry))) (r .words) (row .start + row .count) ⌝ }
-    ensures { λ _. ⌜
-        (drop (r .words * r .«word_bytes») (now (output .exit)) ≡ drop (r .words * r .«word_bytes») (now (output .entry)))
-        × (drop (r .words) (now (marks .exit)) ≡ drop (r .words) (now (marks .entry))) ⌝ }
-    ensures { λ x. ⌜ (x ≡ Through →
-        (now (output .exit)
-        ≡ outputHeld (r .«word_bytes») (wordBy r) (valueBy r (now (stored .entry))) (r .words) (row .start + row .count) (now (output .entry)))
-        × (now (marks .exit) ≡ marksHeld (wordBy r) (r .words) (row .start + row .count) (now (marks .entry)))) ⌝ }
+    requires { ⌜ OnwardRow r row (now lows) (now «low_bytes») (now «high_bytes») (now stored) (now output) (now marks) ⌝ }
+    ensures { λ x. ⌜ ReadBy r (now (stored .entry)) (row .start + row .count)
+        (now (output .entry)) (now (marks .entry)) x (now (output .exit)) (now (marks .exit)) ⌝ }
 {
     let w = r.word_bytes as usize;
     let roms = r.roms;

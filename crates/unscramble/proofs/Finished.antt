@@ -14,7 +14,8 @@ use Rattle.refusal.specs.declared.Answer.the-variants.{Done}
 use Rattle.refusal.specs.declared.first.FirstFault.the-variants.{None}
 use Rattle.picks.specs.Picks.{chipsFit}
 use Rattle.table_read.specs.design.Kept.{outputAfter, outcomeOf}
-use Rattle.table_read.specs.design.Reading.{wordBy, valueBy, ReadingIn}
+use Rattle.table_read.specs.design.Reading.{wordBy, valueBy}
+use Rattle.table_read.specs.design.Held.{Lent}
 use Rattle.table_read.specs.declared.reading.Reading.{Reading}
 use Rattle.table_read.specs.design.Buffers.{Kept, kept, marksHeld, heldBy, collectedOf}
 use Rattle.table_read.specs.declared.Outcome.{Outcome}
@@ -25,6 +26,7 @@ use Rattle.stored_slot.specs.Faults.{romsFault}
 use Rattle.stored_slot.specs.Words.{allWords}
 use Rattle.unscramble.specs.design.Place.{outcomeFault}
 use Rattle.unscramble.proofs.WordAt.{wordAt, saidAt}
+use Rattle.unscramble.specs.design.Past.{PastTests}
 use Rattle.unscramble.specs.design.Reading.{Readable, readingOf}
 use Rattle.unscramble.specs.Recovered.{ReadBack, readBack, front, inconsistent, unserved, recovered, afterEntries}
 use Rattle.stored_slot.specs.declared.stored.StoredSlot.{StoredSlot}
@@ -102,23 +104,28 @@ module _ (s : StoredSlot) (set : ChipSetType) (stored output marks : List ℕ)
 
 -- the same of a slot that nothing before the entries refuses, for the code's own reading and number of entries
 module _ (s : StoredSlot) (set : ChipSetType) (stored output marks : List ℕ)
-    (in-domain : storedIn s ≡ true) (none : romsFault s set stored (length output) (length marks) ≡ None) where
+    (past : PastTests s set stored (length output) (length marks)) where
   abbrev can : Readable s set
-  can = readable s set stored (length output) (length marks) in-domain none
+  can = readable s set stored (length output) (length marks) past
 
   abbrev data-lines : (rom : ℕ) → rom < s .«num_roms» → dataLines (romAt s rom) ≡ 8 * wordBytes s
-  data-lines = data-whole s set stored (length output) (length marks) in-domain none
+  data-lines = data-whole s set stored (length output) (length marks) past
 
   abbrev Collectable : Reading → ℕ → Type 0
-  Collectable r n =
-      (ReadingIn r × (n ≤ 2 ^ 31) × (n * r .«word_bytes» ≤ length stored)) × ((r .words * r .«word_bytes» ≤ length output) × (r .words ≤ length marks))
+  Collectable r n = Lent r stored output marks n
 
   collectable-so : Collectable (readingOf s set) (2 ^ storedPins s)
   unfolding readingOf
-  collectable-so = (
-    (reading-in s set (few-roms s in-domain) data-lines can, pow-mono {j = 31} (omega (arith, can .pins)), le-of-eq (sym (table-long s set stored (length output) (length marks) in-domain none))),
-    (room-output s set stored (length output) (length marks) in-domain none, room-marks s set stored (length output) (length marks) in-domain none),
-  )
+  collectable-so = record {
+    reading = reading-in s set (few-roms s (past .domain)) data-lines can;
+    few = pow-mono {j = 31} (omega (arith, can .pins));
+    entries = le-of-eq (sym (table-long s set stored (length output) (length marks) past));
+    room = record {
+      few = can .words;
+      output-room = room-output s set stored (length output) (length marks) past;
+      marks-room = room-marks s set stored (length output) (length marks) past;
+    };
+  }
 
   pub collectable : (r : Reading) (n : ℕ) → r ≡ readingOf s set → n ≡ 2 ^ storedPins s → Collectable r n
   collectable r n e h = subst (λ (x : Reading). Collectable x n) (sym e) (subst (Collectable (readingOf s set)) (sym h) collectable-so)
@@ -132,7 +139,7 @@ module _ (s : StoredSlot) (set : ChipSetType) (stored output marks : List ℕ)
   unfolding readingOf
   finishes-so x o m why e h =
       ap (λ (y : Answer). readBack y o m) e
-      ∙ finished s set stored output marks (fit s set stored (length output) (length marks) in-domain none) (few-roms s in-domain) data-lines x o m h
+      ∙ finished s set stored output marks (fit s set stored (length output) (length marks) past) (few-roms s (past .domain)) data-lines x o m h
 
   pub finishes : (r : Reading) (n : ℕ) → r ≡ readingOf s set → n ≡ 2 ^ storedPins s → Finishes r n
   finishes r n e h = subst (λ (x : Reading). Finishes x n) (sym e) (subst (Finishes (readingOf s set)) (sym h) finishes-so)

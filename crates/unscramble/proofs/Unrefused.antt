@@ -26,6 +26,7 @@ use Rattle.refusal.proofs.Firsts.{or-left, or-right, first-all}
 use Rattle.stored_slot.specs.Stored.{romAt, storedIn, wordBytes, addrBase, storedDataBase, storedSelect, storedPins, addrLines, dataLines, within, inWindow, xInside}
 use Rattle.stored_slot.specs.Words.{romWords, wordsBefore, allWords, xAt, pickGpio}
 use Rattle.stored_slot.specs.Faults.{layoutFault, romFault, xFaults, selectFault, pickFault, roomFault, romsFault}
+use Rattle.unscramble.specs.design.Past.{PastTests}
 use Rattle.unscramble.specs.design.Reading.{Readable}
 use Rattle.stored_slot.specs.declared.stored.StoredSlot.{StoredSlot}
 
@@ -100,15 +101,15 @@ module _ (s : StoredSlot) (in-domain : storedIn s ≡ true) where
       (x-small s (s .x2) (and-right (candidatesIn (s .x1)) (candidatesIn (s .x2)) pins-in))
 
 module _ (s : StoredSlot) (set : ChipSetType) (stored : List ℕ) (output marks : ℕ)
-    (in-domain : storedIn s ≡ true) (none : romsFault s set stored output marks ≡ None) where
+    (past : PastTests s set stored output marks) where
   -- the tests one after the other
   layout-none : layoutFault s stored ≡ None
   unfolding romsFault
-  layout-none = or-left _ _ none
+  layout-none = or-left _ _ (past .no-fault)
 
   past-layout : orElse (firstOf (s .«num_roms») (romFault s)) (orElse (faultIf (not (chipsFit set (s .«num_roms»))) BadLayout) (orElse (pickFault s set) (roomFault s output marks))) ≡ None
   unfolding romsFault
-  past-layout = or-right (layoutFault s stored) _ none
+  past-layout = or-right (layoutFault s stored) _ (past .no-fault)
 
   past-roms : orElse (faultIf (not (chipsFit set (s .«num_roms»))) BadLayout) (orElse (pickFault s set) (roomFault s output marks)) ≡ None
   past-roms = or-right (firstOf (s .«num_roms») (romFault s)) _ past-layout
@@ -192,11 +193,11 @@ module _ (s : StoredSlot) (set : ChipSetType) (stored : List ℕ) (output marks 
   -- the lines that pick
   select-small : (x : ChipSetType) → pickFault s x ≡ None → (k : ℕ) → pickGpio s x k ≤ 255
   select-small Single e k = omega arith
-  select-small Banked e k = x-at-small s in-domain k
+  select-small Banked e k = x-at-small s (past .domain) k
   select-small Multi e zero =
       let outside = no-fault (ltb 255 (storedSelect s) || not (inWindow s (storedSelect s))) BadLayout (or-right (faultIf (not (eqb (s .«alg_cs» .alg) 0)) UnknownAlgorithm) _ (or-right (xFaults s) (selectFault s) e)) in
       ltb-false 255 (storedSelect s) (or-false-left (ltb 255 (storedSelect s)) (not (inWindow s (storedSelect s))) outside)
-  select-small Multi e (suc k) = x-at-small s in-domain k
+  select-small Multi e (suc k) = x-at-small s (past .domain) k
 
   pub readable : Readable s set
   readable = record {
@@ -205,5 +206,5 @@ module _ (s : StoredSlot) (set : ChipSetType) (stored : List ℕ) (output marks 
     addr-base = addr-base-in;
     data-base = data-base-in;
     pick = select-small set (or-left (pickFault s set) (roomFault s output marks) past-count);
-    words = words-few s in-domain;
+    words = words-few s (past .domain);
   }

@@ -24,10 +24,10 @@ ghost use mathlib.Core.List.{List};
 ghost use Prim.Native.Nat.{ℕ};
 ghost use lib.ListN.{length};
 ghost use Rattle.refusal.specs.First.{orElse};
-ghost use Rattle.refusal.specs.declared.first.FirstFault.the-variants.{None};
 ghost use Rattle.stored_slot.specs.Stored.{storedIn};
 ghost use Rattle.stored_slot.specs.Faults.{romsFault};
 ghost use Rattle.unscramble.specs.Recovered.{readBack, pluginRead, inconsistent, unserved, afterEntries, readAfter, unscrambled};
+ghost use Rattle.unscramble.specs.design.Past.{PastTests};
 
 // A plugin is stored as it is.
 fn plugin(stored: &[u8], output: &mut [u8]) -> Answer
@@ -50,7 +50,7 @@ fn read_entries(
     output: &mut [u8],
     marks: &mut [u8],
 ) -> Answer
-    requires { ⌜ (storedIn s ≡ true) × (romsFault s «set_type» (now stored) (length (now output)) (length (now marks)) ≡ None) ⌝ }
+    requires { ⌜ PastTests s «set_type» (now stored) (length (now output)) (length (now marks)) ⌝ }
     ensures { λ r. ⌜ readBack r (now (output .exit)) (now (marks .exit))
         ≡ afterEntries s «set_type» (now (stored .entry)) (now (output .entry)) (now (marks .entry))
         (orElse (inconsistent s «set_type» (now (stored .entry))) (unserved s «set_type»)) ⌝ }

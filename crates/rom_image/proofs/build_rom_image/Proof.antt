@@ -61,10 +61,11 @@ build-fault-requires c κs =
 
 fill-requires : tie.Need-fill-requires
 fill-requires c κs =
-    let s = c .before .before .before .before .before .before .before .before in (
-      inside (s .args .b) (s .args .images .now) (s .args .table .now) _ (c .before .before .before .before .before .in-domain .ensures) (c .before .before .before .before .if1 .left),
-      sym (c .before .before .before .build-fault .ensures) ∙ c .before .enum-told .given .1,
-    )
+    let s = c .before .before .before .before .before .before .before .before in
+    record {
+      domain = inside (s .args .b) (s .args .images .now) (s .args .table .now) _ (c .before .before .before .before .before .in-domain .ensures) (c .before .before .before .before .if1 .left);
+      no-fault = sym (c .before .before .before .build-fault .ensures) ∙ c .before .enum-told .given .1;
+    }
 
 returns-2 : tie.Need-returns-2
 returns-2 c =

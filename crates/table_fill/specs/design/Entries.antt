@@ -1,7 +1,7 @@
 -- How a table is filled: positions of the lines, where the words of the chips stand, and an entry by them. What an entry holds is not
 -- defined by it, but by rom_image's `entryAt`, and that both say the same is proved there. Assumes nothing.
 use mathlib.Core.Path.{_≡_}
-use Prim.Native.Nat.{ℕ, _+_, _*_, _%_, _^_, _≤_, _<_}
+use Prim.Native.Nat.{ℕ, _+_, _*_, _/_, _%_, _^_, _≤_, _<_}
 use mathlib.Core.Bool.{true, false, cond}
 use mathlib.Core.List.{List, _++_}
 use lib.Dec.{ltb}
@@ -53,6 +53,12 @@ rawFrom images w s pad n =
     cond (ltb n (s .count)) (wordFrom w images (s .start + n * w))
     (cond (s .mirrored) (wordFrom w images (s .start + n % s .count * w)) pad)
 
+-- what one word takes: its source, and a pad that is a word
+pub record RawIn (images : List ℕ) (w : ℕ) (s : Source) (pad : ℕ) : Type 0 where
+  pub bytes : w ≤ 2
+  pub source-in : SourceIn images w s
+  pub pad-short : pad < 2 ^ (8 * w)
+
 -- an entry by positions and sources
 unfoldable pub entryBy : Wiring → List Source → ℕ → List ℕ → ℕ → ℕ
 entryBy w sources pad images i =
@@ -63,3 +69,17 @@ entryBy w sources pad images i =
 abbrev pub tableBy : Wiring → List Source → ℕ → List ℕ → ℕ → List ℕ → List ℕ
 tableBy w sources pad images entries old =
     entriesBytes (w .«word_bytes») (entryBy w sources pad images) entries ++ drop (entries * w .«word_bytes») old
+
+-- what a table takes: positions, sources and a pad that is a word, and room for its entries
+pub record TableIn (w : Wiring) (sources : List Source) (pad : ℕ) (images : List ℕ) (entries : ℕ) (table : List ℕ) : Type 0 where
+  pub wiring-in : WiringIn w
+  pub sources-in : SourcesIn images w sources
+  pub pad-short : pad < 2 ^ (8 * w .«word_bytes»)
+  pub few : entries ≤ 2 ^ 20
+  pub room : entries * w .«word_bytes» ≤ length table
+
+-- what the bits above the low eight say of index i
+pub record HighIn (w : Wiring) (high : Part) (i : ℕ) : Type 0 where
+  pub wiring-in : WiringIn w
+  pub few : i < 2 ^ 24
+  pub high-is : high ≡ partOf w (i / 256 * 256)

@@ -4,7 +4,8 @@ use Prim.Native.Nat.{ℕ}
 use borrow.Author.Needs.{needs}
 use Rattle.table_read.specs.design.Reading.{wordBy, valueBy}
 use Rattle.table_read.specs.declared.reading.Reading.{Reading}
-use Rattle.table_read.proofs.Held.{Held, own, marks-own}
+use Rattle.table_read.specs.design.Held.{Held, Room}
+use Rattle.table_read.proofs.Held.{held-own, same-room}
 use Rattle.table_read.proofs.Cleared.{held-none}
 use Rattle.table_read.proofs.Collected.{collected-bad, collected-served}
 use Rattle.table_read.proofs.collect.Statement.{statement}
@@ -37,7 +38,7 @@ walk-requires : tie.Need-walk-requires
 walk-requires c κs =
     let h = held c in
     let p = start c .pre in
-    (p .0, ((rw (h .long) (p .1 .0), rw (h .marks-long) (p .1 .1)), (own h, marks-own h)))
+    record { lent = record { reading = p .reading; few = p .few; entries = p .entries; room = same-room h (p .room) }; held = held-own h }
 
 returns : tie.Need-returns
 returns c =

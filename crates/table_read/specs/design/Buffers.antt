@@ -1,9 +1,9 @@
 -- What the lent output and marks hold. Assumes nothing.
-use Prim.Native.Nat.{ℕ, _+_, _*_}
+use Prim.Native.Nat.{ℕ, _+_, _*_, _≤_, _<_}
 use mathlib.Core.Bool.{Bool, true, cond}
 use mathlib.Core.List.{List, _++_, _∷_}
 use lib.Dec.{eqb, ltb}
-use lib.ListN.{getD, take, drop, replicate}
+use lib.ListN.{length, getD, take, drop, replicate}
 use Rattle.words.specs.Words.{bytesOf, chipWord}
 use Rattle.table_read.specs.design.Kept.{outputAfter, marksAfter, firstBad, outcomeOf}
 use Rattle.table_read.specs.declared.Outcome.{Outcome}
@@ -18,6 +18,12 @@ pub record Kept (A : Type 0) : Type 0 where
 
 abbrev pub kept : {A : Type 0} → A → List ℕ → List ℕ → Kept A
 kept a o m = record { answer = a; output = o; marks = m }
+
+-- word f has its bytes and its mark in the buffers
+pub record WordIn (w f : ℕ) (output marks : List ℕ) : Type 0 where
+  pub bytes : w ≤ 2
+  pub mark : f < length marks
+  pub room : f * w + w ≤ length output
 
 -- a value of word f is kept where the word has no mark
 abbrev pub keepWord : ℕ → ℕ → ℕ → List ℕ → List ℕ → Kept Bool

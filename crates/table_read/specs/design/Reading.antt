@@ -44,7 +44,12 @@ wordBy r i =
 unfoldable pub valueBy : Reading → List ℕ → ℕ → ℕ
 valueBy r stored i = partBy (r .«data_lines») (romBy r i) (entryWord (r .«word_bytes») stored i)
 
--- no more lines than there is room for
+-- one of the five maps has no more lines than there is room for
+pub record MapIn (maps : List Map) (k : ℕ) : Type 0 where
+  pub within : k < 5
+  pub lines : getD maps k noMap .lines ≤ 32
+
+-- so have all
 abbrev pub MapsIn : List Map → Type 0
 MapsIn maps = (k : ℕ) → k < 5 → getD maps k noMap .lines ≤ 32
 

@@ -1,7 +1,7 @@
 -- How the entries are read: rows of 256, and the tables of what eight bits come to. No answer is defined by it: `collectedOf` says what
 -- the entries come to. Assumes nothing.
 use mathlib.Core.Path.{_≡_}
-use Prim.Native.Nat.{ℕ, _+_, _*_, _/_, _%_, _^_, _≤_}
+use Prim.Native.Nat.{ℕ, _*_, _/_, _%_, _≤_}
 use mathlib.Core.List.{List}
 use Rattle.lists.specs.Tab.{tab}
 use Rattle.table_read.specs.design.Reading.{partBy}
@@ -25,4 +25,3 @@ pub record RowIn (r : Reading) (row : Row) : Type 0 where
   pub high : row .high ≡ highOf (r .address) (row .start)
   pub start : row .start % 256 ≡ 0
   pub count : row .count ≤ 256
-  pub few : row .start + row .count ≤ 2 ^ 31

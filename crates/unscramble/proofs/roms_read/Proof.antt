@@ -8,7 +8,7 @@ use Rattle.unscramble.proofs.roms_read.Tie as tie
 read-entries-requires : tie.Need-read-entries-requires
 read-entries-requires c κs = let t = c .before .before in
     let f = t .before .before in
-    (f .before .before .before .before .pre, sym (f .roms-fault .ensures) ∙ t .enum-told .given .1)
+    record { domain = f .before .before .before .before .pre; no-fault = sym (f .roms-fault .ensures) ∙ t .enum-told .given .1 }
 
 returns : tie.Need-returns
 returns c = let f = c .before .before .before in

@@ -4,10 +4,10 @@ use mathlib.Core.List.{List, _++_}
 use Prim.Native.Nat.{ℕ, _*_, _%_, _^_, _<_, _≤_}
 use native.Mathlib.Omega.{arith}
 use borrow.Author.Needs.{needs}
-use lib.ListN.{drop}
+use lib.ListN.{length, drop}
 use Rattle.lists.proofs.Shifts.{shifted-one}
 use Rattle.words.proofs.Words.{pad-lt}
-use Rattle.table_fill.specs.design.Entries.{WiringIn, SourcesIn, tableBy}
+use Rattle.table_fill.specs.design.Entries.{TableIn, tableBy}
 use Rattle.table_fill.specs.declared.wiring.Wiring.{Wiring}
 use Rattle.table_fill.specs.declared.sources.Source.{Source}
 use Rattle.slot.specs.declared.description.Description.{Description}
@@ -27,7 +27,7 @@ use Rattle.rom_image.proofs.table.fill.Statement.{statement}
 use Rattle.rom_image.proofs.table.fill.Tie as tie
 
 can : (s : tie.Start) → Buildable (s .args .b .description) (s .args .b .addr) (s .args .b .«cs_data») (s .args .images .now) (s .args .b .spans)
-can s = buildable (s .args .b .description) (s .args .b .addr) (s .args .b .«cs_data») (s .args .images .now) (s .args .b .spans) _ (s .pre .0) (s .pre .1)
+can s = buildable (s .args .b .description) (s .args .b .addr) (s .args .b .«cs_data») (s .args .images .now) (s .args .b .spans) _ (s .pre)
 
 pad-word-requires : tie.Need-pad-word-requires
 pad-word-requires c κs = can (c .before .before .before .before .before .before .before) .bytes
@@ -35,13 +35,13 @@ pad-word-requires c κs = can (c .before .before .before .before .before .before
 wiring-requires : tie.Need-wiring-requires
 wiring-requires c κs =
     let s = c .before .before .before .before .before .before .before .before in
-    omega (arith, data-base (s .args .b .«cs_data») (selected (s .args .b) (s .pre .0)))
+    omega (arith, data-base (s .args .b .«cs_data») (selected (s .args .b) (s .pre .domain)))
 
 sources-requires : tie.Need-sources-requires
 sources-requires c κs = can (c .before .before .before .before .before .before .before .before .before) .some-bytes
 
 few-pins : (s : tie.Start) → s .args .b .addr .«num_addr_pins» < 32
-few-pins s = pins-few (s .args .b .description) (s .args .b .addr) (s .args .b .«cs_data») (s .args .images .now) (s .args .b .spans) _ (s .pre .0) (s .pre .1)
+few-pins s = pins-few (s .args .b .description) (s .args .b .addr) (s .args .b .«cs_data») (s .args .images .now) (s .args .b .spans) _ (s .pre)
 
 shl-fill-by : tie.Need-shl-fill-by
 shl-fill-by c = few-pins (c .before .before .before .before .before .before .before .before .before .before .before)
@@ -52,10 +52,11 @@ entries pins h = shifted-one pins 32 (omega arith)
 -- what is handed on, by what it is
 module _ (d : Description) (a : AddrLayout) (l : CsDataLayout) (images : List ℕ) (spans : List ImageSpan) (b : Buildable d a l images spans)
     (w : Wiring) (ss : List Source) (pad n : ℕ) (ew : w ≡ wiringOf d a l) (es : ss ≡ sourcesOf d spans) (ep : pad ≡ padOf padByte d) (en : n ≡ entriesOf a) where
-  ready : (room : ℕ) → entriesOf a ≤ 2 ^ 20 → tableSize d a ≤ room
-      → (WiringIn w × SourcesIn images w ss × (pad < 2 ^ (8 * w .«word_bytes»))) × ((n ≤ 2 ^ 20) × (n * w .«word_bytes» ≤ room))
+  ready : (table : List ℕ) → entriesOf a ≤ 2 ^ 20 → tableSize d a ≤ length table → TableIn w ss pad images n table
   unfolding wiringOf
-  ready room f r = rw (ew, es, ep, en) ((wiring-in d a l images spans b, sources-in d a l images spans b, pad-lt (d .«word_bytes») padByte (omega arith)), (f, r))
+  ready table f r =
+      rw (ew, es, ep, en)
+      (record { wiring-in = wiring-in d a l images spans b; sources-in = sources-in d a l images spans b; pad-short = pad-lt (d .«word_bytes») padByte (omega arith); few = f; room = r })
 
   done : (old new : List ℕ) → new ≡ tableBy w ss pad images n old → new ≡ tableOf padByte (argsOf d a l spans) images ++ drop (tableSize d a) old
   done old new e = rw (ew, es, ep, en, table-is d a l images spans b padByte old) at e
@@ -65,8 +66,8 @@ fill-by-requires c κs =
     let s = c .before .before .before .before .before .before .before .before .before .before .before .before in
     ready (s .args .b .description) (s .args .b .addr) (s .args .b .«cs_data») (s .args .images .now) (s .args .b .spans) (can s) _ _ _ _ (c .before .before .before .wiring .ensures) (c .before .before .sources .ensures) (c .before .before .before .before .pad-word .ensures .0)
     (entries (s .args .b .addr .«num_addr_pins») (few-pins s)) _
-    (entries-few (s .args .b .description) (s .args .b .addr) (s .args .b .«cs_data») (s .args .images .now) (s .args .b .spans) _ (s .pre .0) (s .pre .1))
-    (table-fits (s .args .b .description) (s .args .b .addr) (s .args .b .«cs_data») (s .args .images .now) (s .args .b .spans) _ (s .pre .0) (s .pre .1))
+    (entries-few (s .args .b .description) (s .args .b .addr) (s .args .b .«cs_data») (s .args .images .now) (s .args .b .spans) _ (s .pre))
+    (table-fits (s .args .b .description) (s .args .b .addr) (s .args .b .«cs_data») (s .args .images .now) (s .args .b .spans) _ (s .pre))
 
 returns : tie.Need-returns
 returns c =

@@ -39,19 +39,19 @@ module _ (c : tie.In-loop Inv-loop μ-loop) where
   split = parts _ _ _ _ _ (c .before .before .before .before .before .low-parts .ensures) (c .before .loop .inv .2)
 
   address : low .address + c .before .loop .high .address < 2 ^ 24
-  address = rw (split .address) (address-lt (start .args .w) (c .before .loop .i) (start .pre .0 .0))
+  address = rw (split .address) (address-lt (start .args .w) (c .before .loop .i) (start .pre .wiring-in))
 
   picks : low .picks + c .before .loop .high .picks < 2 ^ start .args .w .«num_picks»
   picks = rw (split .picks) (picks-lt (start .args .w) (c .before .loop .i))
 
   picks-eight : low .picks + c .before .loop .high .picks < 8
-  picks-eight = lt-of-lt-of-le picks (pow-mono {j = 3} (start .pre .0 .0 .picks))
+  picks-eight = lt-of-lt-of-le picks (pow-mono {j = 3} (start .pre .wiring-in .picks))
 
   few : c .before .loop .i < 2 ^ 20
-  few = omega (arith, start .pre .1 .0)
+  few = omega (arith, start .pre .few)
 
   room : c .before .loop .i * start .args .w .«word_bytes» + start .args .w .«word_bytes» ≤ length (c .before .loop .table)
-  room = rw (c .before .loop .inv .1) (words-room _ _ _ _ (c .loop-test .taken) (start .pre .1 .1))
+  room = rw (c .before .loop .inv .1) (words-room _ _ _ _ (c .loop-test .taken) (start .pre .room))
 
 -- from later places to the turn
 abbrev past-picks : tie.After-struct-known3 Inv-loop μ-loop → tie.In-loop Inv-loop μ-loop
@@ -72,12 +72,12 @@ add-raw c = omega (arith, address (past-source c))
 raw-requires : tie.Need-raw-requires Inv-loop μ-loop
 raw-requires c κs =
     let t = past-source c in
-    let p = start t .pre .0 in
-    (p .0 .bytes, p .1 _ (picks t), p .2)
+    let p = start t .pre in
+    record { bytes = p .wiring-in .bytes; source-in = p .sources-in _ (picks t); pad-short = p .pad-short }
 
 -- a word is of two bytes at most
 short : (c : tie.After-raw Inv-loop μ-loop) → c .raw .result < 2 ^ 16
-short c = let s = start (past-source (c .before)) in word-short (s .args .w .«word_bytes») (c .raw .result) (s .pre .0 .0 .bytes) (c .raw .ensures .1)
+short c = let s = start (past-source (c .before)) in word-short (s .args .w .«word_bytes») (c .raw .result) (s .pre .wiring-in .bytes) (c .raw .ensures .1)
 
 array-read-entry-2 : tie.Need-array-read-entry-2 Inv-loop μ-loop
 array-read-entry-2 c = omega (arith, short c)
@@ -91,7 +91,7 @@ put-word-requires c κs = room (past-source (c .before .before))
 next-high-requires : tie.Need-next-high-requires Inv-loop μ-loop
 next-high-requires c κs =
     let t = past-source (c .before .before .before .before .before) in
-    (start t .pre .0 .0, omega (arith, few t), t .before .loop .inv .2)
+    record { wiring-in = start t .pre .wiring-in; few = omega (arith, few t); high-is = t .before .loop .inv .2 }
 
 add-i : tie.Need-add-i Inv-loop μ-loop
 add-i c = omega (arith, few (past-source (c .before .before .before .before .before .before)))

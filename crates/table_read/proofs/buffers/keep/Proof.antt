@@ -26,7 +26,7 @@ module _ (w f value : ℕ) (output marks : List ℕ) where
 returns : tie.Need-returns
 returns c =
     let start = c .before .before .before .before .before .before .before .before in
-    new _ _ _ _ (start .args .marks .now) _ (omega (arith, c .before .before .before .before .if1 .taken)) (start .pre .1) (c .before .before .put-word .ensures)
+    new _ _ _ _ (start .args .marks .now) _ (omega (arith, c .before .before .before .before .if1 .taken)) (start .pre .mark) (c .before .before .put-word .ensures)
 
 returns-2 : tie.Need-returns-2
 returns-2 c = old _ _ _ _ (c .before .before .before .before .before .before .args .marks .now) _ (λ e. omega (arith, c .before .before .if1 .left)) (c .word-at .ensures .0)

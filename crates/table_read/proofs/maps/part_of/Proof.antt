@@ -4,7 +4,7 @@ use Rattle.table_read.proofs.maps.part_of.Statement.{statement}
 use Rattle.table_read.proofs.maps.part_of.Tie as tie
 
 gathered-requires : tie.Need-gathered-requires
-gathered-requires c κs = let s = c .before in s .pre .0 (s .args .k) (s .pre .1)
+gathered-requires c κs = c .before .pre .lines
 
 pub part-of-spec : {M : Type 1} → statement M
 part-of-spec = tie.close (tie.spec (λ c. search needs) (λ c. search needs) gathered-requires (λ c. search needs))

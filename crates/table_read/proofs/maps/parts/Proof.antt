@@ -25,7 +25,7 @@ mul-part-of c =
     omega (arith, mul-le-mul-right (c .before .before .args .unit) l)
 
 part-of-requires : tie.Need-part-of-requires Inv-loop μ-loop
-part-of-requires c κs = (c .before .before .pre .0, omega arith)
+part-of-requires c κs = record { within = omega arith; lines = c .before .before .pre _ (omega arith) }
 
 loop-again : tie.Need-loop-again Inv-loop μ-loop
 loop-again c = filled-turn (c .before .before .loop .inv) (omega arith) (c .part-of .ensures)

@@ -9,7 +9,8 @@ use borrow.Author.Tests.{not-true, not-false}
 use Rattle.words.proofs.Words.{word-short, words-room}
 use Rattle.table_read.specs.design.Reading.{wordBy, valueBy}
 use Rattle.table_read.proofs.Lookups.{Looked, value-few, index-few, low-few, lows-long, low-bytes-long, high-bytes-long, bits-in, rom-in, address-in, word-looked, value-looked, value-in}
-use Rattle.table_read.proofs.Held.{Held, Entry, held-skip, held-keep, held-bad, held-done, held-same}
+use Rattle.table_read.specs.design.Held.{Lent, Held}
+use Rattle.table_read.proofs.Held.{Entry, held-skip, held-keep, held-bad, held-done, held-same}
 use borrow.Author.Needs.{needs}
 use Rattle.table_read.proofs.row.read_row.Statement.{statement}
 use Rattle.table_read.proofs.row.read_row.Tie as tie
@@ -23,13 +24,15 @@ abbrev μ-loop : tie.MeasureT-loop
 
 loop-holds : tie.Need-loop-holds Inv-loop μ-loop
 loop-holds c =
-    let p = c .before .before .before .before .before .before .before .before .before .before .pre .1 .1 in
-    (omega arith, rw add-zero (record { long = refl; marks-long = refl; through = p .0; values = p .1 .0; told = p .1 .1 }))
+    (omega arith, rw add-zero (c .before .before .before .before .before .before .before .before .before .before .pre .onward .held))
 
 -- what is known in a turn: the function's start, the loop, and what is looked up of the index
 module _ (c : tie.After-struct-known3 Inv-loop μ-loop) where
   abbrev start : tie.Start Inv-loop μ-loop
   start = c .before .before .before .before .before .before .before .before .before .before .before .before .before .before
+
+  abbrev lent : Lent (start .args .r) (start .args .stored .now) (start .args .output .now) (start .args .marks .now) (start .args .row .start + start .args .row .count)
+  lent = start .pre .onward .lent
 
   abbrev loop : tie.At-loop Inv-loop μ-loop
   loop = c .before .before .before
@@ -38,10 +41,10 @@ module _ (c : tie.After-struct-known3 Inv-loop μ-loop) where
   index = start .args .row .start + loop .loop .low
 
   looked : Looked (start .args .r) (start .args .row) (start .args .lows .now) (start .args .low-bytes .now) (start .args .high-bytes .now) (loop .loop .low)
-  looked = let p = start .pre .0 in record { reading = p .0; in-row = p .1; tables = p .2; within = c .before .if1 .taken }
+  looked = let p = start .pre in record { reading = lent .reading; few = lent .few; in-row = p .in-row; tables = p .tables; within = c .before .if1 .taken }
 
   room : index * start .args .r .«word_bytes» + start .args .r .«word_bytes» ≤ length (start .args .stored .now)
-  room = words-room index (start .args .row .start + start .args .row .count) _ _ (omega (arith, c .before .if1 .taken)) (start .pre .1 .0 .0)
+  room = words-room index (start .args .row .start + start .args .row .count) _ _ (omega (arith, c .before .if1 .taken)) (lent .entries)
 
 add-i : tie.Need-add-i Inv-loop μ-loop
 add-i c = record { fits = omega (arith, index-few (looked c)) }
@@ -101,7 +104,7 @@ array-copy-out-word-for : tie.Need-array-copy-out-word-for Inv-loop μ-loop
 array-copy-out-word-for c = rom-in (looked (c .before .before .before))
 
 word-for-requires : tie.Need-word-for-requires Inv-loop μ-loop
-word-for-requires c κs = let t = c .before .before .before .before in start t .pre .0 .0 .extents _ (rom-in (looked t))
+word-for-requires c κs = let t = c .before .before .before .before in lent t .reading .extents _ (rom-in (looked t))
 
 -- from the call that names the word to the turn
 abbrev past-word : tie.After-word-for Inv-loop μ-loop → tie.After-struct-known3 Inv-loop μ-loop
@@ -117,14 +120,14 @@ mul-word-at : tie.Need-mul-word-at Inv-loop μ-loop
 mul-word-at c = let t = past-word (c .before .before) in record { fits = omega (arith, room t, start t .good) }
 
 word-at-requires : tie.Need-word-at-requires Inv-loop μ-loop
-word-at-requires c κs = let t = past-word (c .before .before) in (start t .pre .0 .0 .bytes, room t)
+word-at-requires c κs = let t = past-word (c .before .before) in (lent t .reading .bytes, room t)
 
 -- from the call that reads the entry to the turn
 abbrev past-entry : tie.After-word-at Inv-loop μ-loop → tie.After-struct-known3 Inv-loop μ-loop
 past-entry c = past-word (c .before .before .before)
 
 short : (c : tie.After-word-at Inv-loop μ-loop) → c .word-at .result < 2 ^ 16
-short c = word-short _ _ (start (past-entry c) .pre .0 .0 .bytes) (c .word-at .ensures .1)
+short c = word-short _ _ (lent (past-entry c) .reading .bytes) (c .word-at .ensures .1)
 
 said-requires : tie.Need-said-requires Inv-loop μ-loop
 said-requires c κs =
@@ -140,12 +143,11 @@ module _ (c : tie.After-said Inv-loop μ-loop) where
   entry : Entry (start turn .args .r .«word_bytes») (start turn .args .r .words) (wordBy (start turn .args .r)) (valueBy (start turn .args .r) (start turn .args .stored .now)) (start turn .args .output .now) (start turn .args .marks .now) (index turn) (loop turn .loop .output) (loop turn .loop .marks) (c .before .before .before .before .before .before .word-for .result) (c .said .result)
   entry =
       let a = c .before .before .before in
-      let p = start turn .pre in
       record {
         held = loop turn .loop .inv .1;
-        room = p .1 .0 .1;
-        marks-room = p .1 .0 .2;
-        few = value-few (p .0 .0) (start turn .args .stored .now);
+        room = lent turn .room .output-room;
+        marks-room = lent turn .room .marks-room;
+        few = value-few (lent turn .reading) (start turn .args .stored .now);
         for = for (a .before .before .before);
         says = c .said .ensures ∙ value-looked (looked turn) _ _ (a .word-at .ensures .0) (short a);
         below = a .before .if2 .taken;
@@ -155,7 +157,7 @@ keep-requires : tie.Need-keep-requires Inv-loop μ-loop
 keep-requires c κs =
     let e = entry c in
     let l = e .held .marks-long in
-    (start (turn c) .pre .0 .0 .bytes, omega (arith, e .below, e .marks-room), rw (e .held .long) (words-room _ _ _ _ (e .below) (e .room)))
+    record { bytes = lent (turn c) .reading .bytes; mark = omega (arith, e .below, e .marks-room); room = rw (e .held .long) (words-room _ _ _ _ (e .below) (e .room)) }
 
 same-length : tie.Need-same-length Inv-loop μ-loop
 same-length c = let k = c .before .before .before .before .before in k .keep .kept .0 ∙ entry (k .before) .held .long

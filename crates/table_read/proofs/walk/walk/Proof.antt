@@ -4,10 +4,10 @@ use Prim.Native.Nat.{ℕ, _+_, _-_, _*_, _%_, _^_, _≤_, _<_}
 use native.Mathlib.Nat.{le-trans, mul-le-mul-right}
 use native.Mathlib.Omega.{arith}
 use lib.ListN.{length}
-use Rattle.lists.specs.First.{firstWhere}
 use Rattle.table_read.specs.design.Reading.{MapsIn, ReadingIn, wordBy, valueBy}
 use Rattle.table_read.specs.declared.reading.Reading.{Reading}
-use Rattle.table_read.proofs.Held.{Held, own, marks-own, held-done}
+use Rattle.table_read.specs.design.Held.{Held}
+use Rattle.table_read.proofs.Held.{held-own, held-done, same-room}
 use Rattle.table_read.proofs.RowRead.{row-through, row-bad}
 use borrow.Author.Needs.{needs}
 use Rattle.table_read.proofs.walk.walk.Statement.{statement}
@@ -27,19 +27,16 @@ data-few : (r : Reading) → ReadingIn r → MapsIn (r .«data_lines»)
 data-few r h k l = let b = h .bytes in let n = h .data-lines k l in omega arith
 
 parts-requires : tie.Need-parts-requires Inv-loop μ-loop
-parts-requires c κs = (c .before .before .before .before .before .pre .0 .0 .address-lines, omega arith)
+parts-requires c κs = c .before .before .before .before .before .pre .lent .reading .address-lines
 
 parts-requires-2 : tie.Need-parts-requires-2 Inv-loop μ-loop
-parts-requires-2 c κs = (data-few _ (c .before .before .before .before .before .before .pre .0 .0), omega arith)
+parts-requires-2 c κs = data-few _ (c .before .before .before .before .before .before .pre .lent .reading)
 
 parts-requires-3 : tie.Need-parts-requires-3 Inv-loop μ-loop
-parts-requires-3 c κs = (data-few _ (c .before .before .before .before .before .before .before .pre .0 .0), omega arith)
+parts-requires-3 c κs = data-few _ (c .before .before .before .before .before .before .before .pre .lent .reading)
 
 loop-holds : tie.Need-loop-holds Inv-loop μ-loop
-unfolding firstWhere
-loop-holds c =
-    let p = c .before .before .before .before .before .before .before .before .pre .1 .1 in
-    (omega arith, λ _. refl, record { long = refl; marks-long = refl; through = refl; values = p .0; told = p .1 })
+loop-holds c = (omega arith, λ _. refl, c .before .before .before .before .before .before .before .before .pre .held)
 
 -- a turn's end, its row, its start, and the function's
 abbrev passed : tie.After-struct-known Inv-loop μ-loop → tie.After-read-row Inv-loop μ-loop
@@ -55,7 +52,7 @@ abbrev start : tie.In-loop Inv-loop μ-loop → tie.Start Inv-loop μ-loop
 start c = c .before .before .before .before .before .before .before .before .before .before
 
 parts-of-requires : tie.Need-parts-of-requires Inv-loop μ-loop
-parts-of-requires c κs = start c .pre .0 .0 .address-lines
+parts-of-requires c κs = start c .pre .lent .reading .address-lines
 
 -- what is known of a row
 module _ (c : tie.After-fewer Inv-loop μ-loop) where
@@ -75,7 +72,7 @@ module _ (c : tie.After-fewer Inv-loop μ-loop) where
   some = omega (arith, c .fewer .ensures, turn c .loop-test .taken)
 
   few : first + count ≤ 2 ^ 31
-  few = le-trans within (start (turn c) .pre .0 .1)
+  few = le-trans within (start (turn c) .pre .lent .few)
 
   -- but for the last row, it has 256
   full : first + count < start (turn c) .args .entries → (first + count) % 256 ≡ 0
@@ -85,7 +82,7 @@ module _ (c : tie.After-fewer Inv-loop μ-loop) where
       omega arith
 
   room : (first + count) * start (turn c) .args .r .«word_bytes» ≤ length (start (turn c) .args .stored .now)
-  room = le-trans (mul-le-mul-right (start (turn c) .args .r .«word_bytes») within) (start (turn c) .pre .0 .2)
+  room = le-trans (mul-le-mul-right (start (turn c) .args .r .«word_bytes») within) (start (turn c) .pre .lent .entries)
 
 read-row-requires : tie.Need-read-row-requires Inv-loop μ-loop
 read-row-requires c κs =
@@ -93,17 +90,12 @@ read-row-requires c κs =
     let t = turn w in
     let s = start t in
     let tables = t .before .before in
-    let h = t .before .loop .inv .2 in (
-      (
-        s .pre .0 .0,
-        record { high = w .before .parts-of .ensures; start = t .before .loop .inv .1 (t .loop-test .taken); count = short w; few = few w },
-        record { low = tables .before .before .parts .ensures; low-byte = tables .before .parts2 .ensures; high-byte = tables .parts3 .ensures },
-      ),
-      (
-        (room w, rw (h .long) (s .pre .1 .0 .0), rw (h .marks-long) (s .pre .1 .0 .1)),
-        (h .through, (own h, marks-own h)),
-      ),
-    )
+    let h = t .before .loop .inv .2 in
+    record {
+      in-row = record { high = w .before .parts-of .ensures; start = t .before .loop .inv .1 (t .loop-test .taken); count = short w };
+      tables = record { low = tables .before .before .parts .ensures; low-byte = tables .before .parts2 .ensures; high-byte = tables .parts3 .ensures };
+      onward = record { lent = record { reading = s .pre .lent .reading; few = few w; entries = room w; room = same-room h (s .pre .lent .room) }; held = held-own h };
+    }
 
 returns : tie.Need-returns Inv-loop μ-loop
 returns c =

@@ -1,0 +1,56 @@
+-- The entries in turn: what they are given, what the buffers hold of those passed, and what a walk over them answers. Assumes nothing.
+use mathlib.Core.Path.{_≡_}
+use Prim.Native.Nat.{ℕ, _+_, _*_, _^_, _≤_}
+use mathlib.Core.List.{List}
+use lib.ListN.{length, drop}
+use Rattle.table_read.specs.design.Reading.{ReadingIn, wordBy, valueBy}
+use Rattle.table_read.specs.design.Buffers.{outputHeld, marksHeld, walkedOf}
+use Rattle.table_read.specs.design.Rows.{RowIn, TablesIn}
+use Rattle.table_read.specs.declared.reading.Reading.{Reading}
+use Rattle.table_read.specs.declared.row.Row.{Row}
+use Rattle.table_read.specs.declared.row.Walked.{Walked}
+use Rattle.table_read.specs.declared.row.Walked.the-variants.{Through}
+
+-- the lent buffers have room for all words and their marks
+pub record Room (r : Reading) (output marks : List ℕ) : Type 0 where
+  pub few : r .words ≤ 2 ^ 26
+  pub output-room : r .words * r .«word_bytes» ≤ length output
+  pub marks-room : r .words ≤ length marks
+
+-- the first n entries are stored, and the lent buffers have room
+pub record Lent (r : Reading) (stored output marks : List ℕ) (n : ℕ) : Type 0 where
+  pub reading : ReadingIn r
+  pub few : n ≤ 2 ^ 31
+  pub entries : n * r .«word_bytes» ≤ length stored
+  pub room : Room r output marks
+
+-- none of the m entries passed disagrees, and the buffers, which held other bytes at first, hold what these entries told
+pub record Held (w words : ℕ) (t v : ℕ → ℕ) (output₀ marks₀ : List ℕ) (m : ℕ) (output marks : List ℕ) : Type 0 where
+  pub long : length output ≡ length output₀
+  pub marks-long : length marks ≡ length marks₀
+  pub through : walkedOf t v words m ≡ Through
+  pub values : output ≡ outputHeld w t v words m output₀
+  pub told : marks ≡ marksHeld t words m marks₀
+
+-- what a walk over n entries answers and leaves in the buffers; words are open where it stops at one that disagrees
+pub record Read (w words : ℕ) (t v : ℕ → ℕ) (n : ℕ) (output₀ marks₀ : List ℕ) (x : Walked) (output marks : List ℕ) : Type 0 where
+  pub answer : x ≡ walkedOf t v words n
+  pub rest : drop (words * w) output ≡ drop (words * w) output₀
+  pub marks-rest : drop words marks ≡ drop words marks₀
+  pub values : x ≡ Through → output ≡ outputHeld w t v words n output₀
+  pub told : x ≡ Through → marks ≡ marksHeld t words n marks₀
+
+-- the entries from the m-th on, up to the n-th, and the buffers as the m before left them
+pub record Onward (r : Reading) (stored output marks : List ℕ) (m n : ℕ) : Type 0 where
+  pub lent : Lent r stored output marks n
+  pub held : Held (r .«word_bytes») (r .words) (wordBy r) (valueBy r stored) output marks m output marks
+
+-- those of a row, with the tables to look them up in
+pub record OnwardRow (r : Reading) (row : Row) (lows low-bytes high-bytes stored output marks : List ℕ) : Type 0 where
+  pub in-row : RowIn r row
+  pub tables : TablesIn r lows low-bytes high-bytes
+  pub onward : Onward r stored output marks (row .start) (row .start + row .count)
+
+-- n entries read by r
+abbrev pub ReadBy : Reading → List ℕ → ℕ → List ℕ → List ℕ → Walked → List ℕ → List ℕ → Type 0
+ReadBy r stored = Read (r .«word_bytes») (r .words) (wordBy r) (valueBy r stored)
