@@ -2,3 +2,4 @@ pub mod Buildable
 pub mod Chips
 pub mod Entries
 pub mod Past
+pub mod Power

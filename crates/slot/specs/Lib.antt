@@ -1,2 +1,3 @@
 pub mod Description
 pub mod SlotContext
+pub mod Law
