@@ -1,3 +1,4 @@
 pub mod Layout
 pub mod Layouts
 pub mod Search
+pub mod design

@@ -12,7 +12,6 @@ use gpio::span::Span;
 use listing::Listing;
 use listing::choice::gpio_if;
 use listing::choice::resolve;
-use search::Trial;
 use slot::description::Description;
 ghost use mathlib.Core.Path.{_≡_};
 ghost use mathlib.Core.Bool.{cond};
@@ -21,9 +20,9 @@ ghost use lib.Dec.{ltb};
 ghost use lib.ListN.{getD};
 ghost use Rattle.lists.specs.Tab.{tab};
 ghost use Rattle.listing.specs.Listing.{listOf};
-ghost use Rattle.addr_lines.specs.Lines.{lines};
-ghost use Rattle.addr_choices.specs.Choices.{spanningOf, choiceSpan, paddedPins, spanTrial};
+ghost use Rattle.addr_choices.specs.Choices.{paddedPins};
 ghost use Rattle.addr_layout.specs.Layouts.{lineGpio, addrLayoutFrom, addrLayoutOf};
+ghost use Rattle.addr_layout.specs.design.Laying.{Laying};
 
 // The GPIOs of the lines, 0 past them.
 fn line_gpios(all: [u8; 30], lines: usize) -> [u8; 24]
@@ -67,8 +66,7 @@ fn layout(span: Span, all: [u8; 30], one: bool, both: bool, lines: u8, used: u8)
 
 // The layout that a choice makes which fits.
 pub fn laid_out(d: Description, l: Listing, choice: u32, score: u32) -> AddrAnswer
-    requires { ⌜ (l .count ≤ 30) × (lines d ≤ 24)
-        × (spanTrial (choiceSpan (listOf l) (spanningOf d) choice) ≡ Trial.Score score) ⌝ }
+    requires { ⌜ Laying d l choice score ⌝ }
     ensures { λ r. ⌜ r ≡ record { outcome = AddrOutcome.LaidOut; layout = addrLayoutOf d (listOf l) choice } ⌝ }
 {
     let used = in_range(d);

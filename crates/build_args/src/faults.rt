@@ -22,11 +22,12 @@ ghost use Rattle.slot.specs.Description.{noChip};
 ghost use Rattle.build_args.specs.Positions.{dataBase};
 ghost use Rattle.build_args.specs.Domain.{buildIn};
 ghost use Rattle.build_args.specs.Faults.{tableSize, tableTooLarge, addressIn, dataPositionsIn, missingAt, shortAt, linesFault, imagesFault, lentFault, buildFault};
+ghost use Rattle.build_args.specs.design.Sizes.{TableIn, SizesIn};
 ghost use Rattle.refusal.specs.First.{firstOf};
 
 // Bytes of the table.
 pub fn table_size(d: Description, a: AddrLayout) -> u64
-    requires { ⌜ (a .«num_addr_pins» < 32) × (d .«word_bytes» ≤ 2) ⌝ }
+    requires { ⌜ TableIn d a ⌝ }
     ensures { λ r. ⌜ r ≡ tableSize d a ⌝ }
     ensures { λ r. ⌜ r ≤ 2 ^ 32 ⌝ }
 {
@@ -35,7 +36,7 @@ pub fn table_size(d: Description, a: AddrLayout) -> u64
 
 // Whether the table has more bytes than the slot's largest. With 32 and more pins it has, and nothing is shifted.
 fn too_large(d: Description, a: AddrLayout) -> bool
-    requires { ⌜ (d .«max_image_size» ≤ 2 ^ 20) × (1 ≤ d .«word_bytes») × (d .«word_bytes» ≤ 2) ⌝ }
+    requires { ⌜ SizesIn d ⌝ }
     ensures { λ r. ⌜ r ≡ tableTooLarge d a ⌝ }
     ensures { λ r. ⌜ (r ≡ false → a .«num_addr_pins» < 32) ⌝ }
 {
@@ -121,7 +122,7 @@ fn lent_fault(
     spans: [ImageSpan; 4],
     lent: usize,
 ) -> FirstFault
-    requires { ⌜ (a .«num_addr_pins» < 32) × (d .«word_bytes» ≤ 2) ⌝ }
+    requires { ⌜ TableIn d a ⌝ }
     ensures { λ r. ⌜ r ≡ lentFault d a (now (images .entry)) spans lent ⌝ }
 {
     let buffer = fault_if((lent as u64) < table_size(d, a), Refusal::ShortBuffer);

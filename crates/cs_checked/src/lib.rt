@@ -9,13 +9,13 @@ use lists::array::entry;
 use refusal::Refusal;
 use slot::description::Description;
 ghost use mathlib.Core.Path.{_≡_};
-ghost use mathlib.Core.Bool.{true};
 ghost use mathlib.Core.List.{_++_};
 ghost use Prim.Native.Nat.{_≤_};
-ghost use Rattle.slot.specs.Description.{isMulti, chip0};
+ghost use Rattle.slot.specs.Description.{chip0};
 ghost use Rattle.listing.specs.Listing.{listOf};
 ghost use Rattle.cs_pins.specs.Pins.{activeListed};
 ghost use Rattle.cs_checked.specs.Checked.{ignoredListed, multiChecked, orNoActive, checked};
+ghost use Rattle.cs_checked.specs.design.Selects.{MultiLinesIn, SelectsIn};
 
 // The list, with the ignored lines.
 fn push_ignored(d: Description, before: Listing) -> Listing
@@ -36,7 +36,7 @@ fn push_ignored(d: Description, before: Listing) -> Listing
 
 // What a Multi set asks for: select, commoned and ignored lines, X1 and X2.
 fn check_multi(d: Description) -> Listing
-    requires { ⌜ (d .multi .«num_commoned» ≤ 6) × (d .multi .«num_ignored» ≤ 6) ⌝ }
+    requires { ⌜ MultiLinesIn d ⌝ }
     ensures { λ r. ⌜ (listOf r ≡ multiChecked d) × (r .count ≤ 30) ⌝ }
 {
     let multi = d.multi;
@@ -65,8 +65,7 @@ fn check_active(d: Description) -> Listing
 
 // The select pins in the order in which their faults answer.
 pub fn checked(d: Description) -> Listing
-    requires { ⌜ (chip0 d .control .count ≤ 8)
-        × (isMulti (d .«set_type») ≡ true → (d .multi .«num_commoned» ≤ 6) × (d .multi .«num_ignored» ≤ 6)) ⌝ }
+    requires { ⌜ SelectsIn d ⌝ }
     ensures { λ r. ⌜ (listOf r ≡ checked d) × (r .count ≤ 30) ⌝ }
 {
     let set_type = d.set_type;

@@ -8,12 +8,11 @@ use lib.ListN.{length, getD, take, length-take}
 use Rattle.lists.specs.Tab.{tab}
 use Rattle.lists.proofs.Shifts.{shifted-one}
 use Rattle.lists.proofs.Tab.{getD-begins}
-use Rattle.listing.specs.Choice.{GpiosIn}
 use Rattle.listing.specs.Listing.{listOf}
 use Rattle.listing.specs.declared.Listing.{Listing}
 use Rattle.search.proofs.Rows.{row-first, row-fits}
 use Rattle.cs_choices.specs.Sets.{verdictOn}
-use Rattle.cs_choices.specs.design.Parts.{partsOf, noSets, inRow}
+use Rattle.cs_choices.specs.design.Parts.{partsOf, noSets, inRow, BitsIn}
 use Rattle.cs_choices.specs.declared.choices.Fixed.{Fixed}
 use Rattle.cs_choices.specs.declared.choices.Sets.{Sets}
 use Rattle.cs_choices.proofs.Parts.{row-verdict}
@@ -29,20 +28,19 @@ pub record AtRow (l : Listing) (f : Fixed) (bits split : ℕ) (lows : List Sets)
   pub split-bits : split ≤ bits
   pub split-six : split ≤ 6
   pub few : bits ≤ 16
-  pub gpios : GpiosIn (listOf l)
   pub lines : f .«num_data» ≤ length (listOf l)
   pub table : Lows l f split lows
 
 module _ {l : Listing} {f : Fixed} {bits split : ℕ} {lows : List Sets} where
-  pub rows-begun : length (l .pins) ≡ 30 → (f .«num_data» ≤ l .count) × (l .count ≤ 30) × GpiosIn (listOf l) × (bits ≤ 16) → (split ≤ bits) × (split ≤ 6) → Lows l f split lows
+  pub rows-begun : length (l .pins) ≡ 30 → BitsIn l (f .«num_data») bits 16 → (split ≤ bits) × (split ≤ 6) → Lows l f split lows
       → AtRow l f bits split lows ((1 * 2 ^ (bits - split)) % 2 ^ 32) 0
   rows-begun long p s t =
       let e : l .count ≡ length (listOf l) = simp length-take (omega arith) in
-      record { within = omega arith; all = shifted-one _ 32 (omega arith); split-bits = s .0; split-six = s .1; few = p .3; gpios = p .2; lines = omega (arith, e); table = t }
+      record { within = omega arith; all = shifted-one _ 32 (omega arith); split-bits = s .0; split-six = s .1; few = p .few-bits; lines = omega (arith, e); table = t }
 
   module _ {rows row : ℕ} (i : AtRow l f bits split lows rows row) (t : row < rows) where
     pub row-passed : AtRow l f bits split lows rows (row + 1)
-    row-passed = record { within = omega arith; all = i .all; split-bits = i .split-bits; split-six = i .split-six; few = i .few; gpios = i .gpios; lines = i .lines; table = i .table }
+    row-passed = record { within = omega arith; all = i .all; split-bits = i .split-bits; split-six = i .split-six; few = i .few; lines = i .lines; table = i .table }
 
     -- the first choice, and how many there are
     pub first-is : (row * 2 ^ split) % 2 ^ 32 ≡ row * 2 ^ split

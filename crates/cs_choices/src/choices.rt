@@ -16,13 +16,12 @@ ghost use Prim.Native.Nat.{_+_, _^_, _≤_, _<_};
 ghost use lib.ListN.{getD, take};
 ghost use Rattle.gpio.specs.Set.{with};
 ghost use Rattle.lists.specs.Tab.{tab};
-ghost use Rattle.listing.specs.Choice.{GpiosIn};
 ghost use Rattle.listing.specs.Listing.{listOf};
 ghost use Rattle.search.specs.Search.{best};
 ghost use Rattle.search.specs.design.Rows.{bestOnward};
 ghost use Rattle.cs_verdict.specs.Verdict.{verdictTrial};
 ghost use Rattle.cs_choices.specs.Sets.{verdictOn};
-ghost use Rattle.cs_choices.specs.design.Parts.{setPartAt, partsOf, setsOf, noSets, inRow};
+ghost use Rattle.cs_choices.specs.design.Parts.{setPartAt, partsOf, setsOf, noSets, inRow, PinsIn, BitsIn};
 
 // The GPIOs of a choice, or of a part of its number.
 pub struct Sets {
@@ -47,7 +46,7 @@ fn with_if(s: u64, wanted: bool, g: u8) -> u64
 
 // The GPIOs of the pins from `from` up to `to` that one part of the choice number serves.
 fn part(l: Listing, from: usize, to: usize, low: bool, split: u32, choice: u32) -> u64
-    requires { ⌜ (to ≤ l .count) × (l .count ≤ 30) × GpiosIn (listOf l) ⌝ }
+    requires { ⌜ PinsIn l to ⌝ }
     ensures { λ r. ⌜ r ≡ setPartAt (listOf l) from low split choice to ⌝ }
 {
     let mut s: u64 = 0;
@@ -68,7 +67,7 @@ fn part(l: Listing, from: usize, to: usize, low: bool, split: u32, choice: u32) 
 
 // The GPIOs of all pins that one part of the choice number serves.
 pub(crate) fn parts(l: Listing, num_data: usize, low: bool, split: u32, choice: u32) -> Sets
-    requires { ⌜ («num_data» ≤ l .count) × (l .count ≤ 30) × GpiosIn (listOf l) ⌝ }
+    requires { ⌜ PinsIn l «num_data» ⌝ }
     ensures { λ r. ⌜ r ≡ partsOf (listOf l) «num_data» low split choice ⌝ }
 {
     Sets {
@@ -91,7 +90,7 @@ pub(crate) fn joined(fixed: Fixed, low: Sets, high: Sets) -> Verdict
 
 // The GPIOs of a choice.
 pub fn whole(l: Listing, fixed: Fixed, choice: u32) -> Sets
-    requires { ⌜ (fixed .«num_data» ≤ l .count) × (l .count ≤ 30) × GpiosIn (listOf l) ⌝ }
+    requires { ⌜ PinsIn l (fixed .«num_data») ⌝ }
     ensures { λ r. ⌜ r ≡ setsOf (listOf l) (fixed .«num_data») (fixed .excess) choice ⌝ }
 {
     let all = parts(l, fixed.num_data, false, 0, choice);
@@ -114,7 +113,7 @@ fn trial(v: Verdict) -> Trial
 
 // The GPIOs of the bits below `split`.
 pub(crate) fn low_parts(l: Listing, num_data: usize, split: u32) -> [Sets; 64]
-    requires { ⌜ («num_data» ≤ l .count) × (l .count ≤ 30) × GpiosIn (listOf l) × (split ≤ 6) ⌝ }
+    requires { ⌜ BitsIn l «num_data» split 6 ⌝ }
     ensures { λ r. ⌜ take (2 ^ split) r ≡ tab (2 ^ split) (λ q. partsOf (listOf l) «num_data» true split q) ⌝ }
 {
     let count = 1usize << split;
@@ -155,7 +154,7 @@ fn best_in_row(
 
 // The best of the choices that `bits` two-candidate pins leave.
 pub fn best(l: Listing, fixed: Fixed, bits: u32) -> Found
-    requires { ⌜ (fixed .«num_data» ≤ l .count) × (l .count ≤ 30) × GpiosIn (listOf l) × (bits ≤ 16) ⌝ }
+    requires { ⌜ BitsIn l (fixed .«num_data») bits 16 ⌝ }
     ensures { λ r. ⌜ r ≡ best (λ c. verdictTrial (verdictOn (listOf l) fixed c)) (2 ^ bits) ⌝ }
 {
     let split = row_bits(bits);

@@ -17,10 +17,9 @@ use search::row_bits;
 ghost use mathlib.Core.Path.{_≡_};
 ghost use Prim.Native.Nat.{_^_, _≤_};
 ghost use lib.ListN.{getD};
-ghost use Rattle.listing.specs.Choice.{GpiosIn};
 ghost use Rattle.listing.specs.Listing.{listOf};
 ghost use Rattle.cs_choices.specs.Sets.{verdictOn};
-ghost use Rattle.cs_choices.specs.design.Parts.{noSets, inRow};
+ghost use Rattle.cs_choices.specs.design.Parts.{noSets, inRow, BitsIn};
 ghost use Rattle.cs_choices.specs.Nothing.{interiorIn, nothingFits};
 ghost use Rattle.cs_choices.specs.design.Seen.{orSet, interiorSet, refusedSet, refusedIn, seenWith, seenOnward};
 
@@ -113,7 +112,7 @@ fn seen_in_row(
 
 // Of the choices in turn, the first interior ignored line, else the last refused set.
 pub fn why(l: Listing, fixed: Fixed, bits: u32, ignored: u64) -> FirstFault
-    requires { ⌜ (fixed .«num_data» ≤ l .count) × (l .count ≤ 30) × GpiosIn (listOf l) × (bits ≤ 16) ⌝ }
+    requires { ⌜ BitsIn l (fixed .«num_data») bits 16 ⌝ }
     ensures { λ r. ⌜ r ≡ nothingFits ignored (λ c. verdictOn (listOf l) fixed c) (2 ^ bits) ⌝ }
 {
     let split = row_bits(bits);

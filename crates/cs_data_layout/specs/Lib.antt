@@ -1,3 +1,4 @@
 pub mod Layout
 pub mod Choices
 pub mod Search
+pub mod design

@@ -31,11 +31,10 @@ ghost use Prim.Native.Nat.{_+_, _≤_, _<_};
 ghost use lib.Dec.{ltb};
 ghost use lib.ListN.{getD, take};
 ghost use Rattle.lists.specs.Tab.{tab};
-ghost use Rattle.slot.specs.Description.{chip0};
 ghost use Rattle.listing.specs.Listing.{listOf};
-ghost use Rattle.listing.specs.Choice.{GpiosIn};
 ghost use Rattle.cs_verdict.specs.Verdict.{allOf, baseOf};
-ghost use Rattle.cs_data_layout.specs.Choices.{numData, excessSet, qualifierSet, ignoreIndex, qualifiersFrom, selectLine, numCommoned, commonedLine, csDataLayoutFrom, csDataLayoutOf};
+ghost use Rattle.cs_data_layout.specs.Choices.{ignoreIndex, qualifiersFrom, selectLine, numCommoned, commonedLine, csDataLayoutFrom, csDataLayoutOf};
+ghost use Rattle.cs_data_layout.specs.design.Given.{LinesIn, Laying};
 
 // The place of the one GPIO that is missing.
 fn ignore_index(select_gpios: u64) -> IgnoreIndex
@@ -158,7 +157,7 @@ fn data_lines(gpios: [u8; 30], count: usize) -> [u8; 16]
 
 // The layout of resolved pins.
 fn layout(d: Description, h: AddrLayout, gpios: [u8; 30], s: Sets, q: u64) -> CsDataLayout
-    requires { ⌜ (numData d ≤ 16) × (chip0 d .control .count ≤ 8) × (q ≡ qualifierSet d h) × (h .«num_excess» ≤ 24) ⌝ }
+    requires { ⌜ LinesIn d h q ⌝ }
     ensures { λ r. ⌜ r
         ≡ csDataLayoutFrom d h (λ k. getD gpios k 0) (s .«data_gpios») (s .«select_gpios»)
         (baseOf (allOf (s .«data_gpios») (s .«select_gpios») q)) ⌝ }
@@ -191,9 +190,7 @@ pub fn laid_out(
     fixed: Fixed,
     choice: u32,
 ) -> CsDataAnswer
-    requires { ⌜ (fixed .«num_data» ≡ numData d) × (numData d ≤ 16) × (chip0 d .control .count ≤ 8) × (numData d ≤ l .count)
-        × (l .count ≤ 30) × GpiosIn (listOf l) × (fixed .excess ≡ excessSet h) × (fixed .qualifiers ≡ qualifierSet d h)
-        × (h .«num_excess» ≤ 24) ⌝ }
+    requires { ⌜ Laying d h l fixed ⌝ }
     ensures { λ r. ⌜ r ≡ record { outcome = CsDataOutcome.LaidOut; layout = csDataLayoutOf d h (listOf l) choice } ⌝ }
 {
     CsDataAnswer {

@@ -18,11 +18,8 @@ use refusal::first::FirstFault;
 use search::Found;
 use slot::description::Description;
 ghost use mathlib.Core.Path.{_≡_};
-ghost use mathlib.Core.Bool.{true};
-ghost use Rattle.domain.specs.Domain.{qualifiersIn};
-ghost use Rattle.addr_layout.specs.Layout.{layoutIn};
-ghost use Rattle.cs_pins.specs.Pins.{csSearchIn};
 ghost use Rattle.cs_data_layout.specs.Search.{orNoLayout, csBest, csDataAnswerOf, csDataAnswer};
+ghost use Rattle.cs_data_layout.specs.design.Given.{SearchIn};
 
 fn none_fits(why: FirstFault) -> CsDataAnswer
     ensures { λ r. ⌜ r ≡ orNoLayout why ⌝ }
@@ -35,8 +32,7 @@ fn none_fits(why: FirstFault) -> CsDataAnswer
 
 // The search over all choices.
 fn search(d: Description, h: AddrLayout) -> CsDataAnswer
-    requires { ⌜ (csSearchIn d ≡ true) × (layoutIn h ≡ true)
-        × (qualifiersIn (d .qualifiers) (d .«num_qualifiers») (h .gpios) (h .«num_lines») ≡ true) ⌝ }
+    requires { ⌜ SearchIn d h ⌝ }
     ensures { λ r. ⌜ r ≡ csDataAnswerOf d h (csBest d h) ⌝ }
 {
     let chip = d.chip0();

@@ -12,9 +12,10 @@ ghost use mathlib.Core.Bool.{true};
 ghost use Prim.Native.Nat.{_<_};
 ghost use lib.ListN.{getD};
 ghost use Rattle.gpio.specs.Candidates.{candidatesIn};
-ghost use Rattle.domain.specs.Domain.{descriptionIn, qualifiersIn};
+ghost use Rattle.domain.specs.Domain.{descriptionIn};
 ghost use Rattle.addr_layout.specs.Layout.{layoutIn};
 ghost use Rattle.cs_data_layout.specs.Choices.{excessGpio, excessSet, qualifierSet, withCandidates, ignoredAt, ignoredSet};
+ghost use Rattle.cs_data_layout.specs.design.Given.{HandedIn};
 
 // The GPIO of the `k`-th excess line.
 pub fn excess_gpio(h: AddrLayout, k: usize) -> u8
@@ -42,7 +43,7 @@ pub fn excess_set(h: AddrLayout) -> u64
 
 // The GPIOs of the qualifiers.
 pub fn qualifier_set(d: Description, h: AddrLayout) -> u64
-    requires { ⌜ (layoutIn h ≡ true) × (qualifiersIn (d .qualifiers) (d .«num_qualifiers») (h .gpios) (h .«num_lines») ≡ true) ⌝ }
+    requires { ⌜ HandedIn d h ⌝ }
     ensures { λ r. ⌜ r ≡ qualifierSet d h ⌝ }
 {
     let qualifiers = d.qualifiers;

@@ -1,5 +1,5 @@
 -- In a description of the domain each pin that the select search numbers has GPIOs of the RP2350 for candidates, and so has the line
--- of any kind. Assumes nothing.
+-- of any kind; and there are no more such pins than a listing has room for. Assumes nothing.
 use mathlib.Core.Path.{_≡_, refl}
 use mathlib.Core.Bool.{Bool, true, false, cond}
 use mathlib.Core.List.{List, _++_}
@@ -12,7 +12,7 @@ use Rattle.slot.specs.Description.{isMulti, chip0, lineAt}
 use Rattle.slot.specs.declared.description.Description.{Description}
 use Rattle.refusal.specs.declared.Refusal.the-variants.{NoSelectLine}
 use Rattle.domain.specs.Domain.{descriptionIn}
-use Rattle.domain.proofs.Bounds.{description-in}
+use Rattle.domain.proofs.Bounds.{description-in, chip0-in, config-in}
 use Rattle.listing.specs.Choice.{GpiosIn}
 use Rattle.listing.specs.Lines.{kindPin}
 use Rattle.listing.specs.Listing.{listed, xPins}
@@ -29,6 +29,7 @@ use Rattle.cs_pins.specs.Pins.{
   commonedListed,
   numbered,
 }
+use Rattle.cs_pins.specs.design.Numbered.{NumberedIn}
 
 -- lists picked by a test
 cond-in : (t : Bool) (a b : List Listed) → GpiosIn a → GpiosIn b → GpiosIn (cond t a b)
@@ -77,3 +78,6 @@ module _ (d : Description) (e : descriptionIn d ≡ true) where
   unfolding numbered
   numbered-in =
       append-in (dataListed d ++ selectListed d) (commonedListed d) (append-in (dataListed d) (selectListed d) data-in select-in) commoned-in
+
+  pub few-numbered : NumberedIn d
+  few-numbered = let chip = chip0-in d e in record { data-pins = chip .data-pins .1; control-lines = chip .control-lines; commoned-lines = λ m. config-in d e m .commoned-lines }

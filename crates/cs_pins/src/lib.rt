@@ -18,10 +18,10 @@ ghost use mathlib.Core.Path.{_≡_};
 ghost use mathlib.Core.List.{_++_};
 ghost use Prim.Native.Nat.{_+_, _≤_};
 ghost use lib.ListN.{getD};
-ghost use mathlib.Core.Bool.{true};
-ghost use Rattle.slot.specs.Description.{isMulti, chip0};
+ghost use Rattle.slot.specs.Description.{chip0};
 ghost use Rattle.listing.specs.Listing.{listOf};
 ghost use Rattle.cs_pins.specs.Pins.{pinListed, dataListed, active, ifActive, activeListed, kindListed, selectListed, multiCommoned, numbered, csSearchIn};
+ghost use Rattle.cs_pins.specs.design.Numbered.{NumberedIn};
 
 // A chip pin; one without GPIO or off the socket is a fault.
 fn pin_listed(d: Description, pin: u8) -> Listed
@@ -145,8 +145,7 @@ pub fn push_commoned(d: Description, selects: Listing) -> Listing
 
 // All the pins that the search numbers.
 pub fn list(d: Description) -> Listing
-    requires { ⌜ (chip0 d .«num_data_pins» ≤ 16) × (chip0 d .control .count ≤ 8)
-        × (isMulti (d .«set_type») ≡ true → d .multi .«num_commoned» ≤ 6) ⌝ }
+    requires { ⌜ NumberedIn d ⌝ }
     ensures { λ r. ⌜ (listOf r ≡ numbered d) × (r .count ≤ 30) ⌝ }
 {
     let set_type = d.set_type;

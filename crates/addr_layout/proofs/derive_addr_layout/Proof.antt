@@ -72,11 +72,12 @@ laid-out-requires : tie.Need-laid-out-requires
 laid-out-requires c κs =
     let d = c .before .before .before .before .before .before .before .before .before .before .before .before .args .d in
     let l = c .before .before .before .before .before .before .before .before .before .list in
-    let best-is = sym (c .before .before .before .best .ensures) ∙ c .before .choice .given .1 in (
-      omega (arith, l .ensures .1),
-      few-lines d (sym (c .before .before .before .before .before .before .before .before .before .before .before .description-in .ensures) ∙ not-false _ (c .before .before .before .before .before .before .before .before .before .before .if1 .left)),
-      found-best (trial d (listOf (l .result))) _ _ _ best-is .fits,
-    )
+    let best-is = sym (c .before .before .before .best .ensures) ∙ c .before .choice .given .1 in
+    record {
+      pins = omega (arith, l .ensures .1);
+      address-lines = few-lines d (sym (c .before .before .before .before .before .before .before .before .before .before .before .description-in .ensures) ∙ not-false _ (c .before .before .before .before .before .before .before .before .before .before .if1 .left));
+      fits = found-best (trial d (listOf (l .result))) _ _ _ best-is .fits;
+    }
 
 returns-3 : tie.Need-returns-3
 returns-3 c =

@@ -6,7 +6,7 @@ use Rattle.cs_checked.proofs.checked.Statement.{statement}
 use Rattle.cs_checked.proofs.checked.Tie as tie
 
 check-multi-requires : tie.Need-check-multi-requires
-check-multi-requires c κs = c .before .before .pre .1 (sym (c .before .is-multi .ensures) ∙ c .if1 .taken)
+check-multi-requires c κs = c .before .before .pre .multi-lines (sym (c .before .is-multi .ensures) ∙ c .if1 .taken)
 
 returns : tie.Need-returns
 unfolding checked

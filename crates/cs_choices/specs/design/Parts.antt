@@ -1,15 +1,17 @@
--- What the search keeps while it runs over the choices in rows. No answer is defined by it: `dataSet` and `selectSet` say
--- which GPIOs a choice has. Assumes nothing.
-use Prim.Native.Nat.{ℕ, zero, suc}
+-- What the search is given and keeps while it runs over the choices in rows. No answer is defined by it: `dataSet` and
+-- `selectSet` say which GPIOs a choice has. Assumes nothing.
+use Prim.Native.Nat.{ℕ, zero, suc, _≤_}
 use mathlib.Core.Bool.{Bool, _&&_, cond}
 use mathlib.Core.List.{List}
 use lib.Bits.{bitOr}
 use lib.Dec.{leb}
 use lib.ListN.{length}
 use Rattle.gpio.specs.Set.{with}
-use Rattle.listing.specs.Choice.{gpioAt, bitOf}
+use Rattle.listing.specs.Choice.{gpioAt, bitOf, GpiosIn}
+use Rattle.listing.specs.Listing.{listOf}
 use Rattle.listing.specs.design.Parts.{inPart}
 use Rattle.listing.specs.declared.Listed.{Listed}
+use Rattle.listing.specs.declared.Listing.{Listing}
 use Rattle.cs_verdict.specs.Verdict.{verdictOf}
 use Rattle.cs_choices.specs.Sets.{dataSet, selectSet}
 use Rattle.cs_choices.specs.declared.choices.Sets.{Sets}
@@ -41,3 +43,14 @@ abbrev pub inRow : Fixed → Sets → Sets → Verdict
 inRow f low high =
     verdictOf (f .multi) (f .qualifiers) (bitOr (low .«data_gpios») (high .«data_gpios»))
     (bitOr (bitOr (low .«select_gpios») (high .«select_gpios»)) (f .excess))
+
+-- n pins and more are listed, no more than there is room for, and each candidate is a GPIO
+pub record PinsIn (l : Listing) (n : ℕ) : Type 0 where
+  pub listed : n ≤ l .count
+  pub few : l .count ≤ 30
+  pub gpios : GpiosIn (listOf l)
+
+-- such pins, and so many bits at most in their choice number or in a part of it
+pub record BitsIn (l : Listing) (n bits most : ℕ) : Type 0 where
+  pub pins : PinsIn l n
+  pub few-bits : bits ≤ most

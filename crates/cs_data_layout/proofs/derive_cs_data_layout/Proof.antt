@@ -51,7 +51,7 @@ search-requires c κs =
     let a = given .before .before .args in
     let w = within (a .d) (a .addr-layout) _ _ (given .before .in-domain .ensures) (given .given-in .ensures) (not-false _ (early .before .if1 .left)) _ (early .earlier .ensures) in
     let none = sym (early .earlier .ensures) ∙ c .before .enum-told .given .1 in
-    rw (c .handed .ensures) (w .0, handed-in (a .d) (a .addr-layout) (w .1), qualifiers-in (a .d) (a .addr-layout) (w .1) none)
+    rw (c .handed .ensures) (record { description = w .0; handed = record { layout = handed-in (a .d) (a .addr-layout) (w .1); qualifiers = qualifiers-in (a .d) (a .addr-layout) (w .1) none } })
 
 returns-2 : tie.Need-returns-2
 returns-2 c =

@@ -9,15 +9,15 @@ use Rattle.slot.specs.Description.{chip0}
 use Rattle.slot.specs.declared.description.Chip.{Chip}
 use Rattle.slot.specs.declared.description.Description.{Description}
 use Rattle.domain.specs.Domain.{descriptionIn}
-use Rattle.domain.proofs.Bounds.{chip0-in, config-in}
-use Rattle.listing.specs.Choice.{GpiosIn}
+use Rattle.domain.proofs.Bounds.{chip0-in}
 use Rattle.listing.specs.Listing.{listOf, twos}
 use Rattle.listing.specs.declared.Listing.{Listing}
 use Rattle.search.specs.declared.Found.{Found}
 use Rattle.search.specs.declared.Found.the-variants.{Nothing, At}
 use Rattle.addr_layout.specs.declared.layout.AddrLayout.{AddrLayout}
 use Rattle.cs_pins.specs.Pins.{numbered, csSearchIn}
-use Rattle.cs_pins.proofs.InDomain.{numbered-in}
+use Rattle.cs_pins.proofs.InDomain.{numbered-in, few-numbered}
+use Rattle.cs_choices.specs.design.Parts.{PinsIn}
 use Rattle.cs_data_layout.specs.Choices.{numData, csDataLayoutOf}
 use Rattle.cs_data_layout.specs.Search.{csBest, noneFits, csDataAnswerOf}
 use Rattle.cs_data_layout.specs.declared.layout.CsDataOutcome.the-variants.{LaidOut}
@@ -29,18 +29,14 @@ use Rattle.cs_data_layout.proofs.search.Statement.{statement}
 use Rattle.cs_data_layout.proofs.search.Tie as tie
 
 list-requires : tie.Need-list-requires
-list-requires c κs =
-    let d = c .before .args .d in
-    let e = described d (c .before .pre .0) in
-    let chip = chip0-in d e in
-    (chip .data-pins .1, chip .control-lines, λ m. config-in d e m .commoned-lines)
+list-requires c κs = let d = c .before .args .d in few-numbered d (described d (c .before .pre .description))
 
 -- the listing has the data pins, and its candidates are GPIOs
-listed : (d : Description) (l : Listing) (n : ℕ) → csSearchIn d ≡ true → length (l .pins) ≡ 30 → listOf l ≡ numbered d → l .count ≤ 30 → n ≡ numData d → (n ≤ l .count) × GpiosIn (listOf l)
+listed : (d : Description) (l : Listing) (n : ℕ) → csSearchIn d ≡ true → length (l .pins) ≡ 30 → listOf l ≡ numbered d → l .count ≤ 30 → n ≡ numData d → PinsIn l n
 listed d l n e long h s i =
     let m : l .count ≡ length (listOf l) = simp length-take (omega arith) in
     let k : numData d ≤ length (listOf l) = rw h (data-numbered d) in
-    (omega (arith, m, k, i), rw h (numbered-in d (described d e)))
+    record { listed = omega (arith, m, k, i); few = s; gpios = rw h (numbered-in d (described d e)) }
 
 few : (d : Description) (l : Listing) (bits : ℕ) → csSearchIn d ≡ true → listOf l ≡ numbered d → bits ≡ twos (listOf l) → bits ≤ 16
 few d l bits e h i = let m : bits ≡ twos (numbered d) = i ∙ ap twos h in omega (arith, few-twos d e, m)
@@ -55,19 +51,19 @@ found d h l g c s r e i j k = rw (← e, i, ← j) k
 num-data : (c : tie.After-chip0) → c .chip0 .result .«num_data_pins» ≡ numData (c .before .args .d)
 num-data c = ap (λ (x : Chip). x .«num_data_pins») (c .chip0 .ensures)
 
-pins-listed : (c : tie.After-list) → (c .before .chip0 .result .«num_data_pins» ≤ c .list .result .count) × GpiosIn (listOf (c .list .result))
+pins-listed : (c : tie.After-list) → PinsIn (c .list .result) (c .before .chip0 .result .«num_data_pins»)
 pins-listed c =
     let long : length (c .list .result .pins) ≡ 30 = search (mapped-length, needs) in
-    listed (c .before .before .args .d) (c .list .result) _ (c .before .before .pre .0) long (c .list .ensures .0) (c .list .ensures .1) (num-data (c .before))
+    listed (c .before .before .args .d) (c .list .result) _ (c .before .before .pre .description) long (c .list .ensures .0) (c .list .ensures .1) (num-data (c .before))
 
 best-requires : tie.Need-best-requires
 best-requires c κs =
     let l = c .before .before .before .before .before in
     let bits = c .before .before .before .before in
-    (pins-listed l .0, l .list .ensures .1, pins-listed l .1, few (l .before .before .args .d) (l .list .result) _ (l .before .before .pre .0) (l .list .ensures .0) (bits .choice-bits .ensures .0))
+    record { pins = pins-listed l; few-bits = few (l .before .before .args .d) (l .list .result) _ (l .before .before .pre .description) (l .list .ensures .0) (bits .choice-bits .ensures .0) }
 
 described-at : (c : tie.After-qualifier-set) → descriptionIn (c .before .before .before .before .before .before .before .args .d) ≡ true
-described-at c = let start = c .before .before .before .before .before .before .before in described (start .args .d) (start .pre .0)
+described-at c = let start = c .before .before .before .before .before .before .before in described (start .args .d) (start .pre .description)
 
 -- what the search found, and beside what
 best-at : (c : tie.After-best) → c .best .result ≡ csBest (c .before .before .before .before .before .before .before .before .args .d) (c .before .before .before .before .before .before .before .before .args .h)
@@ -91,17 +87,17 @@ laid-out-requires c κs =
     let l = q .before .before .before .before .before in
     let a = l .before .before .args in
     let chip = chip0-in (a .d) (described-at q) in
-    let n = num-data (l .before) in (
-      n,
-      chip .data-pins .1,
-      chip .control-lines,
-      omega (arith, n, pins-listed l .0),
-      l .list .ensures .1,
-      pins-listed l .1,
-      q .before .excess-set .ensures,
-      q .qualifier-set .ensures,
-      omega (arith, few-lines (a .h) (l .before .before .pre .1)),
-    )
+    record {
+      lines = record {
+        data-pins = chip .data-pins .1;
+        control-lines = chip .control-lines;
+        excess-lines = omega (arith, few-lines (a .h) (l .before .before .pre .handed .layout));
+        qualifiers = q .qualifier-set .ensures;
+      };
+      pins = pins-listed l;
+      num-data = num-data (l .before);
+      excess = q .before .excess-set .ensures;
+    }
 
 returns : tie.Need-returns
 returns c =

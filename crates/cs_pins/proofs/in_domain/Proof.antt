@@ -1,17 +1,13 @@
 -- `in_domain` meets its contract. Assumes nothing.
 use mathlib.Core.Path.{sym, _∙_}
-use Rattle.domain.proofs.Bounds.{chip0-in, config-in}
 use Rattle.cs_pins.specs.Pins.{csSearchIn}
+use Rattle.cs_pins.proofs.InDomain.{few-numbered}
 use borrow.Author.Needs.{needs}
 use Rattle.cs_pins.proofs.in_domain.Statement.{statement}
 use Rattle.cs_pins.proofs.in_domain.Tie as tie
 
 list-requires : tie.Need-list-requires
-list-requires c κs =
-    let d = c .before .before .args .d in
-    let e = sym (c .before .description-in .ensures) ∙ c .if1 .taken in
-    let chip = chip0-in d e in
-    (chip .data-pins .1, chip .control-lines, λ m. config-in d e m .commoned-lines)
+list-requires c κs = few-numbered (c .before .before .args .d) (sym (c .before .description-in .ensures) ∙ c .if1 .taken)
 
 returns : tie.Need-returns
 unfolding csSearchIn

@@ -26,7 +26,7 @@ without d ls ms m e f = rw (m, f, e, append-nil)
 
 push-commoned-requires : tie.Need-push-commoned-requires
 push-commoned-requires c κs =
-    (c .before .before .list-selects .ensures .1, c .before .before .before .before .pre .2 (sym (c .before .is-multi .ensures) ∙ c .if1 .taken))
+    (c .before .before .list-selects .ensures .1, c .before .before .before .before .pre .commoned-lines (sym (c .before .is-multi .ensures) ∙ c .if1 .taken))
 
 returns : tie.Need-returns
 returns c =

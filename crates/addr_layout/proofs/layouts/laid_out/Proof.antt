@@ -66,9 +66,9 @@ layout-requires c κs =
     let a = c .before .before .before .before .before .before .before .args in
     let s = span-is (a .d) (a .l) (a .choice) _ _ (c .before .before .before .before .every-choice .ensures)
     (c .before .before .before .span-of .ensures) in
-    let p : paddedPins (c .before .before .before .span-of .result) ≤ 48 = rw s (pins-fit _ (a .score) (c .before .before .before .before .before .before .before .pre .2)) in
+    let p : paddedPins (c .before .before .before .span-of .result) ≤ 48 = rw s (pins-fit _ (a .score) (c .before .before .before .before .before .before .before .pre .fits)) in
     let u = used-some (a .d) _ _ (c .before .before .before .before .before .before .in-range .ensures) (c .before .before .before .before .before .num-lines .ensures) in
-    (omega arith, u, omega (arith, c .before .before .before .before .before .num-lines .ensures, c .before .before .before .before .before .before .before .pre .1))
+    (omega arith, u, omega (arith, c .before .before .before .before .before .num-lines .ensures, c .before .before .before .before .before .before .before .pre .address-lines))
 
 laid : (d : Description) (l : Listing) (choice u n : ℕ) (s : Span) (gs : List ℕ) (single : Bool) (r : AddrLayout) → n ≤ 24 → u ≡ inRange d → n ≡ lines d
     → s ≡ choiceSpan (listOf l) (spanningOf d) choice → gs ≡ tab 30 (λ k. gpioAt (listOf l) choice k)
@@ -86,7 +86,7 @@ returns c =
     let s = span-is (a .d) (a .l) (a .choice) _ _ (c .before .before .before .before .before .every-choice .ensures)
     (c .before .before .before .before .span-of .ensures) in
     ap (λ (x : AddrLayout). record { outcome = LaidOut; layout = x })
-    (laid (a .d) (a .l) (a .choice) _ _ _ _ _ _ (omega (arith, c .before .before .before .before .before .before .num-lines .ensures, c .before .before .before .before .before .before .before .before .pre .1)) (c .before .before .before .before .before .before .before .in-range .ensures)
+    (laid (a .d) (a .l) (a .choice) _ _ _ _ _ _ (omega (arith, c .before .before .before .before .before .before .num-lines .ensures, c .before .before .before .before .before .before .before .before .pre .address-lines)) (c .before .before .before .before .before .before .before .in-range .ensures)
     (c .before .before .before .before .before .before .num-lines .ensures) s (c .before .before .before .resolve .ensures) (c .before .before .is-single .ensures) (c .layout .ensures))
 
 pub laid-out-spec : {M : Type 1} → statement M

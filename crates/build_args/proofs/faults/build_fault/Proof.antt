@@ -13,7 +13,7 @@ in-domain c = description-in (c .args .b .description) (described (c .args .b) (
 too-large-requires : tie.Need-too-large-requires
 too-large-requires c κs =
     let h = in-domain (c .before .before .before .before .before) in
-    (h .image-size .1, h .word-bytes .0, h .word-bytes .1)
+    record { image-size = h .image-size .1; some-bytes = h .word-bytes .0; bytes = h .word-bytes .1 }
 
 returns : tie.Need-returns
 unfolding buildFault
@@ -27,7 +27,7 @@ lines-fault-requires c κs =
 lent-fault-requires : tie.Need-lent-fault-requires
 lent-fault-requires c κs =
     let s = c .before .before .before .before .before .before .before .before in
-    (c .before .before .too-large .ensures .1 (c .before .if1 .left), in-domain s .word-bytes .1)
+    record { pins = c .before .before .too-large .ensures .1 (c .before .if1 .left); bytes = in-domain s .word-bytes .1 }
 
 returns-2 : tie.Need-returns-2
 unfolding buildFault

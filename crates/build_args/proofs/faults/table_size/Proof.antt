@@ -24,12 +24,12 @@ most pins h = pow-mono {i = pins} {j = 31} (omega arith)
 mul-result : tie.Need-mul-result
 mul-result c =
     let s = c .before .before in
-    rw (entries (s .args .a .«num_addr_pins») (s .pre .0)) (omega (arith, doubled (2 ^ s .args .a .«num_addr_pins») (s .args .d .«word_bytes») (most _ (s .pre .0)) (s .pre .1)))
+    rw (entries (s .args .a .«num_addr_pins») (s .pre .pins)) (omega (arith, doubled (2 ^ s .args .a .«num_addr_pins») (s .args .d .«word_bytes») (most _ (s .pre .pins)) (s .pre .bytes)))
 
 returns : tie.Need-returns
 returns c =
     let s = c .before .before in
-    rw (entries (s .args .a .«num_addr_pins») (s .pre .0)) (refl, doubled (2 ^ s .args .a .«num_addr_pins») (s .args .d .«word_bytes») (most _ (s .pre .0)) (s .pre .1))
+    rw (entries (s .args .a .«num_addr_pins») (s .pre .pins)) (refl, doubled (2 ^ s .args .a .«num_addr_pins») (s .args .d .«word_bytes») (most _ (s .pre .pins)) (s .pre .bytes))
 
 pub table-size-spec : {M : Type 1} → statement M
 table-size-spec =

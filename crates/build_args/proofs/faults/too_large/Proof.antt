@@ -20,7 +20,7 @@ returns c =
     let s = c .before .before in
     let d = s .args .d in
     let a = s .args .a in (
-      rw (lt-ltb (d .«max_image_size») (tableSize d a) (wide (a .«num_addr_pins») (d .«word_bytes») (d .«max_image_size») (c .if1 .taken) (s .pre .1) (s .pre .0))),
+      rw (lt-ltb (d .«max_image_size») (tableSize d a) (wide (a .«num_addr_pins») (d .«word_bytes») (d .«max_image_size») (c .if1 .taken) (s .pre .some-bytes) (s .pre .image-size))),
       λ e. absurd (zero-one cc),
     )
 

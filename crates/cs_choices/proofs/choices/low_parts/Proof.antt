@@ -9,7 +9,6 @@ use Rattle.lists.specs.Tab.{tab}
 use Rattle.lists.proofs.Shifts.{shifted-one}
 use Rattle.lists.proofs.Tab.{Filled, filled-none, filled-turn}
 use Rattle.listing.specs.Listing.{listOf}
-use Rattle.listing.specs.Choice.{GpiosIn}
 use Rattle.search.proofs.Rows.{row-short}
 use Rattle.cs_choices.specs.design.Parts.{partsOf}
 use Rattle.cs_choices.specs.declared.choices.Sets.{Sets}
@@ -22,7 +21,7 @@ done out f q n m e h i = rw (e, h) at i
 
 abbrev Inv-loop : tie.InvT-loop
 Inv-loop l num-data split count out₀ q₀ out q =
-    (q ≤ count) × (count ≤ 64) × (count ≡ 2 ^ split) × GpiosIn (listOf l) × Filled 64 (λ j. partsOf (listOf l) num-data true split j) out q
+    (q ≤ count) × (count ≤ 64) × (count ≡ 2 ^ split) × Filled 64 (λ j. partsOf (listOf l) num-data true split j) out q
 
 abbrev μ-loop : tie.MeasureT-loop
 μ-loop l num-data split count out₀ q₀ out q = count - q
@@ -31,15 +30,15 @@ loop-holds : tie.Need-loop-holds Inv-loop μ-loop
 loop-holds c =
     let a = c .args in
     let e = shifted-one (a .split) 64 (omega arith) in
-    (omega arith, rw e (row-short (a .split) (omega arith)), e, c .pre .2, filled-none refl)
+    (omega arith, rw e (row-short (a .split) (omega arith)), e, filled-none refl)
 
 loop-again : tie.Need-loop-again Inv-loop μ-loop
 loop-again c =
     let v = c .before .before .loop in
-    (omega arith, v .inv .1, v .inv .2, v .inv .3, filled-turn (v .inv .4) (omega arith) (c .parts .ensures))
+    (omega arith, v .inv .1, v .inv .2, filled-turn (v .inv .3) (omega arith) (c .parts .ensures))
 
 returns : tie.Need-returns Inv-loop μ-loop
-returns c = let v = c .before .loop in done _ _ _ _ _ (omega arith) (v .inv .2) (v .inv .4 .first)
+returns c = let v = c .before .loop in done _ _ _ _ _ (omega arith) (v .inv .2) (v .inv .3 .first)
 
 pub low-parts-spec : {M : Type 1} → statement M
 low-parts-spec = tie.close (tie.spec Inv-loop μ-loop (λ c. search needs) loop-holds (λ c. search needs) (λ c κs. search needs) (λ c. search needs) (λ c. search needs) (λ c. search needs) (λ c. search needs) loop-again returns)

@@ -16,7 +16,7 @@ use Rattle.listing.specs.design.Parts.{inPart}
 use Rattle.listing.specs.declared.Listed.{Listed}
 use Rattle.listing.proofs.InDomain.{gpio-in}
 use Rattle.listing.proofs.Walked.{pin-taken, gpio-taken, rest-left, bit-served}
-use Rattle.cs_choices.specs.design.Parts.{setPartAt}
+use Rattle.cs_choices.specs.design.Parts.{setPartAt, PinsIn}
 use borrow.Author.Needs.{needs}
 use Rattle.cs_choices.proofs.choices.part.Statement.{statement}
 use Rattle.cs_choices.proofs.choices.part.Tie as tie
@@ -35,7 +35,7 @@ gpio-small ls i c k g e = omega (arith, gpio-in ls i c k, e)
 
 abbrev Inv-loop : tie.InvT-loop
 Inv-loop from to low split choice l s₀ rest₀ bit₀ k₀ s rest bit k =
-    (k ≤ to) × (to ≤ l .count) × (l .count ≤ 30) × (bit ≤ k) × (length (l .pins) ≡ 30) × GpiosIn (listOf l) × (rest ≡ restAt (listOf l) choice k)
+    (k ≤ to) × PinsIn l to × (bit ≤ k) × (length (l .pins) ≡ 30) × (rest ≡ restAt (listOf l) choice k)
     × (bit ≡ bitOf (listOf l) k) × (s ≡ setPartAt (listOf l) from low split choice k)
 
 abbrev μ-loop : tie.MeasureT-loop
@@ -43,14 +43,14 @@ abbrev μ-loop : tie.MeasureT-loop
 
 loop-holds : tie.Need-loop-holds Inv-loop μ-loop
 unfolding restAt setPartAt
-loop-holds c = (omega arith, omega arith, omega arith, omega arith, search (mapped-length, needs), c .pre .2, refl, tally-none _, refl)
+loop-holds c = (omega arith, c .pre, omega arith, search (mapped-length, needs), refl, tally-none _, refl)
 
 with-if-requires : tie.Need-with-if-requires Inv-loop μ-loop
 with-if-requires c κs =
     let v = c .before .before .before .before .loop in
     let l = c .before .before .before .before .before .args .t1 in
     let h : v .k < l .count = omega arith in
-    gpio-small _ (v .inv .5) _ _ _ (gpio-taken _ _ _ _ _ _ (v .inv .6) (pin-taken (l .pins) (l .count) (v .k) h) (c .before .pick .ensures))
+    gpio-small _ (v .inv .1 .gpios) _ _ _ (gpio-taken _ _ _ _ _ _ (v .inv .4) (pin-taken (l .pins) (l .count) (v .k) h) (c .before .pick .ensures))
 
 loop-again : tie.Need-loop-again Inv-loop μ-loop
 loop-again c =
@@ -61,17 +61,15 @@ loop-again c =
     let g = pin-taken (l .pins) (l .count) (v .k) h in (
       omega arith,
       v .inv .1,
-      v .inv .2,
       omega arith,
-      v .inv .4,
-      v .inv .5,
-      rest-left _ _ _ _ _ _ (v .inv .6) g pick,
-      bit-served (listOf l) (v .k) _ _ _ (v .inv .7) g (c .bits .ensures .0),
-      more _ _ _ _ _ _ _ _ _ _ _ (gpio-taken _ _ _ _ _ _ (v .inv .6) g pick) (v .inv .7) (c .before .before .in-part .ensures) (v .inv .8) (c .before .with-if .ensures),
+      v .inv .3,
+      rest-left _ _ _ _ _ _ (v .inv .4) g pick,
+      bit-served (listOf l) (v .k) _ _ _ (v .inv .5) g (c .bits .ensures .0),
+      more _ _ _ _ _ _ _ _ _ _ _ (gpio-taken _ _ _ _ _ _ (v .inv .4) g pick) (v .inv .5) (c .before .before .in-part .ensures) (v .inv .6) (c .before .with-if .ensures),
     )
 
 returns : tie.Need-returns Inv-loop μ-loop
-returns c = let v = c .before .loop in done _ _ _ _ _ _ _ _ (omega arith) (v .inv .8)
+returns c = let v = c .before .loop in done _ _ _ _ _ _ _ _ (omega arith) (v .inv .6)
 
 pub part-spec : {M : Type 1} → statement M
 part-spec = tie.close (tie.spec Inv-loop μ-loop loop-holds (λ c. search needs) (λ c. search needs) (λ c κs. search needs) (λ c κs. search needs) with-if-requires (λ c κs. search needs) (λ c. search needs) (λ c. search needs) (λ c. search needs) loop-again returns)

@@ -15,7 +15,7 @@ checked-requires : tie.Need-checked-requires
 checked-requires c κs =
     let d = c .before .before .args .d in
     let e = described d (c .before .before .pre) in
-    (chip0-in d e .control-lines, λ m. (config-in d e m .commoned-lines, config-in d e m .ignored-lines))
+    record { control-lines = chip0-in d e .control-lines; multi-lines = λ m. record { commoned = config-in d e m .commoned-lines; ignored = config-in d e m .ignored-lines } }
 
 returns : tie.Need-returns
 unfolding earlier

@@ -64,7 +64,7 @@ returns c =
     let p = c .before .before .before .pre in
     let few : length (listOf (a .l)) ≤ 30 = simp length-take (omega arith) in
     ap (λ (x : CsDataLayout). record { outcome = LaidOut; layout = x })
-    (laid (a .d) (a .h) (listOf (a .l)) (a .choice) _ _ _ _ _ _ few (p .0) (p .6) (p .7) (c .before .before .resolve .ensures) (c .before .whole .ensures) (c .layout .ensures))
+    (laid (a .d) (a .h) (listOf (a .l)) (a .choice) _ _ _ _ _ _ few (p .num-data) (p .excess) (p .lines .qualifiers) (c .before .before .resolve .ensures) (c .before .whole .ensures) (c .layout .ensures))
 
 pub laid-out-spec : {M : Type 1} → statement M
 laid-out-spec = tie.close (tie.spec (λ c κs. search needs) (λ c κs. search needs) (λ c κs. search needs) returns)

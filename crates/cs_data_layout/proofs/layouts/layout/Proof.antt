@@ -31,7 +31,7 @@ data-few : (d : Description) (chip : Chip) → chip ≡ chip0 d → numData d �
 data-few d chip e h = rw e h
 
 few : (c : tie.After-select-roles) → (c .before .before .chip0 .result .«num_data_pins» ≤ 16) × (c .select-roles .result .count ≤ 8)
-few c = let chip = c .before .before in (data-few (chip .before .args .d) _ (chip .chip0 .ensures) (chip .before .pre .0), c .select-roles .ensures .1)
+few c = let chip = c .before .before in (data-few (chip .before .args .d) _ (chip .chip0 .ensures) (chip .before .pre .data-pins), c .select-roles .ensures .1)
 
 -- as many roles as the array counts
 roles-counted : (c : tie.After-select-roles) → c .select-roles .result .count ≡ length (selectRoles (c .before .before .before .args .d))
@@ -93,7 +93,7 @@ returns c =
     let roles = base .before .before in
     let chip = roles .before .before in
     let a = chip .before .args in
-    made (a .d) (a .h) (a .gpios) (a .s) (a .q) (chip .chip0 .result) (roles .select-roles .result) _ _ _ _ _ _ _ _ _ _ _ _ (chip .before .pre .2) (chip .chip0 .ensures) (roles .select-roles .ensures .0)
+    made (a .d) (a .h) (a .gpios) (a .s) (a .q) (chip .chip0 .result) (roles .select-roles .result) _ _ _ _ _ _ _ _ _ _ _ _ (chip .before .pre .qualifiers) (chip .chip0 .ensures) (roles .select-roles .ensures .0)
     (roles-counted roles) (base .base .ensures) (low .lowest .ensures .0) (above .above .ensures .0) (lines .data-lines .ensures) (low2 .lowest2 .ensures .0) (above2 .above2 .ensures .0) (w .width .ensures .0) (ignored .ignore-index .ensures)
     (selects .select-lines .ensures) (commoned .commoned-lines .ensures) (count .commoned-count .ensures) (c .qualifiers .ensures)
 

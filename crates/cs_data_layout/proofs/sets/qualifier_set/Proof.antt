@@ -23,7 +23,7 @@ abbrev μ-loop : tie.MeasureT-loop
 
 loop-holds : tie.Need-loop-holds Inv-loop μ-loop
 unfolding setOf
-loop-holds c = (omega arith, omega arith, qualifier-line-in (c .before .before .before .args .h) (c .before .before .before .pre .0) (c .before .before .before .args .d) (c .before .before .before .pre .1), refl)
+loop-holds c = (omega arith, omega arith, qualifier-line-in (c .before .before .before .args .h) (c .before .before .before .pre .layout) (c .before .before .before .args .d) (c .before .before .before .pre .qualifiers), refl)
 
 with-requires : tie.Need-with-requires Inv-loop μ-loop
 with-requires c κs = let i = c .before .before .loop .inv in small _ _ _ _ (i .2) (c .before .loop-test .taken) (c .qualifier-gpio .ensures)
