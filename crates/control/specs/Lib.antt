@@ -1,3 +1,4 @@
 pub mod CsConfig
 pub mod AlgPreference
 pub mod MultiCsConfig
+pub mod design

@@ -11,7 +11,8 @@ use slot::kinds::CS4;
 ghost use mathlib.Core.Path.{_≡_};
 ghost use mathlib.Core.Bool.{cond};
 ghost use Prim.Native.Nat.{_≤_, _<_};
-ghost use Rattle.control.specs.MultiCsConfig.{named, namedCount, linePart, sortedWith, nothing, sorted, multiRefused, multiAnswer};
+ghost use Rattle.control.specs.MultiCsConfig.{named, namedCount, nothing, multiRefused, multiAnswer};
+ghost use Rattle.control.specs.design.Sorted.{linePart, sortedWith, sorted};
 
 // The part that a control line has in a Multi set.
 pub enum Part {

@@ -8,7 +8,7 @@ use crate::wiring::next_high;
 use crate::wiring::part_of;
 use words::put_word;
 ghost use mathlib.Core.Path.{_≡_};
-ghost use Rattle.table_fill.specs.design.Entries.{TableIn, tableBy};
+ghost use Rattle.table_fill.specs.design.Entries.{Filling, tableBy};
 
 // Writes the first entries to the front of a buffer.
 pub fn fill_by(
@@ -19,7 +19,7 @@ pub fn fill_by(
     entries: u32,
     table: &mut [u8],
 )
-    requires { ⌜ TableIn w sources pad (now images) entries (now table) ⌝ }
+    requires { ⌜ Filling w sources pad (now images) entries (now table) ⌝ }
     ensures { λ _. ⌜ now (table .exit) ≡ tableBy w sources pad (now (images .entry)) entries (now (table .entry)) ⌝ }
 {
     let bytes = w.word_bytes as usize;

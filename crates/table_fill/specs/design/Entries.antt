@@ -71,7 +71,7 @@ tableBy w sources pad images entries old =
     entriesBytes (w .«word_bytes») (entryBy w sources pad images) entries ++ drop (entries * w .«word_bytes») old
 
 -- what a table takes: positions, sources and a pad that is a word, and room for its entries
-pub record TableIn (w : Wiring) (sources : List Source) (pad : ℕ) (images : List ℕ) (entries : ℕ) (table : List ℕ) : Type 0 where
+pub record Filling (w : Wiring) (sources : List Source) (pad : ℕ) (images : List ℕ) (entries : ℕ) (table : List ℕ) : Type 0 where
   pub wiring-in : WiringIn w
   pub sources-in : SourcesIn images w sources
   pub pad-short : pad < 2 ^ (8 * w .«word_bytes»)

@@ -1,7 +1,12 @@
 -- `derive_multi_cs_config` meets its contract: lines in the domain are at most 8, as `sort` asks. Assumes nothing.
 use mathlib.Core.Path.{_≡_, sym, _∙_}
+use mathlib.Core.Bool.{cond}
+use Prim.Native.Nat.{_≤_}
+use Rattle.refusal.specs.declared.Refusal.the-variants.{NoActiveLine}
 use Rattle.lists.proofs.Bools.{and-left}
-use Rattle.control.specs.MultiCsConfig.{multiAnswerOf, multiAnswer}
+use Rattle.control.specs.MultiCsConfig.{multiRefused, multiAnswer}
+use Rattle.control.specs.declared.multi_cs_config.MultiOutcome.the-variants.{Derived}
+use Rattle.control.proofs.Sorted.{answers}
 use borrow.Author.Needs.{needs}
 use borrow.Author.Tests.{leb-true}
 use Rattle.control.proofs.multi_cs_config.derive_multi_cs_config.Statement.{statement}
@@ -10,11 +15,17 @@ use Rattle.control.proofs.multi_cs_config.derive_multi_cs_config.Tie as
 sort-requires : tie.Need-sort-requires
 sort-requires c κs = leb-true _ _ (and-left _ _ (sym (c .before .control-in .ensures) ∙ c .if1 .taken))
 
+within : (c : tie.After-sort) → c .before .before .before .args .lines .count ≤ 8
+within c = leb-true _ _ (and-left _ _ (sym (c .before .before .control-in .ensures) ∙ c .before .if1 .taken))
+
 -- in the domain, the sorted lines answer
 sorted-answers : (c : tie.After-sort) →
     let a = c .before .before .before .args in
-    multiAnswer (a .lines) (a .chip0) (a .secondary) ≡ multiAnswerOf (c .sort .result)
-sorted-answers c = rw (sym (c .before .before .control-in .ensures) ∙ c .before .if1 .taken, ← c .sort .ensures)
+    multiAnswer (a .lines) (a .chip0) (a .secondary) ≡ cond (c .sort .result .found) (record { outcome = Derived; config = c .sort .result .config }) (multiRefused NoActiveLine)
+sorted-answers c =
+    let a = c .before .before .before .args in
+    rw (sym (c .before .before .control-in .ensures) ∙ c .before .if1 .taken)
+    (answers (a .lines) (a .chip0) (a .secondary) _ (within c) (c .sort .ensures))
 
 returns : tie.Need-returns
 returns c = rw (sorted-answers (c .before .before), c .before .if2 .taken)

@@ -2,7 +2,7 @@
 use mathlib.Core.Path.{_≡_}
 use mathlib.Core.Bool.{cond}
 use Rattle.control.specs.declared.multi_cs_config.Part.the-variants.{Ignored, Commoned}
-use Rattle.control.specs.MultiCsConfig.{linePart}
+use Rattle.control.specs.design.Sorted.{linePart}
 use borrow.Author.Needs.{needs}
 use borrow.Author.Tests.{le-leb, lt-leb}
 use Rattle.control.proofs.multi_cs_config.part_of.Statement.{statement}

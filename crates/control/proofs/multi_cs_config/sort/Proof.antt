@@ -11,7 +11,8 @@ use Rattle.slot.specs.Description.{kindAt}
 use Rattle.control.specs.declared.multi_cs_config.Part.{Part}
 use Rattle.control.specs.declared.multi_cs_config.Part.the-variants.{Dropped, Select, Commoned, Ignored}
 use Rattle.control.specs.declared.multi_cs_config.Sorted.{Sorted}
-use Rattle.control.specs.MultiCsConfig.{namedCount, linePart, sortedWith, sorted}
+use Rattle.control.specs.MultiCsConfig.{namedCount}
+use Rattle.control.specs.design.Sorted.{linePart, sortedWith, sorted}
 use borrow.Author.Needs.{needs}
 use Rattle.control.proofs.multi_cs_config.sort.Statement.{statement}
 use Rattle.control.proofs.multi_cs_config.sort.Tie as tie

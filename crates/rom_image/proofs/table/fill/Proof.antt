@@ -7,7 +7,7 @@ use borrow.Author.Needs.{needs}
 use lib.ListN.{length, drop}
 use Rattle.lists.proofs.Shifts.{shifted-one}
 use Rattle.words.proofs.Words.{pad-lt}
-use Rattle.table_fill.specs.design.Entries.{TableIn, tableBy}
+use Rattle.table_fill.specs.design.Entries.{Filling, tableBy}
 use Rattle.table_fill.specs.declared.wiring.Wiring.{Wiring}
 use Rattle.table_fill.specs.declared.sources.Source.{Source}
 use Rattle.slot.specs.declared.description.Description.{Description}
@@ -52,7 +52,7 @@ entries pins h = shifted-one pins 32 (omega arith)
 -- what is handed on, by what it is
 module _ (d : Description) (a : AddrLayout) (l : CsDataLayout) (images : List ℕ) (spans : List ImageSpan) (b : Buildable d a l images spans)
     (w : Wiring) (ss : List Source) (pad n : ℕ) (ew : w ≡ wiringOf d a l) (es : ss ≡ sourcesOf d spans) (ep : pad ≡ padOf padByte d) (en : n ≡ entriesOf a) where
-  ready : (table : List ℕ) → entriesOf a ≤ 2 ^ 20 → tableSize d a ≤ length table → TableIn w ss pad images n table
+  ready : (table : List ℕ) → entriesOf a ≤ 2 ^ 20 → tableSize d a ≤ length table → Filling w ss pad images n table
   unfolding wiringOf
   ready table f r =
       rw (ew, es, ep, en)
