@@ -3,7 +3,7 @@
 use mathlib.Core.Path.{_≡_, refl}
 use mathlib.Core.Bool.{Bool, true, false, _&&_, _||_, cond}
 use mathlib.Core.List.{List, [], _∷_, _++_}
-use Prim.Native.Nat.{ℕ, zero, suc, _+_, _-_, _%_, _≤_}
+use Prim.Native.Nat.{ℕ, zero, suc, _+_, _-_, _≤_}
 use native.Mathlib.Omega.{arith}
 use lib.Dec.{leb, eqb}
 use borrow.Author.Tests.{leb-true, le-leb, eqb-true}
@@ -18,7 +18,7 @@ use Rattle.slot.specs.declared.description.Description.{Description}
 use Rattle.slot.specs.declared.slot_context.Socket.the-variants.{On, Off}
 use Rattle.domain.specs.Domain.{descriptionIn}
 use Rattle.domain.proofs.Bounds.{BoardIn, description-in}
-use Rattle.listing.specs.Choice.{chosen, pinAt, restAt, gpioAt, GpiosIn}
+use Rattle.listing.specs.Choice.{lowBit, chosen, pinAt, restAt, gpioAt, GpiosIn}
 use Rattle.listing.specs.Lines.{socketCandidates, pinCandidates}
 use Rattle.listing.specs.Listing.{candidatesAt, xListed, xPins}
 use Rattle.listing.specs.declared.Listed.{Listed}
@@ -85,7 +85,7 @@ chosen-in Absent rest e = omega arith
 chosen-in (One g) rest e = leb-true g 47 e
 chosen-in (Two g h) rest e =
     let both = and-left (gpioIn g && gpioIn h) _ e in
-    cond-le (eqb (rest % 2) 0) g h (leb-true g 47 (and-left _ _ both)) (leb-true h 47 (and-right (gpioIn g) _ both))
+    cond-le (eqb (lowBit rest) 0) g h (leb-true g 47 (and-left _ _ both)) (leb-true h 47 (and-right (gpioIn g) _ both))
 
 pub gpio-in : (ls : List Listed) → GpiosIn ls → (c k : ℕ) → gpioAt ls c k ≤ 47
 unfolding gpioAt

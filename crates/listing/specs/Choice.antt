@@ -14,12 +14,16 @@ use Rattle.refusal.specs.declared.Refusal.the-variants.{OutOfDomain}
 use Rattle.listing.specs.declared.Listed.{Listed}
 use Rattle.listing.specs.Listing.{listed}
 
+-- the lowest bit of what is left of the number
+abbrev pub lowBit : ℕ → ℕ
+lowBit rest = rest % 2
+
 -- 01 addr_layout 7: a two-candidate pin goes by the lowest bit of what is left of the number, 0 for its first candidate and 1 for
 -- its second
 abbrev pub chosen : Candidates → ℕ → ℕ
 chosen Absent rest = 0
 chosen (One g) rest = g
-chosen (Two g h) rest = cond (eqb (rest % 2) 0) g h
+chosen (Two g h) rest = cond (eqb (lowBit rest) 0) g h
 
 -- 01 addr_layout 7: a two-candidate pin takes one bit off, and leaves the rest to the pins after it; any other pin takes none
 abbrev pub leftBy : Candidates → ℕ → ℕ

@@ -1,4 +1,5 @@
 pub mod Listing
 pub mod Choice
+pub mod Law
 pub mod Lines
 pub mod design
