@@ -1,2 +1,4 @@
-pub mod Law
+pub mod Fit
 pub mod Sound
+pub mod InDomain
+pub mod Law

@@ -1,24 +1,19 @@
--- The layout that a search answers is that of a choice that fits, and so a sound one. Assumes nothing.
+-- The layout that a search answers is that of the best choice, and so a sound one. Assumes nothing.
 use mathlib.Core.Path.{_≡_, refl, sym, _∙_, ap, subst}
 use mathlib.Core.Bool.{Bool, true, false, cond, _&&_}
 use Prim.Native.Nat.{ℕ}
 use Rattle.lists.proofs.Loops.{zero-one}
 use Rattle.slot.specs.declared.description.Description.{Description}
 use Rattle.refusal.specs.declared.Refusal.{Refusal}
-use Rattle.refusal.specs.declared.Refusal.the-variants.{OutOfDomain, NoValidLayout}
+use Rattle.refusal.specs.declared.Refusal.the-variants.{OutOfDomain}
 use Rattle.listing.specs.Listing.{firstFault}
 use Rattle.refusal.specs.declared.first.FirstFault.{FirstFault}
 use Rattle.refusal.specs.declared.first.FirstFault.the-variants.{None, Of}
-use Rattle.search.specs.declared.Found.{Found}
-use Rattle.search.specs.declared.Found.the-variants.{Nothing, At}
-use Rattle.search.proofs.Law.{found-best}
 use Rattle.addr_layout.specs.Layout as addr-layout
 use Rattle.addr_lines.specs.Lines.{addrListed}
-use Rattle.addr_choices.specs.Choices as addr-choices
-use Rattle.addr_layout.specs.Layouts as addr-layouts
 use Rattle.addr_layout.specs.Search as addr-search
 use Rattle.addr_law.specs.Law as addr
-use Rattle.addr_law.proofs.Sound as addr-sound
+use Rattle.addr_law.proofs.Law as addr-law
 use Rattle.addr_layout.specs.declared.layout.AddrLayout.{AddrLayout}
 use Rattle.addr_layout.specs.declared.layout.AddrOutcome.{AddrOutcome}
 use Rattle.addr_layout.specs.declared.layout.AddrAnswer.{AddrAnswer}
@@ -46,33 +41,25 @@ refused-not-laid : (why : Refusal) (l : AddrLayout) → addr-layout.addrRefused 
 unfolding laid
 refused-not-laid why l e = zero-one (ap (λ (r : AddrAnswer). laid (r .outcome)) e)
 
--- the choice whose layout it is
-pub record Found-at (d : Description) (l : AddrLayout) : Type 0 where
-  pub choice : ℕ
-  pub sound : addr.Sound d choice
-  pub is : l ≡ addr-layouts.addrLayoutOf d (addrListed d) choice
-
 module _ (d : Description) (l : AddrLayout) where
-  by-found : addr.PastTests d → (f : Found) → addr-search.addrBest d ≡ f → addr-search.addrAnswerOf d f ≡ laidOut l → Found-at d l
-  unfolding addr-search.addrBest
-  by-found past Nothing q e = absurd (refused-not-laid NoValidLayout l e)
-  by-found past (At c s) q e = record {
-    choice = c;
-    sound = addr-sound.sound d past c s (found-best (addr-choices.addrTrial d) (addr.choices d) c s q .fits);
-    is = sym (ap (λ (r : AddrAnswer). r .layout) e);
-  }
+  by-best : addr.PastTests d → addr-search.addrAnswer d ≡ laidOut l → (c : ℕ) × addr.FoundBest d c l
+  by-best past e =
+      let (c, f) = addr-law.addr-demand d past .found-best (ap (λ (r : AddrAnswer). r .outcome) e) in
+      (c, subst (addr.FoundBest d c) (ap (λ (r : AddrAnswer). r .layout) e) f)
 
-  by-fault : addr-search.addrSearchIn d ≡ true → (f : FirstFault) → firstFault (addrListed d) ≡ f → addr-search.afterFaults d f ≡ laidOut l → Found-at d l
-  by-fault i (Of why) q e = absurd (refused-not-laid why l e)
-  by-fault i None q e = by-found (record { domain = i; no-fault = q }) (addr-search.addrBest d) refl e
+  by-fault : addr-search.addrSearchIn d ≡ true → (f : FirstFault) → firstFault (addrListed d) ≡ f → addr-search.afterFaults d f ≡ laidOut l
+      → addr-search.addrAnswer d ≡ laidOut l → (c : ℕ) × addr.FoundBest d c l
+  by-fault i (Of why) q e a = absurd (refused-not-laid why l e)
+  by-fault i None q e a = by-best (record { domain = i; no-fault = q }) a
 
   by-domain : (t : Bool) → addr-search.addrSearchIn d ≡ t
-      → cond t (addr-search.afterFaults d (firstFault (addrListed d))) (addr-layout.addrRefused OutOfDomain) ≡ laidOut l → Found-at d l
-  by-domain false q e = absurd (refused-not-laid OutOfDomain l e)
-  by-domain true q e = by-fault q (firstFault (addrListed d)) refl e
+      → cond t (addr-search.afterFaults d (firstFault (addrListed d))) (addr-layout.addrRefused OutOfDomain) ≡ laidOut l
+      → addr-search.addrAnswer d ≡ laidOut l → (c : ℕ) × addr.FoundBest d c l
+  by-domain false q e a = absurd (refused-not-laid OutOfDomain l e)
+  by-domain true q e a = by-fault q (firstFault (addrListed d)) refl e a
 
-  pub addr-found : addr-search.addrAnswer d ≡ laidOut l → Found-at d l
-  addr-found e = by-domain (addr-search.addrSearchIn d) refl e
+  pub addr-found : addr-search.addrAnswer d ≡ laidOut l → (c : ℕ) × addr.FoundBest d c l
+  addr-found e = by-domain (addr-search.addrSearchIn d) refl e e
 
 -- the select search
 abbrev pub csLaidOut : CsDataLayout → CsDataAnswer

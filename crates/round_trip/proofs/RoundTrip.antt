@@ -12,7 +12,6 @@ use borrow.Author.Tests.{le-leb, eq-eqb, ltb-true, ltb-false}
 use Rattle.gpio.specs.Candidates.{candidatesIn}
 use Rattle.lists.specs.Each.{each}
 use Rattle.lists.specs.Tab.{joined}
-use Rattle.gpio.specs.Window.{fits}
 use Rattle.lists.proofs.Each.{each-all}
 use Rattle.lists.proofs.Loops.{zero-one}
 use Rattle.gpio.proofs.Fits.{fits-within}
@@ -53,7 +52,7 @@ use Rattle.build_args.proofs.Facts.{described, selected, data-base}
 use Rattle.rom_image.proofs.Buildable.{Buildable}
 use Rattle.rom_image.specs.design.Past.{PastTests}
 use Rattle.rom_image.proofs.Past.{buildable, pins-few}
-use Rattle.round_trip.proofs.Laid.{Found-at, addr-found, Cs-found-at, cs-found}
+use Rattle.round_trip.proofs.Laid.{addr-found, Cs-found-at, cs-found}
 use Rattle.round_trip.proofs.Told.{told-apart, select-at}
 use Rattle.round_trip.proofs.Given.{fitted}
 use Rattle.round_trip.proofs.Accepted.{both-none, Small, none-refused}
@@ -139,22 +138,17 @@ module _ (d : Description) (a : AddrLayout) (c : CsDataLayout) (images : List �
   can = buildable d a c images spans (length lent) (past .tests)
 
   -- the found layouts
-  laid : Found-at d a
+  laid : (c : ℕ) × addr.FoundBest d c a
   laid = addr-found d a (ok .address)
-
-  sound : addr.SoundLayout d (laid .choice) a
-  sound = subst (addr.SoundLayout d (laid .choice)) (sym (laid .is)) (laid .sound .layout)
 
   selected-at : Cs-found-at d c
   selected-at = cs-found d (record { given = true; layout = a }) c (ok .select)
 
   told : ToldApart d a c
-  told =
-      subst (λ (x : AddrLayout). ToldApart d x c) (sym (laid .is))
-      (told-apart d (laid .choice) (selected-at .choice) (laid .sound) c (selected-at .sound) (subst (WellWired d) (laid .is) wired))
+  told = told-apart d a (laid .0) (selected-at .choice) (laid .1) c (selected-at .sound) wired
 
   same-lines : Fitted d a c s
-  same-lines = fitted d a c s given (laid .choice) sound wired unforced
+  same-lines = fitted d a c s given (laid .0) (laid .1 .sound) wired unforced
 
   chip-byte : (rom k : ℕ) → getD (chipBytes images (chipSpan spans rom)) k 0 < 256
   unfolding chipBytes
@@ -182,14 +176,9 @@ module _ (d : Description) (a : AddrLayout) (c : CsDataLayout) (images : List �
       ∙ joined-cong (d .«num_chips») _ _ (λ k l. chip-back k l)
 
   -- read-back refuses nothing
-  base-small : (l : AddrLayout) → a ≡ l → fits (l .«gpio_base») (l .«num_addr_pins») ≡ true → 8 ≤ l .«num_addr_pins» → a .«gpio_base» ≤ 47
-  base-small l e w h =
-      let same : a .«gpio_base» ≡ l .«gpio_base» = ap (λ (x : AddrLayout). x .«gpio_base») e in
-      omega (arith, same, fits-within (l .«gpio_base») (l .«num_addr_pins») w, h)
-
   small : Small d a c
   small = record {
-    base = base-small _ (laid .is) (laid .sound .window) (laid .sound .wide);
+    base = let fit = laid .1 .fit in omega (arith, fits-within (a .«gpio_base») (a .«num_addr_pins») (fit .window), fit .extent .wide);
     data-base = data-base c (selected (argsOf d a c spans) (past .tests .domain));
     bytes = can .bytes;
     pins = pins-few d a c images spans (length lent) (past .tests);
@@ -197,16 +186,16 @@ module _ (d : Description) (a : AddrLayout) (c : CsDataLayout) (images : List �
 
   select-window : isMulti (d .«set_type») ≡ true → addr.InWindow a (stored.storedSelect s)
   select-window m =
-      let at = select-at d (laid .choice) (selected-at .choice) (laid .sound) c (selected-at .sound) (subst (WellWired d) (laid .is) wired) m in
+      let at = select-at d a (laid .0) (selected-at .choice) (laid .1) c (selected-at .sound) wired m in
       let one : At (at .gpio) ≡ At (stored.storedSelect s) = sym (at .first) ∙ given .select m in
       let same : at .gpio ≡ stored.storedSelect s = cc in
-      subst (addr.InWindow a) same (subst (λ (x : AddrLayout). addr.InWindow x (at .gpio)) (sym (laid .is)) (at .inside))
+      subst (addr.InWindow a) same (at .inside)
 
   none-before : romsFault s (d .«set_type») (tableOf padByte (argsOf d a c spans) images) (length output) (length marks) ≡ None
   none-before =
       let board = description-in d in-description .board in
       let all = all-same d a c s same-lines in
-      none-refused d a c s given small (laid .choice) sound wired (board .x1) (board .x2) (tableOf padByte (argsOf d a c spans) images) (length output) (length marks) table-long told
+      none-refused d a c s given small (laid .0) (laid .1 .sound) wired (board .x1) (board .x2) (tableOf padByte (argsOf d a c spans) images) (length output) (length marks) table-long told
       (selected-at .sound .data-above) (can .chips) select-window (rw (all, given .word-bytes) (room .for-output)) (rw all (room .for-marks))
 
   size-right : wrongSize s (tableOf padByte (argsOf d a c spans) images) ≡ false

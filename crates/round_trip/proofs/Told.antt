@@ -14,11 +14,10 @@ use Rattle.slot.specs.declared.description.Board.{Board}
 use Rattle.slot.specs.declared.description.Description.{Description}
 use Rattle.slot.specs.declared.slot_context.Socket.{Socket}
 use Rattle.slot.specs.declared.slot_context.Socket.the-variants.{On, Off}
-use Rattle.listing.specs.Choice.{CandidateOf}
+use Rattle.listing.specs.Choice.{CandidateOf, gpioAt}
 use Rattle.listing.specs.Lines.{kindPin, pinSocket, socketCandidates, pinCandidates}
 use Rattle.addr_lines.specs.Lines.{addrListed}
 use Rattle.addr_choices.specs.Choices.{kindCandidates}
-use Rattle.addr_layout.specs.Layouts.{addrLayoutOf}
 use Rattle.addr_law.specs.Law as addr
 use Rattle.addr_law.specs.Law.Spanned.{of-select}
 use Rattle.gpio.specs.declared.line.LineGpio.the-variants.{At}
@@ -67,11 +66,8 @@ first-one Absent g e c = c
 first-one (One a) g e c = c
 first-one (Two a b) g e c = cc
 
-module _ (d : Description) (ca cc' : ℕ) (sound : addr.Sound d ca) (c : CsDataLayout) (laid : cs.SoundLayout d cc' c)
-    (wired : WellWired d (addrLayoutOf d (addrListed d) ca)) where
-  abbrev a : AddrLayout
-  a = addrLayoutOf d (addrListed d) ca
-
+module _ (d : Description) (a : AddrLayout) (ca cc' : ℕ) (found : addr.FoundBest d ca a) (c : CsDataLayout) (laid : cs.SoundLayout d cc' c)
+    (wired : WellWired d a) where
   data-distinct : Distinct (c .«num_data_pins») (cs.dataGpio c)
   data-distinct j k l m e =
       let pins = one-pin d a wired (dataPin d j) (dataPin d k) (cs.dataGpio c j) (laid .data-candidate j l)
@@ -95,10 +91,13 @@ module _ (d : Description) (ca cc' : ℕ) (sound : addr.Sound d ca) (c : CsDataL
     first-is : firstSelect c ≡ At (cs.selectGpio c 0)
     first-is = rw (ne-eqb (c .«num_select_lines») 0 (λ e. omega (arith, laid .first-select m, e)))
 
-    spanned-first : addr.FirstOf (kindCandidates d (d .multi .select)) (cs.selectGpio c 0)
-    spanned-first =
+    first-of : addr.FirstOf (kindCandidates d (d .multi .select)) (cs.selectGpio c 0)
+    first-of =
         rw (ne-eqb (kindPin d (d .multi .select)) 0 (laid .select-on m))
         (first-one (pinCandidates d (selectPin d)) (cs.selectGpio c 0) (wired .select-one m) (laid .select-candidate m))
+
+    spanned-first : addr.Spanned d (λ k. gpioAt (addrListed d) ca k) (cs.selectGpio c 0)
+    spanned-first = of-select m first-of
 
     pub select-at : SelectAt d a c (selects .place)
     select-at = record {
@@ -106,13 +105,13 @@ module _ (d : Description) (ca cc' : ℕ) (sound : addr.Sound d ca) (c : CsDataL
       gpio = cs.selectGpio c 0;
       first = first-is;
       candidate = selects .candidate;
-      inside = sound .inside (cs.selectGpio c 0) (of-select m spanned-first);
+      inside = (found .fit .extent .lowest (cs.selectGpio c 0) spanned-first, found .fit .extent .inside (cs.selectGpio c 0) spanned-first);
     }
 
   told-by : (s : ℕ) → (isMulti (d .«set_type») ≡ true → SelectAt d a c s) → ToldApart d a c
   told-by s sel = record {
-    index-in = index-in d ca a (sound .layout) c s wired sel;
-    index-own = index-own d ca a (sound .layout) c s wired sel;
+    index-in = index-in d ca a (found .sound) c s wired sel;
+    index-own = index-own d ca a (found .sound) c s wired sel;
     data-lines = data-lines;
     data-in = data-in;
     data-own = data-own;
