@@ -1,5 +1,5 @@
 -- The first fault of lists put together, and what its absence says of each pin. Assumes nothing.
-use mathlib.Core.Path.{_≡_, refl}
+use mathlib.Core.Path.{_≡_, refl, sym, _∙_, ap}
 use mathlib.Core.List.{List, [], _∷_, _++_}
 use Prim.Native.Nat.{ℕ, zero, suc, _<_}
 use native.Mathlib.Nat.{le-of-suc-le-suc}
@@ -9,7 +9,10 @@ use Rattle.lists.proofs.Loops.{zero-one}
 use Rattle.gpio.specs.declared.candidates.Candidates.{Candidates}
 use Rattle.gpio.specs.declared.candidates.Candidates.the-variants.{Absent, One, Two}
 use Rattle.refusal.specs.declared.Refusal.{Refusal}
+use Rattle.refusal.specs.First.{orElse, firstOf}
+use Rattle.refusal.proofs.Firsts.{or-assoc, first-head}
 use Rattle.listing.specs.Choice.{pinAt}
+use Rattle.listing.specs.Law.{faultAt, FirstFaultLaw}
 use Rattle.refusal.specs.declared.first.FirstFault.the-variants.{None, Of}
 use Rattle.listing.specs.declared.Listed.{Listed}
 use Rattle.refusal.specs.declared.first.FirstFault.{FirstFault}
@@ -60,3 +63,16 @@ append-none a b e = from-none (firstFault a) b (rw fault-append at e)
 
 pub none-append : (a b : List Listed) → firstFault a ≡ None → firstFault b ≡ None → firstFault (a ++ b) ≡ None
 none-append a b p q = rw (fault-append, p) q
+
+-- the first fault is that of the lowest pin that has one
+from-first : (f : FirstFault) (ls : List Listed) → faultFrom f ls ≡ orElse f (firstOf (length ls) (faultAt ls))
+unfolding faultFrom firstOf
+from-first None [] = refl
+from-first (Of r) [] = refl
+from-first f (l ∷ ls) =
+    from-first (keepFault f l) ls
+    ∙ or-assoc f (faultOf (l .gpios) (l .fault)) (firstOf (length ls) (faultAt ls))
+    ∙ ap (orElse f) (sym (first-head (length ls) (faultAt (l ∷ ls))))
+
+pub first-fault-is : (ls : List Listed) → FirstFaultLaw ls
+first-fault-is ls = from-first None ls

@@ -1,14 +1,25 @@
--- Demand 2's choices of candidates, and the numbers that they go by. Assumes nothing.
+-- The first fault of a list; demand 2's choices of candidates, and the numbers that they go by. Assumes nothing.
 use Prim.Native.Nat.{ℕ, _/_, _%_, _^_, _<_}
 use mathlib.Core.Path.{_≡_}
 use mathlib.Core.Bool.{cond}
 use mathlib.Core.List.{List}
 use lib.Dec.{eqb}
-use lib.ListN.{length}
-use Rattle.gpio.specs.declared.candidates.Candidates.the-variants.{Two}
+use lib.ListN.{length, getD}
+use Rattle.gpio.specs.declared.candidates.Candidates.the-variants.{Absent, Two}
+use Rattle.refusal.specs.First.{firstOf}
+use Rattle.refusal.specs.declared.Refusal.the-variants.{OutOfDomain}
+use Rattle.refusal.specs.declared.first.FirstFault.{FirstFault}
 use Rattle.listing.specs.Choice.{CandidateOf, pinAt, gpioAt, bitOf}
-use Rattle.listing.specs.Listing.{twos}
+use Rattle.listing.specs.Listing.{listed, twos, faultOf, firstFault}
 use Rattle.listing.specs.declared.Listed.{Listed}
+
+-- the fault of the k-th pin, where it has no candidate
+abbrev pub faultAt : List Listed → ℕ → FirstFault
+faultAt ls k = faultOf (pinAt ls k) (getD ls k (listed Absent OutOfDomain) .fault)
+
+-- 01 addr_layout 6: the first fault of a list is that of its lowest pin that has no candidate
+abbrev pub FirstFaultLaw : List Listed → Type 0
+FirstFaultLaw ls = firstFault ls ≡ firstOf (length ls) (faultAt ls)
 
 -- 00 Demand 2: a choice of candidates takes for each listed pin one of its candidates
 abbrev pub Assigned : List Listed → (ℕ → ℕ) → Type 0

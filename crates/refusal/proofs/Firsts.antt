@@ -1,5 +1,5 @@
 -- What a loop that keeps the first fault needs of `firstOf`; no fault of all is no fault of any, and the other way. Assumes nothing.
-use mathlib.Core.Path.{_≡_, refl}
+use mathlib.Core.Path.{_≡_, refl, _∙_, ap}
 use Prim.Native.Nat.{ℕ, zero, suc, _+_, _<_}
 use native.Mathlib.Numerals.{add-one}
 use native.Mathlib.Omega.{arith}
@@ -46,3 +46,18 @@ pub none-of : (n : ℕ) (f : ℕ → FirstFault) → ((k : ℕ) → k < n → f 
 unfolding firstOf
 none-of zero f h = refl
 none-of (suc n) f h = rw (none-of n f (λ k l. h k (omega arith)), h n (omega arith))
+
+-- from the head: the first one's fault, else the first of the others
+pub or-assoc : (f g h : FirstFault) → orElse (orElse f g) h ≡ orElse f (orElse g h)
+or-assoc None g h = refl
+or-assoc (Of r) g h = refl
+
+or-end : (f : FirstFault) → f ≡ orElse f None
+or-end None = refl
+or-end (Of r) = refl
+
+pub first-head : (n : ℕ) (f : ℕ → FirstFault) → firstOf (suc n) f ≡ orElse (f 0) (firstOf n (λ k. f (suc k)))
+unfolding firstOf
+first-head zero f = or-end (f 0)
+first-head (suc n) f =
+    ap (λ (x : FirstFault). orElse x (f (suc n))) (first-head n f) ∙ or-assoc (f 0) (firstOf n (λ k. f (suc k))) (f (suc n))
