@@ -5,7 +5,7 @@ use build_args::images::span_at;
 use picks::Picked;
 use picks::picked_by;
 use slot::description::Description;
-use table_fill::sources::Source;
+use table_fill::Source;
 ghost use mathlib.Core.Path.{_≡_};
 ghost use Prim.Native.Nat.{_≤_};
 ghost use Rattle.rom_image.specs.Entry.{wordCount};

@@ -2,7 +2,7 @@
 use crate::sources::sources;
 use crate::wiring::wiring;
 use build_args::BuildArgs;
-use table_fill::table::fill_by;
+use table_fill::fill_by;
 use words::pad_word;
 ghost use mathlib.Core.Path.{_≡_};
 ghost use mathlib.Core.List.{_++_};

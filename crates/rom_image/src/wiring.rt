@@ -7,7 +7,7 @@ use picks::num_picks;
 use picks::positions::position;
 use picks::positions::x_position;
 use slot::description::Description;
-use table_fill::wiring::Wiring;
+use table_fill::Wiring;
 ghost use mathlib.Core.Path.{_≡_};
 ghost use Prim.Native.Nat.{_≤_};
 ghost use Rattle.lists.specs.Tab.{tab};

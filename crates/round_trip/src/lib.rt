@@ -1,7 +1,7 @@
 // The round trip: both searches, the build and read-back in turn on lent buffers. What a well wired slot that they accept then reads
 // back as is what its chips hold, byte for byte: specs/ states it, proofs/ proves it over the definitions of all four, and the call
 // here has it as its contract, so that a bench can check itself by it.
-pub mod stored; // what read-back is given of a found layout
+mod stored; // what read-back is given of a found layout
 
 use crate::stored::stored_slot;
 use addr_layout::derive_addr_layout;

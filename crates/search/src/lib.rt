@@ -1,6 +1,6 @@
 // A search over choices by number: the lowest score wins, and the earliest among equals.
 ghost use mathlib.Core.Path.{_≡_};
-ghost use Prim.Native.Nat.{_≤_};
+ghost use Prim.Native.Nat.{_≤_, min};
 ghost use Rattle.search.specs.Search.{betterOf};
 
 // What a choice comes to.
@@ -37,6 +37,7 @@ pub fn better(found: Found, choice: u32, trial: Trial) -> Found
 // Choices go in rows of at most 64: those of a row have the same bits from here on, so that what these come to is found once
 // a row, and what the bits below come to once a search.
 pub fn row_bits(bits: u32) -> u32
+    ensures { λ r. ⌜ r ≡ min bits 6 ⌝ }
     ensures { λ r. ⌜ (r ≤ bits) × (r ≤ 6) ⌝ }
 {
     if bits < 6 { bits } else { 6 }

@@ -1,14 +1,16 @@
 // Entries of a table back into words: each entry is for a word and says a value, and the first value of a word is kept. Bits of an
 // index and of an entry are taken in two parts of eight, so that each part's answer stands in a table.
-pub mod maps; // lines by their positions, and what a number's bits at them come to
-pub mod reading; // which word an entry is for, and what it says
+mod maps; // lines by their positions, and what a number's bits at them come to
+mod reading; // which word an entry is for, and what it says
 mod buffers; // the lent output and marks
 mod row; // the entries of a row
 mod walk; // the entries in order
 
 use crate::buffers::clear;
 use crate::buffers::first_missing;
-use crate::reading::Reading;
+pub use crate::maps::Map;
+pub use crate::reading::Extent;
+pub use crate::reading::Reading;
 use crate::row::Walked;
 use crate::walk::walk;
 ghost use mathlib.Core.Path.{_≡_};

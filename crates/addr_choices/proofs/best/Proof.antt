@@ -56,7 +56,7 @@ loop-holds : tie.Need-loop-holds Inv-loop μ-loop
 unfolding best
 loop-holds c =
     let a = c .before .before .before .args in
-    let s = c .before .row-bits .ensures in
+    let s = c .before .row-bits .ensures .1 in
     (omega arith, shifted-one _ 32 (omega arith), s .0, s .1, omega arith, c .low-spans .ensures, rw zero-mul refl)
 
 best-in-row-requires : tie.Need-best-in-row-requires Inv-loop μ-loop

@@ -46,7 +46,7 @@ loop-holds : tie.Need-loop-holds Inv-loop μ-loop
 unfolding seenOnward
 loop-holds c =
     let long : length (c .before .before .args .l .pins) ≡ 30 = search (mapped-length, needs) in
-    (rows-begun long (c .before .before .pre) (c .before .row-bits .ensures) (c .low-parts .ensures), rw zero-mul refl)
+    (rows-begun long (c .before .before .pre) (c .before .row-bits .ensures .1) (c .low-parts .ensures), rw zero-mul refl)
 
 seen-in-row-requires : tie.Need-seen-in-row-requires Inv-loop μ-loop
 seen-in-row-requires c κs = choices-fit (c .before .before .loop .inv .0) (c .before .loop-test .taken) .0
