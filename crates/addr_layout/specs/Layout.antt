@@ -6,10 +6,12 @@ use lib.ListN.{getD, replicate}
 use Rattle.lists.specs.Each.{each, between}
 use Rattle.gpio.specs.Candidates.{gpioIn, lastGpio}
 use Rattle.gpio.specs.Line.{lineGpioIn}
+use Rattle.refusal.specs.Refusal.{Code, success, refusalCode}
 use Rattle.refusal.specs.declared.Refusal.{Refusal}
 use Rattle.gpio.specs.declared.line.LineGpio.the-variants.{Unused}
 use Rattle.addr_layout.specs.declared.layout.AddrLayout.{AddrLayout}
-use Rattle.addr_layout.specs.declared.layout.AddrOutcome.the-variants.{Refused}
+use Rattle.addr_layout.specs.declared.layout.AddrOutcome.{AddrOutcome}
+use Rattle.addr_layout.specs.declared.layout.AddrOutcome.the-variants.{LaidOut, Refused}
 use Rattle.addr_layout.specs.declared.layout.AddrAnswer.{AddrAnswer}
 
 abbrev pub noLayout : AddrLayout
@@ -25,6 +27,11 @@ noLayout = record {
 
 abbrev pub addrRefused : Refusal → AddrAnswer
 addrRefused why = record { outcome = Refused why; layout = noLayout }
+
+-- 01 Numbers 1: the code of an address search
+abbrev pub addrCode : AddrOutcome → Code
+addrCode LaidOut = success
+addrCode (Refused why) = refusalCode why
 
 -- 01 Domain 13: all address lines are those in use and the excess ones
 abbrev pub allLines : AddrLayout → ℕ

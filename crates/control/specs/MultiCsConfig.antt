@@ -9,10 +9,12 @@ use Rattle.slot.specs.Description.{kindAt, cs4Kind}
 use Rattle.slot.specs.declared.description.ControlLines.{ControlLines}
 use Rattle.slot.specs.declared.description.CsConfig.{CsConfig}
 use Rattle.slot.specs.declared.description.MultiCsConfig.{MultiCsConfig}
+use Rattle.refusal.specs.Refusal.{Code, success, refusalCode}
 use Rattle.refusal.specs.declared.Refusal.{Refusal}
 use Rattle.refusal.specs.declared.Refusal.the-variants.{OutOfDomain, NoActiveLine}
 use Rattle.domain.specs.Domain.{controlIn}
 use Rattle.control.specs.CsConfig.{ignores}
+use Rattle.control.specs.declared.multi_cs_config.MultiOutcome.{MultiOutcome}
 use Rattle.control.specs.declared.multi_cs_config.MultiOutcome.the-variants.{Derived, Refused}
 use Rattle.control.specs.declared.multi_cs_config.MultiAnswer.{MultiAnswer}
 
@@ -74,6 +76,11 @@ configFrom lines chip0 secondary n =
 
 abbrev pub multiRefused : Refusal → MultiAnswer
 multiRefused why = record { outcome = Refused why; config = nothing }
+
+-- 01 Numbers 1: the code of a Multi configuration
+abbrev pub multiCode : MultiOutcome → Code
+multiCode Derived = success
+multiCode (Refused why) = refusalCode why
 
 -- 01 Number 25: no line became the select
 abbrev pub multiDerived : List ℕ → MultiCsConfig → MultiAnswer

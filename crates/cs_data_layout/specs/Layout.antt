@@ -2,6 +2,7 @@
 use mathlib.Core.Bool.{false, cond}
 use Prim.Native.Nat.{ℕ}
 use lib.ListN.{replicate}
+use Rattle.refusal.specs.Refusal.{Code, success, refusalCode}
 use Rattle.refusal.specs.declared.Refusal.{Refusal}
 use Rattle.addr_layout.specs.Layout.{noLayout}
 use Rattle.addr_layout.specs.declared.layout.AddrLayout.{AddrLayout}
@@ -10,7 +11,8 @@ use Rattle.cs_data_layout.specs.declared.layout.IgnoreIndex.the-variants
 use Rattle.cs_data_layout.specs.declared.layout.SelectLine.{SelectLine}
 use Rattle.cs_data_layout.specs.declared.layout.Qualifiers.{Qualifiers}
 use Rattle.cs_data_layout.specs.declared.layout.CsDataLayout.{CsDataLayout}
-use Rattle.cs_data_layout.specs.declared.layout.CsDataOutcome.the-variants.{Refused}
+use Rattle.cs_data_layout.specs.declared.layout.CsDataOutcome.{CsDataOutcome}
+use Rattle.cs_data_layout.specs.declared.layout.CsDataOutcome.the-variants.{LaidOut, Refused}
 use Rattle.cs_data_layout.specs.declared.layout.CsDataAnswer.{CsDataAnswer}
 
 abbrev pub line : ℕ → ℕ → SelectLine
@@ -37,6 +39,11 @@ noCsDataLayout = record {
 
 abbrev pub csDataRefused : Refusal → CsDataAnswer
 csDataRefused why = record { outcome = Refused why; layout = noCsDataLayout }
+
+-- 01 Numbers 1: the code of a select search
+abbrev pub csDataCode : CsDataOutcome → Code
+csDataCode LaidOut = success
+csDataCode (Refused why) = refusalCode why
 
 -- the layout that is handed in; one that is not given has no line
 abbrev pub handed : GivenLayout → AddrLayout

@@ -1,15 +1,14 @@
--- The number and the place of a refusal, taken out of the packed number again. Assumes nothing.
+-- The number and the place of a code, taken out of the packed number again. Assumes nothing.
 use mathlib.Core.Path.{_≡_}
 use Prim.Native.Nat.{_/_, _%_, _^_, _<_}
 use native.Mathlib.Omega.{arith}
-use Rattle.refusal.specs.Refusal.{numberOf, placeOf}
-use Rattle.refusal.specs.declared.Refusal.{Refusal}
-use Rattle.onerom.specs.Packed.{packed}
+use Rattle.refusal.specs.Refusal.{Code}
+use Rattle.onerom.specs.Packed.{packedCode}
 
-pub number-back : (why : Refusal) → packed why / 2 ^ 48 ≡ numberOf why
-unfolding packed
-number-back why = omega arith
+pub number-back : (c : Code) → packedCode c / 2 ^ 48 ≡ c .number
+unfolding packedCode
+number-back c = omega arith
 
-pub place-back : (why : Refusal) → placeOf why < 2 ^ 48 → packed why % 2 ^ 48 ≡ placeOf why
-unfolding packed
-place-back why h = omega arith
+pub place-back : (c : Code) → c .place < 2 ^ 48 → packedCode c % 2 ^ 48 ≡ c .place
+unfolding packedCode
+place-back c h = omega arith

@@ -1,17 +1,18 @@
 -- A refusal as the one number that a refused call returns. Assumes nothing.
 use Prim.Native.Nat.{ℕ, _+_, _*_, _%_, _^_}
 use Rattle.refusal.specs.declared.Answer.{Answer}
-use Rattle.refusal.specs.declared.Answer.the-variants.{Done, Refused}
-use Rattle.refusal.specs.Refusal.{numberOf, placeOf}
+use Rattle.refusal.specs.Refusal.{Code, refusalCode, answerCode}
 use Rattle.refusal.specs.declared.Refusal.{Refusal}
 
--- the place in the low 48 bits, the number above them. A `GpioSet` could hold 64 bits, so that the place goes in by its
--- remainder. By the calls that exist it loses nothing: a set of GPIOs has 48 bits, a ROM is below 4 and an address below 2^32.
+-- a code as one number: the place in the low 48 bits, the number above them. A `GpioSet` could hold 64 bits, so that the place goes in
+-- by its remainder. By the calls that exist it loses nothing: a set of GPIOs has 48 bits, a ROM is below 4 and an address below 2^32.
 -- 01 Numbers 1: a refused call has one result, which holds both the refusal's number and its place
-unfoldable pub packed : Refusal → ℕ
-packed why = numberOf why * 2 ^ 48 + placeOf why % 2 ^ 48
+unfoldable pub packedCode : Code → ℕ
+packedCode c = c .number * 2 ^ 48 + c .place % 2 ^ 48
 
--- the result of a call that is done is 0
+abbrev pub packed : Refusal → ℕ
+packed why = packedCode (refusalCode why)
+
+-- 0 where the call is done
 abbrev pub resultOf : Answer → ℕ
-resultOf Done = 0
-resultOf (Refused why) = packed why
+resultOf a = packedCode (answerCode a)

@@ -6,8 +6,35 @@ use native.Mathlib.Nat.{eq-or-lt-of-le, le-of-suc-le-suc}
 use native.Mathlib.Omega.{arith}
 use Rattle.lists.proofs.Loops.{zero-one}
 use Rattle.refusal.specs.First.{orElse, firstOf}
-use Rattle.refusal.specs.Law.{Lowest, FirstLaw}
+use Rattle.refusal.specs.Law.{Lowest, FirstLaw, NumberLaw}
 use Rattle.refusal.specs.declared.Refusal.{Refusal}
+use Rattle.refusal.specs.declared.Refusal.the-variants.{
+  OutOfDomain,
+  NoSelectLine,
+  UnmappedPin,
+  MissingXPin,
+  MissingAddrPinGpios,
+  RomTooLargeNoCsConfig,
+  NonContiguousSelect,
+  InteriorIgnoredLine,
+  NoValidLayout,
+  IncompatiblePinCount,
+  RomTableTooLarge,
+  InvalidConfig,
+  BadPosition,
+  MissingImageData,
+  ShortImageData,
+  ShortBuffer,
+  WrongSize,
+  UnknownSlotType,
+  MissingLayout,
+  UnknownAlgorithm,
+  BadLayout,
+  XPin,
+  Inconsistent,
+  Unserved,
+  NoActiveLine,
+}
 use Rattle.refusal.specs.declared.first.FirstFault.{FirstFault}
 use Rattle.refusal.specs.declared.first.FirstFault.the-variants.{None, Of}
 use Rattle.refusal.proofs.Firsts.{first-all, none-of}
@@ -41,3 +68,30 @@ module _ (f : ℕ → FirstFault) where
 
 pub first-law : (n : ℕ) (f : ℕ → FirstFault) → FirstLaw n f
 first-law n f = record { found = found f n; is-found = is-found f n; none = first-all f n; is-none = none-of n f }
+
+pub number-law : (why : Refusal) → NumberLaw why
+number-law OutOfDomain = record { some = omega arith; most = omega arith }
+number-law NoSelectLine = record { some = omega arith; most = omega arith }
+number-law (UnmappedPin pin) = record { some = omega arith; most = omega arith }
+number-law (MissingXPin x) = record { some = omega arith; most = omega arith }
+number-law MissingAddrPinGpios = record { some = omega arith; most = omega arith }
+number-law RomTooLargeNoCsConfig = record { some = omega arith; most = omega arith }
+number-law (NonContiguousSelect gpios) = record { some = omega arith; most = omega arith }
+number-law (InteriorIgnoredLine gpio) = record { some = omega arith; most = omega arith }
+number-law NoValidLayout = record { some = omega arith; most = omega arith }
+number-law IncompatiblePinCount = record { some = omega arith; most = omega arith }
+number-law RomTableTooLarge = record { some = omega arith; most = omega arith }
+number-law InvalidConfig = record { some = omega arith; most = omega arith }
+number-law BadPosition = record { some = omega arith; most = omega arith }
+number-law (MissingImageData chip) = record { some = omega arith; most = omega arith }
+number-law (ShortImageData chip) = record { some = omega arith; most = omega arith }
+number-law ShortBuffer = record { some = omega arith; most = omega arith }
+number-law WrongSize = record { some = omega arith; most = omega arith }
+number-law UnknownSlotType = record { some = omega arith; most = omega arith }
+number-law MissingLayout = record { some = omega arith; most = omega arith }
+number-law UnknownAlgorithm = record { some = omega arith; most = omega arith }
+number-law BadLayout = record { some = omega arith; most = omega arith }
+number-law (XPin x) = record { some = omega arith; most = omega arith }
+number-law (Inconsistent rom addr) = record { some = omega arith; most = omega arith }
+number-law (Unserved rom addr) = record { some = omega arith; most = omega arith }
+number-law NoActiveLine = record { some = omega arith; most = omega arith }

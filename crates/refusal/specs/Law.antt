@@ -1,7 +1,8 @@
--- The first fault of several, by what 'first' says. Assumes nothing.
-use Prim.Native.Nat.{ℕ, _<_}
+-- The first fault of several, by what 'first' says, and the refusals' numbers. Assumes nothing.
+use Prim.Native.Nat.{ℕ, _≤_, _<_}
 use mathlib.Core.Path.{_≡_}
 use Rattle.refusal.specs.First.{firstOf}
+use Rattle.refusal.specs.Refusal.{numberOf}
 use Rattle.refusal.specs.declared.Refusal.{Refusal}
 use Rattle.refusal.specs.declared.first.FirstFault.{FirstFault}
 use Rattle.refusal.specs.declared.first.FirstFault.the-variants.{None, Of}
@@ -20,3 +21,8 @@ pub record FirstLaw (n : ℕ) (f : ℕ → FirstFault) : Type 0 where
   -- there is none exactly if none of them has one
   pub none : firstOf n f ≡ None → (k : ℕ) → k < n → f k ≡ None
   pub is-none : ((k : ℕ) → k < n → f k ≡ None) → firstOf n f ≡ None
+
+-- a refusal's number is one of the table's 25 rows, so that 0 says success alone
+pub record NumberLaw (why : Refusal) : Type 0 where
+  pub some : 1 ≤ numberOf why
+  pub most : numberOf why ≤ 25

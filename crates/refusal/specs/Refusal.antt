@@ -1,6 +1,8 @@
 -- The number and the place of each refusal, in the order of document 01's table. Rows without a name there have one here.
 -- Assumes nothing.
 use Prim.Native.Nat.{ℕ, _+_, _*_, _^_}
+use Rattle.refusal.specs.declared.Answer.{Answer}
+use Rattle.refusal.specs.declared.Answer.the-variants.{Done, Refused}
 use Rattle.refusal.specs.declared.Refusal.{Refusal}
 use Rattle.refusal.specs.declared.Refusal.the-variants.{
   OutOfDomain,
@@ -87,3 +89,20 @@ placeOf (XPin x) = x
 placeOf (Inconsistent rom addr) = rom * 2 ^ 32 + addr
 placeOf (Unserved rom addr) = rom * 2 ^ 32 + addr
 placeOf NoActiveLine = 0
+
+-- what a caller gets of any answer: a number, and a place with it
+pub record Code : Type 0 where
+  pub number : ℕ
+  pub place : ℕ
+
+-- 01 Numbers 1: a call that succeeds has number 0, and one that is refused the refusal's number and place
+abbrev pub success : Code
+success = record { number = 0; place = 0 }
+
+abbrev pub refusalCode : Refusal → Code
+refusalCode why = record { number = numberOf why; place = placeOf why }
+
+-- the code of a build, of a read-back and of a round trip
+abbrev pub answerCode : Answer → Code
+answerCode Done = success
+answerCode (Refused why) = refusalCode why

@@ -4,6 +4,7 @@ use mathlib.Core.Bool.{Bool, _&&_, _||_, cond}
 use mathlib.Core.List.{List, [], _∷_}
 use lib.Dec.{leb, eqb}
 use lib.IntN.{ℤ, pos, negsuc}
+use Rattle.refusal.specs.Refusal.{Code, success, refusalCode}
 use Rattle.refusal.specs.declared.Refusal.the-variants.{OutOfDomain, IncompatiblePinCount}
 use Rattle.slot.specs.declared.slot_context.KnownPair.{KnownPair}
 use Rattle.slot.specs.declared.slot_context.OffsetAnswer.{OffsetAnswer}
@@ -47,6 +48,11 @@ offsetFrom (p ∷ ps) chip board = cond (isFor p chip board) (Offset (p .offset)
 -- 01 Numbers 2: the board's pin count is tested before the rows are searched
 abbrev pub offsetAnswer : ℕ → ℕ → OffsetAnswer
 offsetAnswer chip board = cond (boardPinsIn board) (offsetFrom knownPairs chip board) (Refused OutOfDomain)
+
+-- 01 Numbers 1: the code of an offset; what is found is the offset itself
+abbrev pub offsetCode : OffsetAnswer → Code
+offsetCode (Offset o) = success
+offsetCode (Refused why) = refusalCode why
 
 -- 01 Domain 5: an offset lies from -4 to 4. Four more than that, 0 to 8, so that no number is below 0; 255 for any other
 abbrev pub raisedOf : ℤ → ℕ

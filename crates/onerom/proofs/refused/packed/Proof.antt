@@ -1,11 +1,11 @@
 -- `packed` meets its contract. Assumes nothing.
 use borrow.Author.Needs.{needs}
-use Rattle.onerom.specs.Packed.{packed}
+use Rattle.onerom.specs.Packed.{packedCode}
 use Rattle.onerom.proofs.refused.packed.Statement.{statement}
 use Rattle.onerom.proofs.refused.packed.Tie as tie
 
 returns : tie.Need-returns
-unfolding packed
+unfolding packedCode
 returns c = search needs
 
 pub packed-spec : {M : Type 1} → statement M

@@ -1,9 +1,11 @@
 -- `result` meets its contract. Assumes nothing.
 use borrow.Author.Needs.{needs}
+use Rattle.onerom.specs.Packed.{packedCode}
 use Rattle.onerom.proofs.refused.result.Statement.{statement}
 use Rattle.onerom.proofs.refused.result.Tie as tie
 
 returns : tie.Need-returns
+unfolding packedCode
 returns c = rw (c .enum-told .given .1)
 
 returns-2 : tie.Need-returns-2
