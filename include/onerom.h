@@ -203,8 +203,15 @@ enum {
 };
 
 /* The description record, place by place. A board's socket, the chips of one slot on it, and which GPIOs can serve
-   each pin. Another length is refusal 1, and so is a byte that is none of the values named here. What is outside
-   of document 01's domain only in the whole, such as more than 16 two-candidate pins, is refusal 1 too. */
+   each pin. Another length is refusal 1, and so is a byte that is none of the values named here, in every call
+   that takes the record. Two rules depend on the call. Qualifiers are held against the lines of an address
+   layout, so that only a call which has one tests them: a build always, the select search if a layout is handed
+   in. More than 8 of them, an index that is not below the layout's lines in use, or GPIOs of which two are more
+   than 7 apart are refusal 1 there. The address search does not look at them, and a select search without a
+   layout answers 5 to any count but 0. Each search counts the two-candidate pins among the pins that it lists,
+   and more than 16 are refusal 1. The address search lists its lines, one off the socket with the candidates of
+   the X pin that stands in for it, and the X pins that pick; the select search lists data pins, select lines and,
+   in Multi, the X pins that select and the commoned lines. A build lists none. */
 enum {
     /* Bytes of the record. */
     ONEROM_DESCRIPTION_SIZE = 424,
@@ -220,7 +227,7 @@ enum {
     ONEROM_DESCRIPTION_PIN_OFFSET = 4,
     /* Number of chips. Values: 1 to 4. */
     ONEROM_DESCRIPTION_CHIP_COUNT = 5,
-    /* Number of qualifiers. Values: 0 for no list, or 1 to 8. */
+    /* Number of qualifiers. Values: 0 for no list, or 1 to 8 where they are tested. */
     ONEROM_DESCRIPTION_QUALIFIER_COUNT = 6,
     /* Multi configuration present; if not, its places count for nothing. Values: 0 no, 1 yes; in a Multi set yes. */
     ONEROM_DESCRIPTION_MULTI_GIVEN = 7,
@@ -250,7 +257,7 @@ enum {
     ONEROM_DESCRIPTION_MULTI_COMMONED = 28,
     /* 8 bytes: Multi: kinds of the ignored lines. Values: 0 to 5. */
     ONEROM_DESCRIPTION_MULTI_IGNORED = 36,
-    /* 8 bytes: qualifiers: indices of address lines in use. Values: below the lines in use. */
+    /* 8 bytes: qualifiers: indices of address lines in use. Values: below the lines in use where they are tested. */
     ONEROM_DESCRIPTION_QUALIFIERS = 44,
     /* 80 bytes: candidates of socket pins 1 to 40, two bytes a pin. Values: 255 255 none; g 255 one; g h two; GPIOs
        0 to 47 that differ. */
@@ -329,7 +336,7 @@ enum {
     ONEROM_CS_DATA_LAYOUT_BASE_CS_PIN = 3,
     /* Number of GPIOs from the lowest of these to the highest. Values: any. */
     ONEROM_CS_DATA_LAYOUT_CS_PINS = 4,
-    /* Which of these GPIOs is no select line, from 0. Values: 255 none. */
+    /* Which of these GPIOs is no select line, from 0. Values: any; 255 none. */
     ONEROM_CS_DATA_LAYOUT_IGNORE_INDEX = 5,
     /* Number of select lines. Values: 0 to 30. */
     ONEROM_CS_DATA_LAYOUT_SELECT_COUNT = 6,
@@ -379,8 +386,9 @@ enum {
 };
 
 /* The stored slot record, place by place. A slot as it is stored, with the board's X pins. Another length is refusal
-   1, and so is another value than named here at place 5, at the candidates, at a count, or at the places kept of
-   a ROM, in a ROM past the number of ROMs too. */
+   1, and so is another value than named here at place 5, at the candidates or at a count. Of each of the four
+   ROMs, those past the number of ROMs too, MAP_GIVEN is 0 or 1 and the places kept are 0, or the record is
+   refusal 1; a size is looked at in the ROMs below that number only. */
 enum {
     /* Bytes of the record. */
     ONEROM_STORED_SLOT_SIZE = 376,
@@ -500,6 +508,10 @@ uint64_t onerom_derive_cs_data_layout(const uint8_t *description, size_t descrip
  * read it. It has 2^pins entries, pins being byte 1 of the address layout record, and an entry has as many bytes
  * as a word, byte 3 of the description record.
  *
+ * Of the description a build goes by the set type, the bytes in a word, the number of chips, their sizes and the
+ * largest table; which GPIOs carry what, it takes from the layouts. All of the description is tested all the
+ * same, and so are its qualifiers against the address layout's lines.
+ *
  *   description: read, description record
  *   addr_layout: read, address layout record
  *   cs_data_layout: read, select layout record
@@ -514,8 +526,9 @@ uint64_t onerom_derive_cs_data_layout(const uint8_t *description, size_t descrip
  *   ONEROM_OUT_OF_DOMAIN: bytes that are no record, or what they describe is outside the domain.
  *   ONEROM_ROM_TABLE_TOO_LARGE: the table is larger than the description allows.
  *   ONEROM_INVALID_CONFIG: not 1 chip (Single), 2 to 4 (Banked), 2 or 3 (Multi).
- *   ONEROM_BAD_POSITION: a line's GPIO lies below its base or more than 31 above it, or a line that picks a chip
- *       has no GPIO.
+ *   ONEROM_BAD_POSITION: the GPIO of an address line in use, of a line that picks a chip or of a data line lies
+ *       below its base or more than 31 above it, or a line that picks a chip has no GPIO; excess lines are not
+ *       looked at, nor are select lines that pick no chip.
  *   ONEROM_MISSING_IMAGE_DATA, place chip: a chip has no bytes.
  *   ONEROM_SHORT_IMAGE_DATA, place chip: a chip has fewer bytes than its size.
  *   ONEROM_SHORT_BUFFER: everything else is well, and table has fewer bytes than the table: lend more.

@@ -144,9 +144,17 @@ pub mod values {
 }
 
 /// The description record: A board's socket, the chips of one slot on it, and which GPIOs can serve
-/// each pin. Another length is refusal 1, and so is a byte that is none of the values named here.
-/// What is outside of document 01's domain only in the whole, such as more than 16 two-candidate
-/// pins, is refusal 1 too.
+/// each pin. Another length is refusal 1, and so is a byte that is none of the values named here,
+/// in every call that takes the record. Two rules depend on the call. Qualifiers are held against
+/// the lines of an address layout, so that only a call which has one tests them: a build always,
+/// the select search if a layout is handed in. More than 8 of them, an index that is not below the
+/// layout's lines in use, or GPIOs of which two are more than 7 apart are refusal 1 there. The
+/// address search does not look at them, and a select search without a layout answers 5 to any
+/// count but 0. Each search counts the two-candidate pins among the pins that it lists, and more
+/// than 16 are refusal 1. The address search lists its lines, one off the socket with the
+/// candidates of the X pin that stands in for it, and the X pins that pick; the select search lists
+/// data pins, select lines and, in Multi, the X pins that select and the commoned lines. A build
+/// lists none.
 pub mod description {
     use std::ops::Range;
 
@@ -164,7 +172,7 @@ pub mod description {
     pub const PIN_OFFSET: usize = 4;
     /// Number of chips. Values: 1 to 4.
     pub const CHIP_COUNT: usize = 5;
-    /// Number of qualifiers. Values: 0 for no list, or 1 to 8.
+    /// Number of qualifiers. Values: 0 for no list, or 1 to 8 where they are tested.
     pub const QUALIFIER_COUNT: usize = 6;
     /// Multi configuration present; if not, its places count for nothing. Values: 0 no, 1 yes; in a
     /// Multi set yes.
@@ -196,7 +204,8 @@ pub mod description {
     pub const MULTI_COMMONED: Range<usize> = 28..36;
     /// 8 bytes: Multi: kinds of the ignored lines. Values: 0 to 5.
     pub const MULTI_IGNORED: Range<usize> = 36..44;
-    /// 8 bytes: qualifiers: indices of address lines in use. Values: below the lines in use.
+    /// 8 bytes: qualifiers: indices of address lines in use. Values: below the lines in use where
+    /// they are tested.
     pub const QUALIFIERS: Range<usize> = 44..52;
     /// 80 bytes: candidates of socket pins 1 to 40, two bytes a pin. Values: 255 255 none; g 255
     /// one; g h two; GPIOs 0 to 47 that differ.
@@ -282,7 +291,7 @@ pub mod cs_data_layout {
     pub const BASE_CS_PIN: usize = 3;
     /// Number of GPIOs from the lowest of these to the highest. Values: any.
     pub const CS_PINS: usize = 4;
-    /// Which of these GPIOs is no select line, from 0. Values: 255 none.
+    /// Which of these GPIOs is no select line, from 0. Values: any; 255 none.
     pub const IGNORE_INDEX: usize = 5;
     /// Number of select lines. Values: 0 to 30.
     pub const SELECT_COUNT: usize = 6;
@@ -336,8 +345,9 @@ pub mod image_span {
 }
 
 /// The stored slot record: A slot as it is stored, with the board's X pins. Another length is
-/// refusal 1, and so is another value than named here at place 5, at the candidates, at a count, or
-/// at the places kept of a ROM, in a ROM past the number of ROMs too.
+/// refusal 1, and so is another value than named here at place 5, at the candidates or at a count.
+/// Of each of the four ROMs, those past the number of ROMs too, MAP_GIVEN is 0 or 1 and the places
+/// kept are 0, or the record is refusal 1; a size is looked at in the ROMs below that number only.
 pub mod stored_slot {
     use std::ops::Range;
 
@@ -432,7 +442,11 @@ unsafe extern "C" {
 
     /// Builds the table of a slot: for each index the word of the chip that it picks, each bit
     /// where the data lines read it. It has 2^pins entries, pins being byte 1 of the address layout
-    /// record, and an entry has as many bytes as a word, byte 3 of the description record.
+    /// record, and an entry has as many bytes as a word, byte 3 of the description record. Of the
+    /// description a build goes by the set type, the bytes in a word, the number of chips, their
+    /// sizes and the largest table; which GPIOs carry what, it takes from the layouts. All of the
+    /// description is tested all the same, and so are its qualifiers against the address layout's
+    /// lines.
     pub(crate) fn onerom_build_rom_image(
         description: *const u8,
         description_len: usize,
