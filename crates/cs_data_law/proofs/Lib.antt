@@ -1,6 +1,6 @@
+pub mod Counts
 pub mod Scores
 pub mod Why
-pub mod Law
-pub mod Counts
-pub mod Fields
+pub mod Faults
 pub mod Sound
+pub mod Law

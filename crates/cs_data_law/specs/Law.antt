@@ -1,28 +1,25 @@
 -- Demand 2's law of the select search, why a search in which nothing fits refuses, and what a found layout keeps. Assumes nothing.
 use mathlib.Core.Path.{_≡_}
-use mathlib.Core.Bool.{true, _&&_}
+use mathlib.Core.Bool.{true, false, _&&_}
 use mathlib.Core.Logic.{_⊎_}
 use Prim.Native.Nat.{ℕ, _+_, _-_, _^_, _≤_, _<_}
-use lib.Bits.{bitAnd}
+use lib.Bits.{bitAnd, bitOr}
 use lib.ListN.{length, getD}
 use Rattle.gpio.specs.Candidates.{lastGpio}
-use Rattle.gpio.specs.Set.{Distinct, lowest, width, gapless, gap}
+use Rattle.gpio.specs.Set.{setOf, Distinct, lowest, width, gapless, gap}
 use Rattle.slot.specs.Description.{isMulti, chip0}
 use Rattle.slot.specs.declared.description.Description.{Description}
 use Rattle.refusal.specs.declared.Refusal.{Refusal}
 use Rattle.refusal.specs.declared.Refusal.the-variants.{NonContiguousSelect, InteriorIgnoredLine, NoValidLayout}
 use Rattle.listing.specs.Listing.{twos}
 use Rattle.listing.specs.Lines.{kindPin, pinCandidates}
-use Rattle.listing.specs.Choice.{CandidateOf, pinAt, gpioAt}
+use Rattle.listing.specs.Choice.{CandidateOf, gpioAt}
+use Rattle.listing.specs.Law.{Assigned, Numbers}
 use Rattle.refusal.specs.declared.first.FirstFault.the-variants.{None}
-use Rattle.search.specs.Law.{Best}
 use Rattle.cs_pins.specs.Pins.{numbered, csSearchIn}
-use Rattle.cs_choices.specs.Sets.{dataSet, selectSet}
-use Rattle.cs_verdict.specs.Verdict.{selectable, allOf, inOneWindow, preferenceBy, verdictTrial}
-use Rattle.cs_verdict.specs.declared.Verdict.{Verdict}
-use Rattle.cs_verdict.specs.declared.Verdict.the-variants.{SelectGap, Fits}
-use Rattle.cs_data_layout.specs.Layout.{line, handed}
-use Rattle.cs_data_layout.specs.Choices.{numData, excessSet, qualifierSet, csVerdict, csDataLayoutOf, ignoredSet}
+use Rattle.cs_verdict.specs.Verdict.{selectable, allOf, inOneWindow, preferenceBy}
+use Rattle.cs_data_layout.specs.Layout.{line, csDataRefused, handed}
+use Rattle.cs_data_layout.specs.Choices.{numData, excessSet, qualifierSet, csDataLayoutOf, ignoredSet}
 use Rattle.cs_data_layout.specs.Search.{givenIn, earlier, csDataAnswer}
 use Rattle.cs_data_layout.specs.declared.layout.GivenLayout.{GivenLayout}
 use Rattle.cs_data_layout.specs.declared.layout.CsDataLayout.{CsDataLayout}
@@ -33,81 +30,92 @@ pub record PastTests (d : Description) (a : GivenLayout) : Type 0 where
   pub domain : csSearchIn d && givenIn d a ≡ true
   pub no-fault : earlier d a ≡ None
 
--- how many choices there are, and what choice c comes to
+-- how many choices there are, and the GPIO that choice c takes for the k-th numbered pin
 abbrev pub choices : Description → ℕ
 choices d = 2 ^ twos (numbered d)
 
-abbrev pub verdictAt : Description → GivenLayout → ℕ → Verdict
-verdictAt d a c = csVerdict d (handed a) c
+abbrev pub choice : Description → ℕ → ℕ → ℕ
+choice d c k = gpioAt (numbered d) c k
 
--- 00 Demand 2: the layout found is that of choice c, which fits with score s; no fitting choice scores lower, every earlier one
--- higher
-pub record LaidOutBest (d : Description) (a : GivenLayout) (c s : ℕ) : Type 0 where
-  pub answer : csDataAnswer d a ≡ record { outcome = LaidOut; layout = csDataLayoutOf d (handed a) (numbered d) c }
-  pub best : Best (λ j. verdictTrial (verdictAt d a j)) (choices d) c s
+-- what GPIOs picked for the numbered pins come to, `pick k` being that of the k-th
+-- 01 cs_data_layout 5: the data GPIOs are those picked for the first numbered pins, as many as there are data pins
+abbrev pub dataPicked : Description → (ℕ → ℕ) → ℕ
+dataPicked d pick = setOf (numData d) pick
 
--- no choice fits
-abbrev pub NoneFits : Description → GivenLayout → Type 0
-NoneFits d a = (j t : ℕ) → j < choices d → verdictAt d a j ≡ Fits t → ⊥
+-- 01 cs_data_layout 3: those picked for the pins behind them, select and commoned, make one set with the excess lines
+abbrev pub selectPicked : Description → GivenLayout → (ℕ → ℕ) → ℕ
+selectPicked d a pick = bitOr (setOf (length (numbered d) - numData d) (λ k. pick (numData d + k))) (excessSet (handed a))
 
--- the select, excess and commoned GPIOs of choice c, and all its GPIOs
-abbrev pub selectSetAt : Description → GivenLayout → ℕ → ℕ
-selectSetAt d a c = selectSet (numbered d) (numData d) (excessSet (handed a)) c
+-- 01 cs_data_layout 3: the window has to hold data, select and qualifier GPIOs
+abbrev pub allPicked : Description → GivenLayout → (ℕ → ℕ) → ℕ
+allPicked d a pick = allOf (dataPicked d pick) (selectPicked d a pick) (qualifierSet d (handed a))
 
-abbrev pub allAt : Description → GivenLayout → ℕ → ℕ
-allAt d a c = allOf (dataSet (numbered d) (numData d) c) (selectSetAt d a c) (qualifierSet d (handed a))
+-- GPIOs that were picked fit
+pub record Fit (d : Description) (a : GivenLayout) (pick : ℕ → ℕ) : Type 0 where
+  -- 01 cs_data_layout 3: the data GPIOs have no gap
+  pub data-gapless : gapless (dataPicked d pick) ≡ true
+  -- 01 cs_data_layout 3: the select GPIOs have no gap, or the one that is allowed
+  pub select-gap : selectable (isMulti (d .«set_type»)) (selectPicked d a pick) ≡ true
+  -- 01 cs_data_layout 3: one window holds all GPIOs
+  pub window : inOneWindow (allPicked d a pick) ≡ true
+
+-- 01 Number 7: the select set of GPIOs that were picked is refused: the data GPIOs have no gap, and the select GPIOs have a gap that is
+-- not allowed
+pub record SelectRefused (d : Description) (a : GivenLayout) (pick : ℕ → ℕ) : Type 0 where
+  pub data-gapless : gapless (dataPicked d pick) ≡ true
+  pub select-gap : selectable (isMulti (d .«set_type»)) (selectPicked d a pick) ≡ false
 
 -- 01 cs_data_layout 4: choices are compared by their preference first
-abbrev pub preferenceAt : Description → GivenLayout → ℕ → ℕ
-preferenceAt d a c = preferenceBy (selectSetAt d a c) (qualifierSet d (handed a))
+abbrev pub preference : Description → GivenLayout → (ℕ → ℕ) → ℕ
+preference d a pick = preferenceBy (selectPicked d a pick) (qualifierSet d (handed a))
 
 -- 01 cs_data_layout 4: choices that are preferred alike are compared by the span of all their GPIOs
-abbrev pub totalSpan : Description → GivenLayout → ℕ → ℕ
-totalSpan d a c = width (allAt d a c)
+abbrev pub totalSpan : Description → GivenLayout → (ℕ → ℕ) → ℕ
+totalSpan d a pick = width (allPicked d a pick)
 
--- 01 cs_data_layout 4: choice c is no worse than choice j: preferred, or as preferred and no wider
-abbrev pub NoWorse : Description → GivenLayout → ℕ → ℕ → Type 0
-NoWorse d a c j =
-    (preferenceAt d a c < preferenceAt d a j) ⊎ ((preferenceAt d a c ≡ preferenceAt d a j) × (totalSpan d a c ≤ totalSpan d a j))
+-- 01 cs_data_layout 4: the GPIOs p are no worse than the GPIOs q: preferred, or as preferred and no wider
+abbrev pub NoWorse : Description → GivenLayout → (ℕ → ℕ) → (ℕ → ℕ) → Type 0
+NoWorse d a p q =
+    (preference d a p < preference d a q) ⊎ ((preference d a p ≡ preference d a q) × (totalSpan d a p ≤ totalSpan d a q))
 
--- 00 Demand 2: choice c is no worse than any that fits, and no earlier one that fits is as good
-pub record BestOrdered (d : Description) (a : GivenLayout) (c : ℕ) : Type 0 where
-  pub lowest : (j t : ℕ) → j < choices d → verdictAt d a j ≡ Fits t → NoWorse d a c j
-  pub earliest : (j t : ℕ) → j < c → verdictAt d a j ≡ Fits t → NoWorse d a j c → ⊥
+-- no choice of candidates fits
+abbrev pub NoneFits : Description → GivenLayout → Type 0
+NoneFits d a = (pick : ℕ → ℕ) → Assigned (numbered d) pick → Fit d a pick → ⊥
 
--- the ignored GPIOs in the gap of a refused set
-abbrev pub seenIn : Description → ℕ → ℕ
-seenIn d s = bitAnd (gap s) (ignoredSet d)
+-- the ignored GPIOs in the gap of the select GPIOs that were picked
+abbrev pub seen : Description → GivenLayout → (ℕ → ℕ) → ℕ
+seen d a pick = bitAnd (gap (selectPicked d a pick)) (ignoredSet d)
 
--- choice c has gapless data, its set s is refused, and some ignored GPIO is in the gap
-pub record Sees (d : Description) (a : GivenLayout) (c s : ℕ) : Type 0 where
-  pub refused : verdictAt d a c ≡ SelectGap s
-  pub some : seenIn d s ≡ 0 → ⊥
+-- the select set is refused, and some ignored GPIO is in its gap
+pub record Sees (d : Description) (a : GivenLayout) (pick : ℕ → ℕ) : Type 0 where
+  pub refused : SelectRefused d a pick
+  pub some : seen d a pick ≡ 0 → ⊥
 
 -- the first choice that sees one
-pub record FirstSeen (d : Description) (a : GivenLayout) (c s : ℕ) : Type 0 where
+pub record FirstSeen (d : Description) (a : GivenLayout) (c : ℕ) : Type 0 where
   pub within : c < choices d
-  pub sees : Sees d a c s
-  pub earlier-none : (j t : ℕ) → j < c → Sees d a j t → ⊥
+  pub sees : Sees d a (choice d c)
+  pub earlier-none : (j : ℕ) → j < c → Sees d a (choice d j) → ⊥
 
 -- the last choice whose set is refused
-pub record LastRefused (d : Description) (a : GivenLayout) (c s : ℕ) : Type 0 where
+pub record LastRefused (d : Description) (a : GivenLayout) (c : ℕ) : Type 0 where
   pub within : c < choices d
-  pub refused : verdictAt d a c ≡ SelectGap s
-  pub later-none : (j t : ℕ) → c < j → j < choices d → verdictAt d a j ≡ SelectGap t → ⊥
+  pub refused : SelectRefused d a (choice d c)
+  pub later-none : (j : ℕ) → c < j → j < choices d → SelectRefused d a (choice d j) → ⊥
 
--- no choice sees an ignored GPIO; no choice's set is refused
+-- no choice of candidates sees an ignored GPIO; the set of none is refused
 abbrev pub NoneSeen : Description → GivenLayout → Type 0
-NoneSeen d a = (j t : ℕ) → j < choices d → Sees d a j t → ⊥
+NoneSeen d a = (pick : ℕ → ℕ) → Assigned (numbered d) pick → Sees d a pick → ⊥
 
 abbrev pub NoneRefused : Description → GivenLayout → Type 0
-NoneRefused d a = (j t : ℕ) → j < choices d → verdictAt d a j ≡ SelectGap t → ⊥
+NoneRefused d a = (pick : ℕ → ℕ) → Assigned (numbered d) pick → SelectRefused d a pick → ⊥
 
 -- 01 cs_data_layout 9: why nothing fits: 8 with the lowest ignored GPIO that the first choice to see any sees; if none sees any, 7
 -- with the set of the last choice whose set is refused; if there is no such choice, 9
 pub data WhyNone (d : Description) (a : GivenLayout) (why : Refusal) : Type 0 where
-  eight : (c s : ℕ) → FirstSeen d a c s → why ≡ InteriorIgnoredLine (lowest (seenIn d s)) → WhyNone d a why
-  seven : (c s : ℕ) → NoneSeen d a → LastRefused d a c s → why ≡ NonContiguousSelect (record { bits = s }) → WhyNone d a why
+  eight : (c : ℕ) → FirstSeen d a c → why ≡ InteriorIgnoredLine (lowest (seen d a (choice d c))) → WhyNone d a why
+  seven : (c : ℕ) → NoneSeen d a → LastRefused d a c → why ≡ NonContiguousSelect (record { bits = selectPicked d a (choice d c) })
+      → WhyNone d a why
   nine : NoneRefused d a → why ≡ NoValidLayout → WhyNone d a why
 
 -- the GPIOs of a layout's lines
@@ -154,15 +162,24 @@ pub record SoundLayout (d : Description) (c : ℕ) (l : CsDataLayout) : Type 0 w
   pub select-on : isMulti (d .«set_type») ≡ true → kindPin d (d .multi .select) ≡ 0 → ⊥
   pub select-candidate : isMulti (d .«set_type») ≡ true → CandidateOf (pinCandidates d (kindPin d (d .multi .select))) (selectGpio l 0)
 
--- what the layout of a choice that fits keeps
-pub record Sound (d : Description) (a : GivenLayout) (c : ℕ) : Type 0 where
-  -- 01 cs_data_layout 3: the data GPIOs have no gap
-  pub data-gapless : gapless (dataSet (numbered d) (numData d) c) ≡ true
-  -- 01 cs_data_layout 3: the select GPIOs have no gap, or the one that is allowed
-  pub select-gap : selectable (isMulti (d .«set_type»)) (selectSetAt d a c) ≡ true
-  -- 01 cs_data_layout 3: one window holds all GPIOs
-  pub window : inOneWindow (allAt d a c) ≡ true
-  -- each numbered pin's GPIO is a candidate of its pin
-  pub candidate : (k : ℕ) → k < length (numbered d) → CandidateOf (pinAt (numbered d) k) (gpioAt (numbered d) c k)
-  -- and the fields of the layout say so
-  pub layout : SoundLayout d c (csDataLayoutOf d (handed a) (numbered d) c)
+-- 00 Demand 2: l is the layout of choice c, which fits; it is no worse than any choice of candidates that fits, and no earlier one
+-- that fits is as good
+pub record FoundBest (d : Description) (a : GivenLayout) (c : ℕ) (l : CsDataLayout) : Type 0 where
+  pub within : c < choices d
+  pub layout : l ≡ csDataLayoutOf d (handed a) (numbered d) c
+  pub fit : Fit d a (choice d c)
+  pub lowest : (pick : ℕ → ℕ) → Assigned (numbered d) pick → Fit d a pick → NoWorse d a (choice d c) pick
+  pub earliest : (j : ℕ) → j < c → Fit d a (choice d j) → NoWorse d a (choice d j) (choice d c) → ⊥
+  -- what the layout's own fields keep
+  pub sound : SoundLayout d c l
+
+-- 00 Demand 2: past its tests the select search finds a layout exactly if some choice of candidates fits, and then the best
+pub record CsDataDemand (d : Description) (a : GivenLayout) : Type 0 where
+  -- choices of candidates go by their numbers
+  pub numbers : Numbers (numbered d)
+  pub some-found : (pick : ℕ → ℕ) → Assigned (numbered d) pick → Fit d a pick → csDataAnswer d a .outcome ≡ LaidOut
+  pub found-best : csDataAnswer d a .outcome ≡ LaidOut → (c : ℕ) × FoundBest d a c (csDataAnswer d a .layout)
+  -- 01 cs_data_layout 9: the answer is a refusal exactly if no choice fits, for the one reason that there is
+  pub none-refused : NoneFits d a → (why : Refusal) × (csDataAnswer d a ≡ csDataRefused why)
+  pub refused-none : (why : Refusal) → csDataAnswer d a ≡ csDataRefused why → NoneFits d a × WhyNone d a why
+  pub one-why : (v w : Refusal) → WhyNone d a v → WhyNone d a w → v ≡ w

@@ -17,13 +17,11 @@ use Rattle.addr_law.proofs.Law as addr-law
 use Rattle.addr_layout.specs.declared.layout.AddrLayout.{AddrLayout}
 use Rattle.addr_layout.specs.declared.layout.AddrOutcome.{AddrOutcome}
 use Rattle.addr_layout.specs.declared.layout.AddrAnswer.{AddrAnswer}
-use Rattle.cs_pins.specs.Pins.{numbered, csSearchIn}
+use Rattle.cs_pins.specs.Pins.{csSearchIn}
 use Rattle.cs_data_layout.specs.Layout as cs-layout
-use Rattle.cs_data_layout.specs.Choices as cs-choices
 use Rattle.cs_data_layout.specs.Search as cs-search
 use Rattle.cs_data_law.specs.Law as cs
 use Rattle.cs_data_law.proofs.Law as cs-law
-use Rattle.cs_data_law.proofs.Sound as cs-sound
 use Rattle.cs_data_layout.specs.declared.layout.GivenLayout.{GivenLayout}
 use Rattle.cs_data_layout.specs.declared.layout.CsDataLayout.{CsDataLayout}
 use Rattle.cs_data_layout.specs.declared.layout.CsDataOutcome.{CsDataOutcome}
@@ -73,28 +71,22 @@ cs-refused-not-laid : (why : Refusal) (l : CsDataLayout) → cs-layout.csDataRef
 unfolding cs-laid
 cs-refused-not-laid why l e = zero-one (ap (λ (r : CsDataAnswer). cs-laid (r .outcome)) e)
 
-pub record Cs-found-at (d : Description) (l : CsDataLayout) : Type 0 where
-  pub choice : ℕ
-  pub sound : cs.SoundLayout d choice l
-
 module _ (d : Description) (g : GivenLayout) (l : CsDataLayout) where
-  cs-by-best : cs.PastTests d g → cs-search.csDataAnswer d g ≡ csLaidOut l → Cs-found-at d l
+  cs-by-best : cs.PastTests d g → cs-search.csDataAnswer d g ≡ csLaidOut l → (c : ℕ) × cs.FoundBest d g c l
   cs-by-best past e =
-      let f = cs-law.laid-fits d g past (ap (λ (r : CsDataAnswer). r .outcome) e) in
-      let fits = cs-law.scores-fit (cs.verdictAt d g (f .0)) (f .1) (f .2 .best .fits) in
-      let same : cs-choices.csDataLayoutOf d (cs-layout.handed g) (numbered d) (f .0) ≡ l = ap (λ (r : CsDataAnswer). r .layout) (sym (f .2 .answer) ∙ e) in
-      record { choice = f .0; sound = subst (λ (x : CsDataLayout). cs.SoundLayout d (f .0) x) same (cs-sound.sound d g past (f .0) (f .1) fits .layout) }
+      let (c, f) = cs-law.cs-data-demand d g past .found-best (ap (λ (r : CsDataAnswer). r .outcome) e) in
+      (c, subst (cs.FoundBest d g c) (ap (λ (r : CsDataAnswer). r .layout) e) f)
 
   cs-by-fault : (csSearchIn d && cs-search.givenIn d g) ≡ true → (f : FirstFault) → cs-search.earlier d g ≡ f
-      → cs-search.afterEarlier d (cs-layout.handed g) f ≡ csLaidOut l → cs-search.csDataAnswer d g ≡ csLaidOut l → Cs-found-at d l
+      → cs-search.afterEarlier d (cs-layout.handed g) f ≡ csLaidOut l → cs-search.csDataAnswer d g ≡ csLaidOut l → (c : ℕ) × cs.FoundBest d g c l
   cs-by-fault i (Of why) q e a = absurd (cs-refused-not-laid why l e)
   cs-by-fault i None q e a = cs-by-best (record { domain = i; no-fault = q }) a
 
   cs-by-domain : (t : Bool) → (csSearchIn d && cs-search.givenIn d g) ≡ t
       → cond t (cs-search.afterEarlier d (cs-layout.handed g) (cs-search.earlier d g)) (cs-layout.csDataRefused OutOfDomain) ≡ csLaidOut l
-      → cs-search.csDataAnswer d g ≡ csLaidOut l → Cs-found-at d l
+      → cs-search.csDataAnswer d g ≡ csLaidOut l → (c : ℕ) × cs.FoundBest d g c l
   cs-by-domain false q e a = absurd (cs-refused-not-laid OutOfDomain l e)
   cs-by-domain true q e a = cs-by-fault q (cs-search.earlier d g) refl e a
 
-  pub cs-found : cs-search.csDataAnswer d g ≡ csLaidOut l → Cs-found-at d l
+  pub cs-found : cs-search.csDataAnswer d g ≡ csLaidOut l → (c : ℕ) × cs.FoundBest d g c l
   cs-found e = cs-by-domain (csSearchIn d && cs-search.givenIn d g) refl e e

@@ -27,6 +27,7 @@ use Rattle.refusal.specs.First.{orElse}
 use Rattle.refusal.specs.declared.first.FirstFault.{FirstFault}
 use Rattle.refusal.specs.declared.first.FirstFault.the-variants.{None, Of}
 use Rattle.addr_law.specs.Law as addr
+use Rattle.cs_data_law.specs.Law as cs
 use Rattle.addr_layout.specs.declared.layout.AddrLayout.{AddrLayout}
 use Rattle.cs_data_layout.specs.declared.layout.CsDataLayout.{CsDataLayout}
 use Rattle.build_args.specs.Args.{argsOf}
@@ -52,7 +53,7 @@ use Rattle.build_args.proofs.Facts.{described, selected, data-base}
 use Rattle.rom_image.proofs.Buildable.{Buildable}
 use Rattle.rom_image.specs.design.Past.{PastTests}
 use Rattle.rom_image.proofs.Past.{buildable, pins-few}
-use Rattle.round_trip.proofs.Laid.{addr-found, Cs-found-at, cs-found}
+use Rattle.round_trip.proofs.Laid.{addr-found, cs-found}
 use Rattle.round_trip.proofs.Told.{told-apart, select-at}
 use Rattle.round_trip.proofs.Given.{fitted}
 use Rattle.round_trip.proofs.Accepted.{both-none, Small, none-refused}
@@ -141,11 +142,11 @@ module _ (d : Description) (a : AddrLayout) (c : CsDataLayout) (images : List �
   laid : (c : ℕ) × addr.FoundBest d c a
   laid = addr-found d a (ok .address)
 
-  selected-at : Cs-found-at d c
+  selected-at : (n : ℕ) × cs.FoundBest d (record { given = true; layout = a }) n c
   selected-at = cs-found d (record { given = true; layout = a }) c (ok .select)
 
   told : ToldApart d a c
-  told = told-apart d a (laid .0) (selected-at .choice) (laid .1) c (selected-at .sound) wired
+  told = told-apart d a (laid .0) (selected-at .0) (laid .1) c (selected-at .1 .sound) wired
 
   same-lines : Fitted d a c s
   same-lines = fitted d a c s given (laid .0) (laid .1 .sound) wired unforced
@@ -186,7 +187,7 @@ module _ (d : Description) (a : AddrLayout) (c : CsDataLayout) (images : List �
 
   select-window : isMulti (d .«set_type») ≡ true → addr.InWindow a (stored.storedSelect s)
   select-window m =
-      let at = select-at d a (laid .0) (selected-at .choice) (laid .1) c (selected-at .sound) wired m in
+      let at = select-at d a (laid .0) (selected-at .0) (laid .1) c (selected-at .1 .sound) wired m in
       let one : At (at .gpio) ≡ At (stored.storedSelect s) = sym (at .first) ∙ given .select m in
       let same : at .gpio ≡ stored.storedSelect s = cc in
       subst (addr.InWindow a) same (at .inside)
@@ -196,7 +197,7 @@ module _ (d : Description) (a : AddrLayout) (c : CsDataLayout) (images : List �
       let board = description-in d in-description .board in
       let all = all-same d a c s same-lines in
       none-refused d a c s given small (laid .0) (laid .1 .sound) wired (board .x1) (board .x2) (tableOf padByte (argsOf d a c spans) images) (length output) (length marks) table-long told
-      (selected-at .sound .data-above) (can .chips) select-window (rw (all, given .word-bytes) (room .for-output)) (rw all (room .for-marks))
+      (selected-at .1 .sound .data-above) (can .chips) select-window (rw (all, given .word-bytes) (room .for-output)) (rw all (room .for-marks))
 
   size-right : wrongSize s (tableOf padByte (argsOf d a c spans) images) ≡ false
   size-right = rw (eq-eqb (length (tableOf padByte (argsOf d a c spans) images)) (s .size) (table-long ∙ sym (given .size)))

@@ -32,7 +32,7 @@ use Rattle.stored_slot.specs.declared.stored.StoredSlot.{StoredSlot}
 use Rattle.round_trip.specs.WellWired.{Mapped, StoredAs, Unforced}
 use Rattle.round_trip.specs.RoundTrip.{Accepted}
 use Rattle.round_trip.specs.Stored.{mapList, storedRom, gpioOr0, storedOf}
-use Rattle.round_trip.proofs.Laid.{Cs-found-at, cs-found}
+use Rattle.round_trip.proofs.Laid.{cs-found}
 use Rattle.round_trip.proofs.RoundTrip.{Past, build-past}
 
 -- a list that ends at n has n entries
@@ -146,7 +146,7 @@ module _ (d : Description) (a : AddrLayout) (c : CsDataLayout) (images : List �
   past : Past d a c images spans lent
   past = build-past d a c images spans lent (ok .build)
 
-  selects : Cs-found-at d c
+  selects : (n : ℕ) × cs.FoundBest d (record { given = true; layout = a }) n c
   selects = cs-found d (record { given = true; layout = a }) c (ok .select)
 
   storable : Storable d a c
@@ -156,8 +156,8 @@ module _ (d : Description) (a : AddrLayout) (c : CsDataLayout) (images : List �
     lines = omega (arith, lines-few (argsOf d a c spans) (past .tests .domain));
     line-gpio = λ k l. line-in a (addressed (argsOf d a c spans) (past .tests .domain)) k (omega (arith, l));
     data-lines = omega (arith, data-count c (selected (argsOf d a c spans) (past .tests .domain)) .1);
-    data-gpio = selects .sound .data-in;
-    select = selects .sound .first-select;
+    data-gpio = selects .1 .sound .data-in;
+    select = selects .1 .sound .first-select;
   }
 
   pub stored-as : StoredAs d a c (storedOf d a c)
