@@ -27,15 +27,16 @@ use Rattle.build_args.specs.Positions.{linePosition}
 use Rattle.picks.specs.Positions.{xPosition}
 use Rattle.build_args.specs.Picks.{numPicks, firstSelect, xGpio, pickOf, pickPosition}
 use Rattle.picks.specs.Picks.{xLines, picksOf}
-use Rattle.round_trip.specs.WellWired.{BoardPin, candidatesOf, Unshared, addressPin, selectPin, WellWired}
+use Rattle.round_trip.specs.WellWired.{BoardPin, candidatesOf, PinOf, Unshared, addressPin, selectPin, WellWired}
 use Rattle.round_trip.specs.WellWired.BoardPin.{socket, x1, x2}
 use Rattle.round_trip.proofs.Fitted.{indexPosition}
-use Rattle.round_trip.proofs.Pins.{Behind, line-behind, linePin, pinBehind, lines-own, same-place, same-x, apart-x}
+use Rattle.round_trip.proofs.Pins.{Behind, line-behind, linePin, line-pin-in, pinBehind, lines-own, place-in, same-place, same-x, apart-x}
 
 -- a line at a position: its GPIO is a candidate of its pin, and in the window
 pub record Line (b : Board) (a : AddrLayout) (position : ℕ) (pin : BoardPin) : Type 0 where
   pub gpio : ℕ
   pub at : position ≡ gpio - a .«gpio_base»
+  pub on-board : PinOf b pin
   pub candidate : CandidateOf (candidatesOf b pin) gpio
   pub inside : InWindow a gpio
 
@@ -46,7 +47,7 @@ line-in b a p pin l = omega (arith, l .at, l .inside .0, l .inside .1)
 pub line-own : (b : Board) (a : AddrLayout) (p q : ℕ) (u v : BoardPin) → Unshared b → Line b a p u → Line b a q v → p ≡ q → u ≡ v
 line-own b a p q u v n l m e =
     let same : m .gpio ≡ l .gpio = omega (arith, l .at, m .at, l .inside .0, m .inside .0, e) in
-    n u v (l .gpio) (l .candidate) (subst (λ (g : ℕ). CandidateOf (candidatesOf b v) g) same (m .candidate))
+    n u v (l .gpio) (l .on-board) (m .on-board) (l .candidate) (subst (λ (g : ℕ). CandidateOf (candidatesOf b v) g) same (m .candidate))
 
 -- the pins of the lines that pick: X1, X2; in Multi the select's place of the socket before them
 abbrev pub xPin : ℕ → BoardPin
@@ -74,12 +75,13 @@ pub record SelectAt (d : Description) (a : AddrLayout) (c : CsDataLayout) (s : �
   pub inside : InWindow a gpio
 
 module _ (d : Description) (ca : ℕ) (a : AddrLayout) (sound : SoundLayout d ca a) (c : CsDataLayout) (s : ℕ) where
-  x-laid : (pin : BoardPin) (x : LineGpio) → XLaid a (candidatesOf (d .board) pin) x → Line (d .board) a (xPosition (a .«gpio_base») x) pin
-  x-laid pin x l = record { gpio = l .0; at = ap (xPosition (a .«gpio_base»)) (l .1); candidate = l .2; inside = l .3 }
+  x-laid : (pin : BoardPin) (x : LineGpio) → PinOf (d .board) pin → XLaid a (candidatesOf (d .board) pin) x
+      → Line (d .board) a (xPosition (a .«gpio_base») x) pin
+  x-laid pin x p l = record { gpio = l .0; at = ap (xPosition (a .«gpio_base»)) (l .1); on-board = p; candidate = l .2; inside = l .3 }
 
   x-line : isSingle (d .«set_type») ≡ false → (k : ℕ) → k < xLines (d .«num_chips») → Line (d .board) a (xPosition (a .«gpio_base») (xGpio a k)) (xPin k)
-  x-line m zero l = x-laid x1 (a .«x1_gpio») (sound .x1 m)
-  x-line m (suc zero) l = x-laid x2 (a .«x2_gpio») (sound .x2 m (x-third (d .«num_chips») 1 (leb 3 (d .«num_chips»)) refl l (omega arith)))
+  x-line m zero l = x-laid x1 (a .«x1_gpio») tt (sound .x1 m)
+  x-line m (suc zero) l = x-laid x2 (a .«x2_gpio») tt (sound .x2 m (x-third (d .«num_chips») 1 (leb 3 (d .«num_chips»)) refl l (omega arith)))
   x-line m (suc (suc k)) l = absurd (omega (arith, x-few (d .«num_chips») (suc (suc k)) (leb 3 (d .«num_chips»)) refl l))
 
   multi-line : isSingle (d .«set_type») ≡ false → SelectAt d a c s → (k : ℕ) (z : Bool) → eqb k 0 ≡ z → k < 1 + xLines (d .«num_chips»)
@@ -87,6 +89,7 @@ module _ (d : Description) (ca : ℕ) (a : AddrLayout) (sound : SoundLayout d ca
   multi-line m sel k true e l = record {
     gpio = sel .gpio;
     at = ap (xPosition (a .«gpio_base»)) (sel .first);
+    on-board = place-in d (selectPin d) s (sel .on);
     candidate = sel .candidate;
     inside = sel .inside;
   }
@@ -165,7 +168,13 @@ module _ (d : Description) (ca : ℕ) (a : AddrLayout) (sound : SoundLayout d ca
   behind-line n l = line-behind d n _ (sound .line-candidate n l)
 
   line-at : (n : ℕ) → n < a .«num_lines» → Line (d .board) a (linePosition a n) (linePin d n)
-  line-at n l = record { gpio = getD (a .gpios) n 0; at = refl; candidate = behind-line n l .candidate; inside = sound .line-window n l }
+  line-at n l = record {
+    gpio = getD (a .gpios) n 0;
+    at = refl;
+    on-board = line-pin-in d n;
+    candidate = behind-line n l .candidate;
+    inside = sound .line-window n l;
+  }
 
   pick-at : (k : ℕ) → k < numPicks d → Line (d .board) a (pickPosition d a c k) (pickPin (d .«set_type») s k)
   pick-at k l = pick-line d ca a sound c s (d .«set_type») refl sel k l

@@ -8,7 +8,7 @@ use native.Mathlib.Omega.{arith}
 use lib.Dec.{leb, eqb, ltb}
 use borrow.Author.Tests.{leb-true, eqb-true, eqb-false, ltb-true, ltb-false}
 use Rattle.lists.specs.Each.{tally}
-use Rattle.lists.proofs.Bools.{and-left}
+use Rattle.lists.proofs.Bools.{and-left, and-right}
 use Rattle.lists.proofs.Loops.{zero-one}
 use Rattle.gpio.specs.declared.candidates.Candidates.the-variants.{Absent}
 use Rattle.slot.specs.Description.{isSingle}
@@ -22,16 +22,22 @@ use Rattle.listing.specs.Listing.{listed, xListed}
 use Rattle.listing.specs.Choice.{CandidateOf}
 use Rattle.listing.specs.Lines.{pinSocket}
 use Rattle.addr_lines.specs.Lines.{lineSocket, isOff, offBefore, flyLead, atSocket, lineListed}
-use Rattle.round_trip.specs.WellWired.{BoardPin, candidatesOf, addressPin}
+use Rattle.round_trip.specs.WellWired.{BoardPin, candidatesOf, PinOf, addressPin}
 use Rattle.round_trip.specs.WellWired.BoardPin.{socket, x1, x2}
 
 -- two chip pins at one place of the socket are one
 place-of : (pin raised board s : ℕ) (t : Bool) → (leb 1 (pin + raised - 4) && leb (pin + raised - 4) board) ≡ t
-    → cond t (On (pin + raised - 4)) Off ≡ On s → (pin + raised - 4 ≡ s) × (1 ≤ s)
+    → cond t (On (pin + raised - 4)) Off ≡ On s → (pin + raised - 4 ≡ s) × (1 ≤ s) × (s ≤ board)
 place-of pin raised board s true e h =
     let q : pin + raised - 4 ≡ s = cc in
-    (q, omega (arith, q, leb-true 1 (pin + raised - 4) (and-left (leb 1 (pin + raised - 4)) (leb (pin + raised - 4) board) e)))
+    let low = leb-true 1 (pin + raised - 4) (and-left (leb 1 (pin + raised - 4)) (leb (pin + raised - 4) board) e) in
+    let high = leb-true (pin + raised - 4) board (and-right (leb 1 (pin + raised - 4)) (leb (pin + raised - 4) board) e) in
+    (q, omega (arith, q, low), omega (arith, q, high))
 place-of pin raised board s false e h = absurd (zero-one cc)
+
+-- a place where a chip pin lies is a pin of the board
+pub place-in : (d : Description) (p s : ℕ) → pinSocket d p ≡ On s → PinOf (d .board) (socket s)
+place-in d p s e = let a = place-of p (raisedOf (d .«pin_offset»)) (d .board .pins) s _ refl e in (a .1, a .2)
 
 pub same-place : (d : Description) (p q s : ℕ) → pinSocket d p ≡ On s → pinSocket d q ≡ On s → p ≡ q
 same-place d p q s e h =
@@ -47,6 +53,17 @@ pinBehind Off before = cond (eqb before 0) x1 x2
 
 abbrev pub linePin : Description → ℕ → BoardPin
 linePin d n = pinBehind (lineSocket d n) (offBefore d n)
+
+pub x-in : (b : Board) (t : Bool) → PinOf b (cond t x1 x2)
+x-in b true = tt
+x-in b false = tt
+
+pub line-pin-in : (d : Description) (n : ℕ) → PinOf (d .board) (linePin d n)
+unfolding lineSocket
+line-pin-in d n = at (lineSocket d n) refl where
+  at : (o : Socket) → lineSocket d n ≡ o → PinOf (d .board) (pinBehind o (offBefore d n))
+  at (On s) e = place-in d (addressPin d n) s e
+  at Off e = x-in (d .board) (eqb (offBefore d n) 0)
 
 -- a line with a candidate has that of its pin, and is off the socket only as the first or second such line of a Single slot
 pub record Behind (d : Description) (o : Socket) (before g : ℕ) : Type 0 where

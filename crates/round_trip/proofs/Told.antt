@@ -29,7 +29,7 @@ use Rattle.build_args.specs.Picks.{firstSelect}
 use Rattle.round_trip.specs.WellWired.{BoardPin, candidatesOf, dataPin, selectPin, WellWired}
 use Rattle.round_trip.specs.WellWired.BoardPin.{socket, x1, x2}
 use Rattle.round_trip.proofs.Fitted.{ToldApart}
-use Rattle.round_trip.proofs.Pins.{same-place}
+use Rattle.round_trip.proofs.Pins.{place-in, same-place}
 use Rattle.round_trip.proofs.Apart.{SelectAt, index-in, index-own}
 
 -- a chip pin with a candidate is on the socket, and the candidate is that of its place
@@ -57,7 +57,8 @@ unfolding place-of
 one-pin d a w p q g c e =
     let s = on-socket d p g c in
     let t = on-socket d q g e in
-    let same : s .place ≡ t .place = ap place-of (w .unshared (socket (s .place)) (socket (t .place)) g (s .candidate) (t .candidate)) in
+    let shared = w .unshared (socket (s .place)) (socket (t .place)) g (place-in d p _ (s .on)) (place-in d q _ (t .on)) in
+    let same : s .place ≡ t .place = ap place-of (shared (s .candidate) (t .candidate)) in
     same-place d p q (t .place) (s .on ∙ ap On same) (t .on)
 
 -- a pin that has not two candidates has its first

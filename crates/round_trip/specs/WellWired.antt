@@ -25,7 +25,7 @@ use Rattle.stored_slot.specs.Stored as stored
 use Rattle.stored_slot.specs.declared.stored.SlotType.the-variants.{Roms}
 use Rattle.stored_slot.specs.declared.stored.StoredSlot.{StoredSlot}
 
--- a pin of the board: a place of the socket, from 1, or an X pin
+-- a place of the socket, or an X pin
 pub data BoardPin : Type 0 where
   socket : ℕ → BoardPin
   x1 : BoardPin
@@ -36,9 +36,16 @@ candidatesOf b (socket s) = candidatesAt b s
 candidatesOf b x1 = b .x1
 candidatesOf b x2 = b .x2
 
--- 01 Well wired 2: pins of the socket, X1 and X2 that have a candidate in common are one pin
+-- 01 Well wired 2: pins of a board are the socket's places from 1 to its number of pins, X1 and X2
+abbrev pub PinOf : Board → BoardPin → Type 0
+PinOf b (socket s) = (1 ≤ s) × (s ≤ b .pins)
+PinOf b x1 = Unit {0}
+PinOf b x2 = Unit {0}
+
+-- 01 Well wired 2: pins of the board that have a candidate in common are one pin
 abbrev pub Unshared : Board → Type 0
-Unshared b = (p q : BoardPin) (g : ℕ) → CandidateOf (candidatesOf b p) g → CandidateOf (candidatesOf b q) g → p ≡ q
+Unshared b =
+    (p q : BoardPin) (g : ℕ) → PinOf b p → PinOf b q → CandidateOf (candidatesOf b p) g → CandidateOf (candidatesOf b q) g → p ≡ q
 
 -- the chip's pin of line n, and of data line n
 abbrev pub addressPin : Description → ℕ → ℕ

@@ -1,6 +1,7 @@
 // Slots through both searches, the build and read-back: that well wired slots which nothing refuses are there, of each set kind and
 // number of chips, in 8 and in 16-bit mode. That each is well wired is tested by `well_wired`, whose law gives the premise of demand 3.
-// Each pin has one GPIO and no GPIO two pins. The lent buffers hold JUNK before.
+// Each pin has one GPIO and no GPIO two pins; what stands past a board's pins shares the GPIO of one of them. The lent buffers hold
+// JUNK before.
 use addr_layout::derive_addr_layout;
 use build_args::images::ImageSpan;
 use gpio::candidates::Candidates;
@@ -35,11 +36,15 @@ struct Case {
     lines: u8,
     size: u16,
     limit: u32,
+    pins: u8,
 }
 
 // The GPIO at place k of the socket, data lines first and those of each byte reversed. The address lines are turned round in pairs; the
-// select is next to them.
-fn wired(lines: u8, k: u8) -> Candidates {
+// select is next to them. Past the board's pins stands the GPIO of an address line.
+fn wired(lines: u8, pins: u8, k: u8) -> Candidates {
+    if pins <= k {
+        return Candidates::One(0);
+    }
     if k < 16 {
         return Candidates::One(k ^ 23);
     }
@@ -55,7 +60,7 @@ fn wired(lines: u8, k: u8) -> Candidates {
     Candidates::Absent
 }
 
-fn socket(lines: u8) -> [Pin; 40] {
+fn socket(lines: u8, pins: u8) -> [Pin; 40] {
     let none = Pin {
         gpios: Candidates::Absent,
     };
@@ -63,7 +68,7 @@ fn socket(lines: u8) -> [Pin; 40] {
     let mut k: u8 = 0;
     while k < 40 {
         out[k as usize] = Pin {
-            gpios: wired(lines, k),
+            gpios: wired(lines, pins, k),
         };
         k += 1;
     }
@@ -71,10 +76,10 @@ fn socket(lines: u8) -> [Pin; 40] {
 }
 
 // X1 and X2 follow the select.
-fn board(lines: u8) -> Board {
+fn board(lines: u8, pins: u8) -> Board {
     Board {
-        socket: socket(lines),
-        pins: 40,
+        socket: socket(lines, pins),
+        pins,
         x1: Candidates::One(wrapping_add_u8(lines, 1)),
         x2: Candidates::One(wrapping_add_u8(lines, 2)),
     }
@@ -169,7 +174,7 @@ fn cs1_selects() -> MultiCsConfig {
 fn description(case: Case) -> Description {
     let set_type = case.set_type;
     Description {
-        board: board(case.lines),
+        board: board(case.lines, case.pins),
         set_type,
         word_bytes: case.word_bytes,
         pin_offset: 0,
@@ -352,12 +357,13 @@ fn single(name: &[u8], word_bytes: u8, lines: u8, size: u16, limit: u32) {
             lines,
             size,
             limit,
+            pins: 40,
         },
     );
 }
 
 // Chip 0 of 256 words.
-fn set(name: &[u8], set_type: ChipSetType, chips: u8, word_bytes: u8) {
+fn set(name: &[u8], set_type: ChipSetType, chips: u8, word_bytes: u8, pins: u8) {
     run(
         name,
         Case {
@@ -367,6 +373,7 @@ fn set(name: &[u8], set_type: ChipSetType, chips: u8, word_bytes: u8) {
             lines: 8,
             size: by_mode(word_bytes, 256, 512),
             limit: 8192,
+            pins,
         },
     );
 }
@@ -378,14 +385,16 @@ fn main() {
     single(b"Single, w 2", 2, 8, 512, 8192);
     single(b"Single, w 2, 401 bytes", 2, 8, 401, 8192);
     single(b"Single, w 2, 2 excess lines", 2, 10, 2048, 512);
-    set(b"Banked of 2, w 1", ChipSetType::Banked, 2, 1);
-    set(b"Banked of 3, w 1", ChipSetType::Banked, 3, 1);
-    set(b"Banked of 4, w 1", ChipSetType::Banked, 4, 1);
-    set(b"Banked of 2, w 2", ChipSetType::Banked, 2, 2);
-    set(b"Banked of 3, w 2", ChipSetType::Banked, 3, 2);
-    set(b"Banked of 4, w 2", ChipSetType::Banked, 4, 2);
-    set(b"Multi of 2, w 1", ChipSetType::Multi, 2, 1);
-    set(b"Multi of 3, w 1", ChipSetType::Multi, 3, 1);
-    set(b"Multi of 2, w 2", ChipSetType::Multi, 2, 2);
-    set(b"Multi of 3, w 2", ChipSetType::Multi, 3, 2);
+    set(b"Banked of 2, w 1", ChipSetType::Banked, 2, 1, 40);
+    set(b"Banked of 3, w 1", ChipSetType::Banked, 3, 1, 40);
+    set(b"Banked of 4, w 1", ChipSetType::Banked, 4, 1, 40);
+    set(b"Banked of 2, w 2", ChipSetType::Banked, 2, 2, 40);
+    set(b"Banked of 3, w 2", ChipSetType::Banked, 3, 2, 40);
+    set(b"Banked of 4, w 2", ChipSetType::Banked, 4, 2, 40);
+    set(b"Multi of 2, w 1", ChipSetType::Multi, 2, 1, 40);
+    set(b"Multi of 3, w 1", ChipSetType::Multi, 3, 1, 40);
+    set(b"Multi of 2, w 2", ChipSetType::Multi, 2, 2, 40);
+    set(b"Multi of 3, w 2", ChipSetType::Multi, 3, 2, 40);
+    set(b"Single, w 1, 28 pins", ChipSetType::Single, 1, 1, 28);
+    set(b"Multi of 3, w 2, 28 pins", ChipSetType::Multi, 3, 2, 28);
 }

@@ -5,8 +5,7 @@ use mathlib.Core.Bool.{Bool, true, false, _&&_, _||_, not, cond}
 use Prim.Native.Nat.{ℕ, _+_, _-_, _<_}
 use native.Mathlib.Omega.{arith}
 use lib.Dec.{leb, ltb, eqb}
-use lib.ListN.{length}
-use borrow.Author.Tests.{ltb-false, leb-true, eqb-true, eqb-false, eq-eqb, ne-eqb}
+use borrow.Author.Tests.{ltb-true, ltb-false, leb-true, eqb-true, eqb-false, eq-eqb, ne-eqb}
 use Rattle.gpio.specs.declared.candidates.Candidates.{Candidates}
 use Rattle.gpio.specs.declared.candidates.Candidates.the-variants.{Absent, One, Two}
 use Rattle.lists.proofs.Each.{each-all}
@@ -18,7 +17,7 @@ use Rattle.addr_lines.specs.Range.{inRange}
 use Rattle.addr_law.specs.Law.{InWindow}
 use Rattle.addr_layout.specs.declared.layout.AddrLayout.{AddrLayout}
 use Rattle.cs_data_layout.specs.Choices.{numData}
-use Rattle.round_trip.specs.WellWired.{BoardPin, Unshared, addressPin, dataPin, selectPin, OneInside, WellWired}
+use Rattle.round_trip.specs.WellWired.{BoardPin, PinOf, Unshared, addressPin, dataPin, selectPin, OneInside, WellWired}
 use Rattle.round_trip.specs.WellWired.BoardPin.{socket, x1, x2}
 use Rattle.wired.specs.Wired.{
   pinNumbered,
@@ -88,18 +87,26 @@ one-pin n i j l m e =
     ∙ ap (λ (p : BoardPin). numberOf n p) e
     ∙ number-back n j (ltb j n) (eqb j n) refl refl m
 
-pins-alone : (b : Board) (n i j : ℕ) (t : Bool) → Unshared b → i < n + 2 → j < n + 2 → eqb i j ≡ t
-    → t || disjoint (boardPin n b i) (boardPin n b j) ≡ true
-pins-alone b n i j true h l m e = refl
-pins-alone b n i j false h l m e =
+pin-of : (b : Board) (i : ℕ) → PinOf b (pinNumbered (b .pins) i)
+pin-of b i = at (ltb i (b .pins)) (eqb i (b .pins)) refl where
+  at : (t u : Bool) → ltb i (b .pins) ≡ t → PinOf b (cond t (socket (i + 1)) (cond u x1 x2))
+  at true u e = (omega arith, omega (arith, ltb-true i (b .pins) e))
+  at false true e = tt
+  at false false e = tt
+
+pins-alone : (b : Board) (i j : ℕ) (t : Bool) → Unshared b → i < b .pins + 2 → j < b .pins + 2 → eqb i j ≡ t
+    → t || disjoint (boardPin (b .pins) b i) (boardPin (b .pins) b j) ≡ true
+pins-alone b i j true h l m e = refl
+pins-alone b i j false h l m e =
+    let n = b .pins in
     disjoint-if (boardPin n b i) (boardPin n b j)
-    (λ g p q. eqb-false i j e (one-pin n i j l m (h (pinNumbered n i) (pinNumbered n j) g p q)))
+    (λ g p q. eqb-false i j e (one-pin n i j l m (h (pinNumbered n i) (pinNumbered n j) g (pin-of b i) (pin-of b j) p q)))
 
 unshared-if : (b : Board) → Unshared b → unshared b ≡ true
 unfolding unsharedAmong aloneAt
 unshared-if b h =
-    let n = length (b .socket) in
-    each-all _ (n + 2) (λ i l. each-all _ (n + 2) (λ j m. pins-alone b n i j (eqb i j) h l m refl))
+    let n = b .pins in
+    each-all _ (n + 2) (λ i l. each-all _ (n + 2) (λ j m. pins-alone b i j (eqb i j) h l m refl))
 
 -- lines on different pins
 other-pin : (pin : ℕ → ℕ) (j k : ℕ) (t : Bool) → eqb j k ≡ t → (pin j ≡ pin k → j ≡ k) → t || not (eqb (pin j) (pin k)) ≡ true

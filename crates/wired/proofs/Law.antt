@@ -2,18 +2,16 @@
 use mathlib.Core.Path.{_≡_, refl, sym, _∙_, ap, subst}
 use mathlib.Core.Logic.{inl, inr}
 use mathlib.Core.Bool.{Bool, true, false, _&&_, _||_, not, cond}
-use Prim.Native.Nat.{ℕ, _+_, _-_, _≤_, _<_}
+use Prim.Native.Nat.{ℕ, _+_, _-_, _<_}
 use native.Mathlib.Omega.{arith}
 use lib.Dec.{leb, ltb, eqb}
-use lib.ListN.{length, getD, List·getD-eq-default}
-use borrow.Author.Tests.{ltb-true, ltb-false, leb-true, eqb-true, eqb-false, not-true, lt-ltb, le-ltb, le-leb, eq-eqb, ne-eqb}
+use borrow.Author.Tests.{ltb-true, leb-true, eqb-true, eqb-false, not-true, lt-ltb, le-ltb, le-leb, eq-eqb, ne-eqb}
 use Rattle.gpio.specs.declared.candidates.Candidates.{Candidates}
 use Rattle.gpio.specs.declared.candidates.Candidates.the-variants.{Absent, One, Two}
-use Rattle.gpio.specs.declared.candidates.Pin.{Pin}
 use Rattle.lists.proofs.Bools.{and-left, and-right, asked}
 use Rattle.lists.proofs.Each.{each-at}
 use Rattle.lists.proofs.Loops.{zero-one}
-use Rattle.slot.specs.Description.{isSingle, isMulti, noPin}
+use Rattle.slot.specs.Description.{isSingle, isMulti}
 use Rattle.slot.specs.declared.description.Board.{Board}
 use Rattle.slot.specs.declared.description.Description.{Description}
 use Rattle.listing.specs.Choice.{CandidateOf}
@@ -21,7 +19,7 @@ use Rattle.addr_lines.specs.Range.{inRange}
 use Rattle.addr_law.specs.Law.{InWindow}
 use Rattle.addr_layout.specs.declared.layout.AddrLayout.{AddrLayout}
 use Rattle.cs_data_layout.specs.Choices.{numData}
-use Rattle.round_trip.specs.WellWired.{BoardPin, candidatesOf, Unshared, addressPin, dataPin, selectPin, OneInside, WellWired}
+use Rattle.round_trip.specs.WellWired.{BoardPin, candidatesOf, PinOf, Unshared, addressPin, dataPin, selectPin, OneInside, WellWired}
 use Rattle.round_trip.specs.WellWired.BoardPin.{socket, x1, x2}
 use Rattle.wired.specs.Wired.{
   pinNumbered,
@@ -71,31 +69,22 @@ not-shared (Two a b) e g t h k = elim h [
   | inr q ↦ neither (holds e b) (and-right (not (holds e a)) (not (holds e b)) t) (subst (λ (x : ℕ). holds e x ≡ true) q (holds-of e g k))
 ]
 
--- a pin that has a candidate has a number
+-- a pin of the board has a number
 record Numbered (n : ℕ) (p : BoardPin) : Type 0 where
   pub number : ℕ
   pub below : number < n + 2
   pub same : pinNumbered n number ≡ p
 
-socket-in : (b : Board) (s g : ℕ) (t u : Bool) → leb 1 s ≡ t → ltb (s - 1) (length (b .socket)) ≡ u
-    → CandidateOf (cond t (getD (b .socket) (s - 1) noPin .gpios) Absent) g → (1 ≤ s) × (s - 1 < length (b .socket))
-socket-in b s g false u e f h = absurd h
-socket-in b s g true true e f h = (leb-true 1 s e, ltb-true _ _ f)
-socket-in b s g true false e f h =
-    let end = List·getD-eq-default (b .socket) noPin {n = s - 1} (ltb-false _ _ f) in
-    let none : ⊥ = subst (λ (p : Pin). CandidateOf (p .gpios) g) end h in
-    absurd none
-
-numbered : (b : Board) (p : BoardPin) (g : ℕ) → CandidateOf (candidatesOf b p) g → Numbered (length (b .socket)) p
-numbered b (socket s) g h =
-    let i = socket-in b s g (leb 1 s) (ltb (s - 1) (length (b .socket))) refl refl h in
-    let e : s - 1 + 1 ≡ s = omega (arith, i .0) in
-    record { number = s - 1; below = omega (arith, i .1); same = rw (lt-ltb _ _ (i .1), e) }
-numbered b x1 g h =
-    let n = length (b .socket) in
+numbered : (b : Board) (p : BoardPin) → PinOf b p → Numbered (b .pins) p
+numbered b (socket s) h =
+    let l : s - 1 < b .pins = omega (arith, h .0, h .1) in
+    let e : s - 1 + 1 ≡ s = omega (arith, h .0) in
+    record { number = s - 1; below = omega (arith, l); same = rw (lt-ltb _ _ l, e) }
+numbered b x1 h =
+    let n = b .pins in
     record { number = n; below = omega arith; same = rw (le-ltb n n (omega arith), eq-eqb n n refl) }
-numbered b x2 g h =
-    let n = length (b .socket) in
+numbered b x2 h =
+    let n = b .pins in
     record { number = n + 1; below = omega arith; same = rw (le-ltb (n + 1) n (omega arith), ne-eqb (n + 1) n (λ e. omega arith)) }
 
 -- pins that share a candidate have one number
@@ -106,10 +95,10 @@ one-number n b i j g false e f h k = absurd (not-shared (boardPin n b i) (boardP
 
 unshared-is : (b : Board) → unshared b ≡ true → Unshared b
 unfolding unsharedAmong aloneAt
-unshared-is b e p q g h k =
-    let n = length (b .socket) in
-    let u = numbered b p g h in
-    let v = numbered b q g k in
+unshared-is b e p q g on on' h k =
+    let n = b .pins in
+    let u = numbered b p on in
+    let v = numbered b q on' in
     let i = u .number in
     let j = v .number in
     let t = each-at _ (n + 2) (each-at _ (n + 2) e i (u .below)) j (v .below) in

@@ -2,7 +2,6 @@
 use Prim.Native.Nat.{ℕ, _+_, _*_}
 use mathlib.Core.Bool.{Bool, true, false, _&&_, _||_, not, cond}
 use lib.Dec.{leb, ltb, eqb}
-use lib.ListN.{length}
 use Rattle.lists.specs.Each.{each}
 use Rattle.gpio.specs.Candidates.{two}
 use Rattle.gpio.specs.declared.candidates.Candidates.{Candidates}
@@ -17,7 +16,7 @@ use Rattle.cs_data_layout.specs.Choices.{numData}
 use Rattle.round_trip.specs.WellWired.{BoardPin, candidatesOf, addressPin, dataPin, selectPin}
 use Rattle.round_trip.specs.WellWired.BoardPin.{socket, x1, x2}
 
--- the pins of a board by number, its socket having n places: the socket's from 0, then X1, then X2
+-- the pins of a board by number, its socket having n pins: the socket's from 0, then X1, then X2
 abbrev pub pinNumbered : ℕ → ℕ → BoardPin
 pinNumbered n i = cond (ltb i n) (socket (i + 1)) (cond (eqb i n) x1 x2)
 
@@ -40,12 +39,13 @@ disjoint (Two a b) e = not (holds e a) && not (holds e b)
 unfoldable pub aloneAt : ℕ → Board → ℕ → Bool
 aloneAt n b i = each (n + 2) (λ j. eqb i j || disjoint (boardPin n b i) (boardPin n b j))
 
--- 01 Well wired 2: no two of the socket's pins, X1 and X2 have a candidate in common
+-- 01 Well wired 2: no two of the socket's n pins, X1 and X2 have a candidate in common
 unfoldable pub unsharedAmong : ℕ → Board → Bool
 unsharedAmong n b = each (n + 2) (λ i. aloneAt n b i)
 
+-- 01 Well wired 2: the socket has as many pins as the board says
 abbrev pub unshared : Board → Bool
-unshared b = unsharedAmong (length (b .socket)) b
+unshared b = unsharedAmong (b .pins) b
 
 -- whether no other of n lines lies on the pin of line j, and whether no two of them lie on one pin
 unfoldable pub apartFrom : ℕ → (ℕ → ℕ) → ℕ → Bool

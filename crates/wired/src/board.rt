@@ -5,14 +5,14 @@ use slot::description::Board;
 ghost use mathlib.Core.Path.{_≡_};
 ghost use Rattle.wired.specs.Wired.{boardPin, holds, disjoint, aloneAt, unshared};
 
-// The candidates of a board's pin by number: 0 to 39 are the socket's, 40 is X1, 41 is X2.
-fn board_pin(b: Board, i: u8) -> Candidates
-    ensures { λ r. ⌜ r ≡ boardPin 40 b i ⌝ }
+// The candidates of a board's pin by number: those below n are the socket's, n is X1, n + 1 is X2.
+fn board_pin(b: Board, n: u8, i: u16) -> Candidates
+    ensures { λ r. ⌜ r ≡ boardPin n b i ⌝ }
 {
-    if i < 40 {
-        return candidates_at(b, i + 1);
+    if i < n as u16 {
+        return candidates_at(b, (i + 1) as u8);
     }
-    if i == 40 {
+    if i == n as u16 {
         return b.x1;
     }
     b.x2
@@ -41,28 +41,31 @@ fn disjoint(gpios: Candidates, others: Candidates) -> bool
 }
 
 // Whether a pin shares no candidate with another pin.
-fn alone_at(b: Board, i: u8) -> bool
-    ensures { λ r. ⌜ r ≡ aloneAt 40 b i ⌝ }
+fn alone_at(b: Board, n: u8, i: u16) -> bool
+    ensures { λ r. ⌜ r ≡ aloneAt n b i ⌝ }
 {
-    let pin = board_pin(b, i);
+    let pin = board_pin(b, n, i);
+    let count = n as u16 + 2;
     let mut ok = true;
-    let mut j: u8 = 0;
-    while j < 42 {
-        let other = board_pin(b, j);
+    let mut j: u16 = 0;
+    while j < count {
+        let other = board_pin(b, n, j);
         ok = ok & ((i == j) | disjoint(pin, other));
         j += 1;
     }
     ok
 }
 
-// Whether no two pins of the board, X pins included, share a candidate.
+// Whether no two pins of the board, X pins included, share a candidate. What stands in the socket's array past them is no pin.
 pub fn unshared(b: Board) -> bool
     ensures { λ r. ⌜ r ≡ unshared b ⌝ }
 {
+    let n = b.pins;
+    let all = n as u16 + 2;
     let mut ok = true;
-    let mut i: u8 = 0;
-    while i < 42 {
-        ok = ok & alone_at(b, i);
+    let mut i: u16 = 0;
+    while i < all {
+        ok = ok & alone_at(b, n, i);
         i += 1;
     }
     ok

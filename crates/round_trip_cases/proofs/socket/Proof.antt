@@ -7,10 +7,10 @@ use Rattle.round_trip_cases.proofs.socket.Statement.{statement}
 use Rattle.round_trip_cases.proofs.socket.Tie as tie
 
 abbrev Inv-loop : tie.InvT-loop
-Inv-loop lines out₀ k₀ out k = (k ≤ 40) × (length out ≡ 40)
+Inv-loop lines pins out₀ k₀ out k = (k ≤ 40) × (length out ≡ 40)
 
 abbrev μ-loop : tie.MeasureT-loop
-μ-loop lines out₀ k₀ out k = 40 - k
+μ-loop lines pins out₀ k₀ out k = 40 - k
 
 pub socket-spec : {M : Type 1} → statement M
 socket-spec =

@@ -13,10 +13,10 @@ use Rattle.wired.proofs.board.alone_at.Statement.{statement}
 use Rattle.wired.proofs.board.alone_at.Tie as tie
 
 abbrev Inv-loop : tie.InvT-loop
-Inv-loop b i pin ok₀ j₀ ok j = (j ≤ 42) × (ok ≡ each j (λ k. eqb i k || disjoint pin (boardPin 40 b k)))
+Inv-loop b n i pin count ok₀ j₀ ok j = (j ≤ count) × (ok ≡ each j (λ k. eqb i k || disjoint pin (boardPin n b k)))
 
 abbrev μ-loop : tie.MeasureT-loop
-μ-loop b i pin ok₀ j₀ ok j = 42 - j
+μ-loop b n i pin count ok₀ j₀ ok j = count - j
 
 loop-holds : tie.Need-loop-holds Inv-loop μ-loop
 loop-holds c = (omega arith, each-none _)
@@ -29,4 +29,4 @@ unfolding aloneAt
 returns c = rw (← c .before .before .board-pin .ensures) (at-count-of each _ _ _ _ (omega arith) (c .before .loop .inv .1))
 
 pub alone-at-spec : {M : Type 1} → statement M
-alone-at-spec = tie.close (tie.spec Inv-loop μ-loop (λ c κs. search needs) loop-holds (λ c κs. search needs) (λ c κs. search needs) (λ c. search needs) (λ c. search needs) loop-again returns)
+alone-at-spec = tie.close (tie.spec Inv-loop μ-loop (λ c κs. search needs) (λ c. search needs) loop-holds (λ c κs. search needs) (λ c κs. search needs) (λ c. search needs) (λ c. search needs) loop-again returns)

@@ -1,22 +1,20 @@
 -- `unshared` meets its contract. The invariant: `ok` says whether the pins passed share no candidate. Assumes nothing.
-use mathlib.Core.Path.{_≡_, sym, _∙_, ap}
-use Prim.Native.Nat.{ℕ, _≤_, _-_}
+use mathlib.Core.Path.{_≡_}
+use Prim.Native.Nat.{_≤_, _-_}
 use native.Mathlib.Omega.{arith}
-use lib.ListN.{length}
 use borrow.Author.Needs.{needs}
 use Rattle.lists.specs.Each.{each}
 use Rattle.lists.proofs.Each.{each-none, each-turn}
-use Rattle.lists.proofs.Lists.{mapped-length}
 use Rattle.lists.proofs.Loops.{at-count-of}
 use Rattle.wired.specs.Wired.{aloneAt, unsharedAmong}
 use Rattle.wired.proofs.board.unshared.Statement.{statement}
 use Rattle.wired.proofs.board.unshared.Tie as tie
 
 abbrev Inv-loop : tie.InvT-loop
-Inv-loop b ok₀ i₀ ok i = (i ≤ 42) × (ok ≡ each i (λ k. aloneAt 40 b k))
+Inv-loop b n all ok₀ i₀ ok i = (i ≤ all) × (ok ≡ each i (λ k. aloneAt n b k))
 
 abbrev μ-loop : tie.MeasureT-loop
-μ-loop b ok₀ i₀ ok i = 42 - i
+μ-loop b n all ok₀ i₀ ok i = all - i
 
 loop-holds : tie.Need-loop-holds Inv-loop μ-loop
 loop-holds c = (omega arith, each-none _)
@@ -26,10 +24,7 @@ loop-again c = (omega arith, rw (c .alone-at .ensures) (each-turn _ _ _ (c .befo
 
 returns : tie.Need-returns Inv-loop μ-loop
 unfolding unsharedAmong
-returns c =
-    let b = c .before .before .args .b in
-    let e : length (b .socket) ≡ 40 = search (mapped-length, needs) in
-    at-count-of each _ _ _ _ (omega arith) (c .before .loop .inv .1) ∙ ap (λ (n : ℕ). unsharedAmong n b) (sym e)
+returns c = at-count-of each _ _ _ _ (omega arith) (c .before .loop .inv .1)
 
 pub unshared-spec : {M : Type 1} → statement M
 unshared-spec =
@@ -37,6 +32,8 @@ unshared-spec =
     (tie.spec
     Inv-loop
     μ-loop
+    (λ c. search needs)
+    (λ c. search needs)
     loop-holds
     (λ c κs. search needs)
     (λ c. search needs)
