@@ -1,7 +1,9 @@
 -- Demand 2's law of the address search. Assumes nothing.
 use mathlib.Core.Path.{_≡_, refl, sym, _∙_, ap, subst}
 use mathlib.Core.Bool.{true}
-use Prim.Native.Nat.{ℕ, _^_, _<_}
+use Prim.Native.Nat.{ℕ, suc, _^_, _≤_, _<_}
+use native.Mathlib.Nat.{lt-of-not-le}
+use native.Mathlib.Omega.{arith}
 use lib.Dec.{leb}
 use Rattle.lists.proofs.Bools.{and-left}
 use Rattle.lists.proofs.Loops.{zero-one}
@@ -23,6 +25,7 @@ use Rattle.addr_choices.specs.Choices.{addrTrial}
 use Rattle.addr_layout.specs.Layout.{addrRefused}
 use Rattle.addr_layout.specs.Layouts.{addrLayoutOf}
 use Rattle.addr_layout.specs.Search.{addrBest, addrAnswerOf, addrAnswer}
+use Rattle.addr_layout.specs.declared.layout.AddrLayout.{AddrLayout}
 use Rattle.addr_layout.specs.declared.layout.AddrOutcome.the-variants.{LaidOut, Refused}
 use Rattle.addr_layout.specs.declared.layout.AddrAnswer.{AddrAnswer}
 use Rattle.addr_law.specs.Law.{PastTests, Fit, scoreOf, FoundBest, NoneFits, AddrDemand}
@@ -96,11 +99,26 @@ module _ (d : Description) (past : PastTests d) where
       by Nothing e = answers Nothing e
       by (At c s) e = absurd (none (λ k. gpioAt (addrListed d) c k) _ _ (by-numbers .makes-one c) (best-laid c s e .fit))
 
+  -- of two best choices neither is the earlier: that one scores higher than the other, which does not score lower
+  not-earlier : (b c : ℕ) (l m : AddrLayout) → FoundBest d b l → FoundBest d c m → b < c → ⊥
+  not-earlier b c l m x y h =
+      let higher = y .earliest b (l .«gpio_base») (l .«num_addr_pins») h (x .fit) in
+      let lowest = x .lowest (λ k. gpioAt (addrListed d) c k) (m .«gpio_base») (m .«num_addr_pins») (by-numbers .makes-one c) (y .fit) in
+      omega arith
+
+  one-best : (b c : ℕ) (l m : AddrLayout) → FoundBest d b l → FoundBest d c m → l ≡ m
+  one-best b c l m x y =
+      let most : b < suc c = lt-of-not-le (λ (h : suc c ≤ b). not-earlier c b m l y x h) in
+      let least : c < suc b = lt-of-not-le (λ (h : suc b ≤ c). not-earlier b c l m x y h) in
+      let same : b ≡ c = omega arith in
+      x .layout ∙ ap (addrLayoutOf d (addrListed d)) same ∙ sym (y .layout)
+
   pub addr-demand : AddrDemand d
   addr-demand = record {
     numbers = by-numbers;
     some-found = some-found;
     found-best = found;
+    one-best = one-best;
     none-nine = none-nine;
     nine-none = λ e pick base pins a f. refused-not-laid NoValidLayout (sym (ap (λ (r : AddrAnswer). r .outcome) e) ∙ some-found pick base pins a f);
   }

@@ -96,7 +96,6 @@ module _ (d : Description) (c : ℕ) (e : descriptionIn d ≡ true)
 
   pub sound-layout : SoundLayout d c laid
   sound-layout = record {
-    pins-most = fits-width (laid .«gpio_base») (laid .«num_addr_pins») (fit .window);
     in-use = refl;
     line-gpio = line-is;
     line-candidate = λ n l. rw (line-is n l, ← line-pin n (omega (arith, few))) (candidate n (omega (arith, listed-length, few)));

@@ -70,7 +70,6 @@ XLaid l x used = (g : ℕ) × (used ≡ At g) × CandidateOf x g × InWindow l g
 
 -- what a found layout's own fields keep, l being the layout of choice c
 pub record SoundLayout (d : Description) (c : ℕ) (l : AddrLayout) : Type 0 where
-  pub pins-most : l .«num_addr_pins» ≤ 32
   -- 01 Well wired 1: as many lines are in use as are in range
   pub in-use : l .«num_lines» ≡ inRange d
   -- the GPIO of each is a candidate of its pin or of the X pin that it took, in the window
@@ -110,6 +109,8 @@ pub record AddrDemand (d : Description) : Type 0 where
   pub some-found : (pick : ℕ → ℕ) (base pins : ℕ) → Assigned (addrListed d) pick → Fit d pick base pins
       → addrAnswer d .outcome ≡ LaidOut
   pub found-best : addrAnswer d .outcome ≡ LaidOut → (c : ℕ) × FoundBest d c (addrAnswer d .layout)
+  -- there is one such layout, so that a law which said less would not do
+  pub one-best : (b c : ℕ) (l m : AddrLayout) → FoundBest d b l → FoundBest d c m → l ≡ m
   -- 01 Number 9: the answer is 9 exactly if no choice fits
   pub none-nine : NoneFits d → addrAnswer d ≡ addrRefused NoValidLayout
   pub nine-none : addrAnswer d ≡ addrRefused NoValidLayout → NoneFits d
