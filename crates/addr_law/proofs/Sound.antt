@@ -15,7 +15,6 @@ use Rattle.gpio.specs.declared.candidates.Candidates.{Candidates}
 use Rattle.gpio.specs.declared.candidates.Candidates.the-variants.{Absent}
 use Rattle.gpio.specs.declared.line.LineGpio.{LineGpio}
 use Rattle.gpio.specs.declared.line.LineGpio.the-variants.{At}
-use Rattle.gpio.proofs.Fits.{fits-width}
 use Rattle.slot.specs.Description.{isSingle}
 use Rattle.slot.specs.declared.description.Description.{Description}
 use Rattle.refusal.specs.declared.Refusal.the-variants.{OutOfDomain}
