@@ -91,4 +91,4 @@ module _ (d : Description) (images : List ℕ) (spans : List ImageSpan) (table o
 
   pub demanded : (r : Answer) (t o m : List ℕ) → trip r t o m ≡ roundTripOf d images spans table output marks → AsDemanded d images spans table output marks (readBack r o m)
   demanded r t o m e a c ok wired room =
-      ap what-is-read (e ∙ accepted a c ok) ∙ reads-back d a c images spans table output marks ok bytes wired room
+      ap what-is-read (e ∙ accepted a c ok) ∙ reads-back d a c images spans table output marks bytes ok wired room

@@ -48,7 +48,7 @@ use Rattle.unscramble.specs.Recovered.{readBack, front, inconsistent, unserved,
 use Rattle.stored_slot.specs.declared.stored.StoredSlot.{StoredSlot}
 use Rattle.round_trip.specs.WellWired.{WellWired, StoredAs, Unforced}
 use Rattle.round_trip.proofs.Fitted.{Fitted, ToldApart}
-use Rattle.round_trip.specs.RoundTrip.{Accepted, tableBuilt, chipWords, wordsTo, words, Room, firstBytes, returnedWhole, ReadsBack}
+use Rattle.round_trip.specs.RoundTrip.{Accepted, tableBuilt, chipWords, wordsTo, words, Room, firstBytes, returnedWhole, RoundTrip}
 use Rattle.build_args.proofs.Facts.{described, selected, data-base}
 use Rattle.rom_image.proofs.Buildable.{Buildable}
 use Rattle.rom_image.specs.design.Past.{PastTests}
@@ -223,5 +223,9 @@ module _ (d : Description) (a : AddrLayout) (c : CsDataLayout) (images : List �
       ∙ ap (λ (r : List ℕ). readBack Answer.Done (front r output) (front (replicate (sizes.allWords s) 1) marks)) all-back
       ∙ ap (λ (n : ℕ). readBack Answer.Done (front (joined (d .«num_chips») (firstBytes (argsOf d a c spans) images)) output) (front (replicate n 1) marks)) (all-same d a c s same-lines)
 
-  pub round-trip : ReadsBack (argsOf d a c spans) images lent s output marks
-  round-trip = ap (λ (t : List ℕ). unscrambled s t output marks) table-is ∙ reads
+  reads-built : unscrambled s (tableBuilt (argsOf d a c spans) images lent) output marks ≡ returnedWhole (argsOf d a c spans) images output marks
+  reads-built = ap (λ (t : List ℕ). unscrambled s t output marks) table-is ∙ reads
+
+pub round-trip : RoundTrip
+round-trip b images lent s output marks bytes given unforced ok wired room =
+    reads-built (b .description) (b .addr) (b .«cs_data») images (b .spans) lent s output marks ok bytes wired given unforced room

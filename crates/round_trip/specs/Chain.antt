@@ -1,5 +1,4 @@
 -- Both searches, the build and read-back in turn: what they answer, and what the lent buffers hold then. Assumes nothing.
-use mathlib.Core.Path.{_≡_}
 use mathlib.Core.Bool.{true}
 use mathlib.Core.List.{List}
 use Prim.Native.Nat.{ℕ}
@@ -20,8 +19,7 @@ use Rattle.build_args.specs.declared.images.ImageSpan.{ImageSpan}
 use Rattle.rom_image.specs.Build.{Built, buildOf}
 use Rattle.refusal.specs.declared.Answer.{Answer}
 use Rattle.unscramble.specs.Recovered.{ReadBack, unscrambled}
-use Rattle.round_trip.specs.WellWired.{WellWired}
-use Rattle.round_trip.specs.RoundTrip.{Accepted, Room, returnedWhole}
+use Rattle.round_trip.specs.RoundTrip.{ReadsBack}
 use Rattle.round_trip.specs.Stored.{storedOf}
 use Rattle.build_args.specs.declared.BuildArgs.{BuildArgs}
 
@@ -77,9 +75,7 @@ addressTrip d images spans table output marks x = afterAddress d images spans ta
 unfoldable pub roundTripOf : Description → List ℕ → List ImageSpan → List ℕ → List ℕ → List ℕ → Trip
 roundTripOf d images spans table output marks = addressTrip d images spans table output marks (addrAnswer d)
 
--- of an answer and of what output and marks hold then
--- 00 Demand 3: if searches and build refuse nothing, the slot is well wired and the buffers have room, it is what returnedWhole says
+-- 00 Demand 3: the four calls in turn come to what ReadsBack says, whichever layouts the searches find
 abbrev pub AsDemanded : Description → List ℕ → List ImageSpan → List ℕ → List ℕ → List ℕ → ReadBack → Type 0
 AsDemanded d images spans table output marks r =
-    (a : AddrLayout) (c : CsDataLayout) → Accepted (argsOf d a c spans) images table → WellWired d a → Room d a output marks
-    → r ≡ returnedWhole (argsOf d a c spans) images output marks
+    (a : AddrLayout) (c : CsDataLayout) → ReadsBack (argsOf d a c spans) images table output marks r

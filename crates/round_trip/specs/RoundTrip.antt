@@ -1,9 +1,10 @@
--- Demand 3 over the definitions of both searches, the build and read-back: its premises, and what it concludes. Assumes nothing.
+-- Demand 3 over the definitions of both searches, the build and read-back: what it is given, what it concludes, and the whole of it
+-- as one statement, `RoundTrip`. Assumes nothing.
 use mathlib.Core.Path.{_≡_}
 use mathlib.Core.Bool.{true}
 use mathlib.Core.List.{List}
-use Prim.Native.Nat.{ℕ, zero, suc, _+_, _*_, _^_, _≤_, min}
-use lib.ListN.{length, take, replicate}
+use Prim.Native.Nat.{ℕ, zero, suc, _+_, _*_, _^_, _≤_, _<_, min}
+use lib.ListN.{length, take, replicate, getD}
 use Rattle.lists.specs.Tab.{joined}
 use Rattle.slot.specs.declared.description.Description.{Description}
 use Rattle.addr_layout.specs.Search.{addrAnswer}
@@ -21,6 +22,7 @@ use Rattle.rom_image.specs.Build.{buildOf}
 use Rattle.refusal.specs.declared.Answer.{Answer}
 use Rattle.unscramble.specs.Recovered.{ReadBack, readBack, front, unscrambled}
 use Rattle.stored_slot.specs.declared.stored.StoredSlot.{StoredSlot}
+use Rattle.round_trip.specs.WellWired.{WellWired, StoredAs, Unforced}
 
 -- 00 Demand 3: the searches find the two layouts, and the build by them is not refused
 -- 01 Well wired 8: the searches and the build share the description, and the build works by the layouts found
@@ -64,6 +66,19 @@ returnedWhole b images output marks =
     readBack Answer.Done (front (joined (b .description .«num_chips») (firstBytes b images)) output)
     (front (replicate (words (b .description) (b .addr)) 1) marks)
 
--- 00 Demand 3: read-back of the table built comes to what returnedWhole says
-abbrev pub ReadsBack : BuildArgs → List ℕ → List ℕ → StoredSlot → List ℕ → List ℕ → Type 0
-ReadsBack b images lent s output marks = unscrambled s (tableBuilt b images lent) output marks ≡ returnedWhole b images output marks
+-- of an answer and of what output and marks hold then
+-- 00 Demand 3: if searches and build refuse nothing, the slot is well wired and the buffers have room, it is what returnedWhole says
+abbrev pub ReadsBack : BuildArgs → List ℕ → List ℕ → List ℕ → List ℕ → ReadBack → Type 0
+ReadsBack b images lent output marks r =
+    Accepted b images lent → WellWired (b .description) (b .addr) → Room (b .description) (b .addr) output marks
+    → r ≡ returnedWhole b images output marks
+
+-- 00 Demand 3: whatever bytes the images hold and whatever stood in table, output and marks before, read-back of the table built
+-- comes to what ReadsBack says
+-- 01 Well wired 10: the slot that is read back may have overrides, if they are Unforced
+-- 01 Well wired 11: the slot that is read back is any that StoredAs allows
+abbrev pub RoundTrip : Type 0
+RoundTrip =
+    (b : BuildArgs) (images lent : List ℕ) (s : StoredSlot) (output marks : List ℕ) → ((k : ℕ) → getD images k 0 < 256)
+    → StoredAs (b .description) (b .addr) (b .«cs_data») s → Unforced (b .addr) s
+    → ReadsBack b images lent output marks (unscrambled s (tableBuilt b images lent) output marks)
