@@ -1,6 +1,7 @@
 -- What each call answers: its result, and what the buffers lent to it hold then. Assumes nothing.
 use Prim.Native.Nat.{ℕ}
-use mathlib.Core.Bool.{Bool, _&&_, cond}
+use mathlib.Core.Path.{_≡_}
+use mathlib.Core.Bool.{Bool, true, _&&_, cond}
 use mathlib.Core.List.{List, _++_}
 use lib.Dec.{ltb}
 use lib.ListN.{length, drop}
@@ -25,6 +26,8 @@ use Rattle.cs_data_record.specs.CsDataRecord.{csDataSize, csDataBytes, csDataAt
 use Rattle.image_record.specs.ImageRecord.{spansAt, spansFormed}
 use Rattle.stored_record.specs.StoredRecord.{storedAt, storedFormed}
 use Rattle.unscramble.specs.Recovered.{ReadBack, unscrambled}
+use Rattle.round_trip.specs.WellWired.{WellWired}
+use Rattle.round_trip.specs.RoundTrip.{Accepted, Room, returnedWhole}
 use Rattle.round_trip.specs.Chain.{Trip, roundTripOf}
 use Rattle.onerom.specs.Packed.{packed, resultOf}
 
@@ -148,3 +151,16 @@ tripCall description spans images table output marks =
     cond (spansFormed spans)
     (ifRecord (λ d. tripFrom d spans images table output marks) (λ why. tripRefused why table output marks) (decodedOf description))
     (tripRefused OutOfDomain table output marks)
+
+-- of what a round trip returns and leaves in output and marks
+-- 00 Demand 3: where searches and build accept a well wired slot and the buffers have room, it is done, and they hold the chips' words
+abbrev pub TripDemanded : Description → List ℕ → List ℕ → List ℕ → List ℕ → List ℕ → ReadAnswered → Type 0
+TripDemanded d spans images table output marks r =
+    (a : AddrLayout) (c : CsDataLayout) → Accepted (argsOf d a c (spansAt spans)) images table → WellWired d a → Room d a output marks
+    → r ≡ readFound (returnedWhole (argsOf d a c (spansAt spans)) images output marks)
+
+-- 00 Demand 3: the same over bytes, where description and spans are records
+abbrev pub CallDemanded : List ℕ → List ℕ → List ℕ → List ℕ → List ℕ → List ℕ → ReadAnswered → Type 0
+CallDemanded description spans images table output marks r =
+    decodedOf description .answer ≡ Answer.Done → spansFormed spans ≡ true
+    → TripDemanded (decodedOf description .description) spans images table output marks r

@@ -15,7 +15,7 @@ use refusal::Answer;
 use refusal::Refusal;
 use refused::packed;
 ghost use mathlib.Core.Path.{_≡_};
-ghost use Rattle.onerom.specs.Calls.{answer, tripAnswer, tripCall, addrCall, csDataCall, buildCall, readAnswer, readBackCall};
+ghost use Rattle.onerom.specs.Calls.{answer, tripAnswer, tripCall, addrCall, csDataCall, buildCall, readAnswer, readBackCall, CallDemanded};
 
 // Finds the address layout of the slot that the record describes, and writes it as a record.
 #[no_mangle]
@@ -122,6 +122,8 @@ pub extern "C" fn onerom_round_trip(
     ensures { λ r. ⌜ tripAnswer r (now (table .exit)) (now (output .exit)) (now (marks .exit))
         ≡ tripCall (now (description .entry)) (now (spans .entry)) (now (images .entry)) (now (table .entry))
         (now (output .entry)) (now (marks .entry)) ⌝ }
+    ensures { λ r. ⌜ CallDemanded (now (description .entry)) (now (spans .entry)) (now (images .entry)) (now (table .entry))
+        (now (output .entry)) (now (marks .entry)) (readAnswer r (now (output .exit)) (now (marks .exit))) ⌝ }
 {
     if !image_record::formed(spans) {
         return packed(Refusal::OutOfDomain);

@@ -3,7 +3,7 @@ use crate::refused::result;
 use round_trip::round_trip;
 use slot::description::Description;
 ghost use mathlib.Core.Path.{_≡_};
-ghost use Rattle.onerom.specs.Calls.{tripAnswer, tripFrom};
+ghost use Rattle.onerom.specs.Calls.{tripAnswer, tripFrom, TripDemanded, readAnswer};
 
 // Makes the round trip of the chips that the spans give, and answers as it did.
 pub fn hand_over(
@@ -16,6 +16,8 @@ pub fn hand_over(
 ) -> u64
     ensures { λ r. ⌜ tripAnswer r (now (table .exit)) (now (output .exit)) (now (marks .exit))
         ≡ tripFrom d (now (spans .entry)) (now (images .entry)) (now (table .entry)) (now (output .entry)) (now (marks .entry)) ⌝ }
+    ensures { λ r. ⌜ TripDemanded d (now (spans .entry)) (now (images .entry)) (now (table .entry)) (now (output .entry))
+        (now (marks .entry)) (readAnswer r (now (output .exit)) (now (marks .exit))) ⌝ }
 {
     result(round_trip(
         d,

@@ -1,5 +1,9 @@
 -- `onerom_round_trip` meets its contract. Assumes nothing.
-use mathlib.Core.Path.{ap, _∙_}
+use mathlib.Core.Path.{_≡_, sym, ap, _∙_}
+use mathlib.Core.Bool.{Bool, true, not}
+use Rattle.lists.proofs.Loops.{zero-one}
+use Rattle.refusal.specs.declared.Answer.the-variants.{Done, Refused}
+use Rattle.description_record.specs.declared.Decoded.{Decoded}
 use Prim.Native.Nat.{ℕ}
 use Rattle.refusal.specs.declared.Refusal.{Refusal}
 use Rattle.onerom.specs.Calls.{TripAnswered, tripAnswer, tripRefused, tripCall}
@@ -15,11 +19,19 @@ refuse s why = tripRefused why (s .args .table .now) (s .args .output .now) (s .
 abbrev says : (s : tie.Start) → ℕ → TripAnswered
 says s r = tripAnswer r (s .args .table .now) (s .args .output .now) (s .args .marks .now)
 
+neither : {t : Bool} → t ≡ true → not t ≡ true → ⊥
+neither {t} e n = zero-one cc
+
+not-done : (why : Refusal) → Refused why ≡ Done → ⊥
+not-done why e = zero-one cc
+
 returns : tie.Need-returns
 unfolding tripCall
 returns c = let f = c .before .before in
-    let s = f .before .before .before .before .before .before .before in
-    ap (says s) (c .packed .ensures) ∙ not-formed _ _ _ _ (f .formed .ensures) (c .before .if1 .taken)
+    let s = f .before .before .before .before .before .before .before in (
+      ap (says s) (c .packed .ensures) ∙ not-formed _ _ _ _ (f .formed .ensures) (c .before .if1 .taken),
+      λ is-record formed-so. absurd (neither (f .formed .ensures ∙ formed-so) (c .before .if1 .taken)),
+    )
 
 returns-2 : tie.Need-returns-2
 unfolding tripCall
@@ -27,20 +39,24 @@ returns-2 c = let k = c .before .before .before .before .before .before in
     let t = k .before .before .before .before in
     let x = t .before .before in
     let f = x .before .before in
-    let s = f .before .before .before .before .before .before .before in
-    k .hand-over .ensures
-    ∙ taken _ (refuse s) (s .args .description .now) _ (x .decode .ensures) (t .enum-told .given .1)
-    ∙ formed _ _ _ _ (f .formed .ensures) (x .before .if1 .left)
+    let s = f .before .before .before .before .before .before .before in (
+      k .hand-over .ensures .0
+          ∙ taken _ (refuse s) (s .args .description .now) _ (x .decode .ensures) (t .enum-told .given .1)
+          ∙ formed _ _ _ _ (f .formed .ensures) (x .before .if1 .left),
+      λ is-record formed-so. rw (x .decode .ensures) at (k .hand-over .ensures .1),
+    )
 
 returns-3 : tie.Need-returns-3
 unfolding tripCall
 returns-3 c = let o = c .before .before in
     let x = o .before .before in
     let f = x .before .before in
-    let s = f .before .before .before .before .before .before .before in
-    ap (says s) (c .packed2 .ensures)
-    ∙ no-record _ (refuse s) (s .args .description .now) _ (x .decode .ensures) _ (o .outcome .given .1)
-    ∙ formed _ _ _ _ (f .formed .ensures) (x .before .if1 .left)
+    let s = f .before .before .before .before .before .before .before in (
+      ap (says s) (c .packed2 .ensures)
+          ∙ no-record _ (refuse s) (s .args .description .now) _ (x .decode .ensures) _ (o .outcome .given .1)
+          ∙ formed _ _ _ _ (f .formed .ensures) (x .before .if1 .left),
+      λ is-record formed-so. absurd (not-done _ (sym (o .outcome .given .1) ∙ ap (λ (y : Decoded). y .answer) (x .decode .ensures) ∙ is-record)),
+    )
 
 pub onerom-round-trip-spec : {M : Type 1} → statement M
 onerom-round-trip-spec =
