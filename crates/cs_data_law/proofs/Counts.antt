@@ -1,5 +1,5 @@
 -- How many select lines there are, and where pins stand among those numbered. Assumes nothing.
-use mathlib.Core.Path.{_≡_, refl, _∙_, ap}
+use mathlib.Core.Path.{_≡_, refl, sym, _∙_, ap}
 use mathlib.Core.Bool.{Bool, true, false, not, cond}
 use mathlib.Core.List.{List, [], _∷_, _++_}
 use Prim.Native.Nat.{ℕ, zero, suc, _+_, _^_, _≤_, _<_}
@@ -10,7 +10,7 @@ use lib.Count.{ones, ones-le}
 use lib.Dec.{leb, eqb}
 use lib.ListN.{length, getD, length-append, List·getD-append}
 use lib.Pow.{pow-lt}
-use lib.Seq.{getD-at}
+use lib.Seq.{getD-append-add}
 use borrow.Author.Tests.{leb-true, eqb-false}
 use Rattle.gpio.specs.Set.{with, size}
 use Rattle.gpio.specs.declared.candidates.Candidates.the-variants.{Absent}
@@ -28,8 +28,9 @@ use Rattle.listing.specs.Listing.{listed, xPins}
 use Rattle.listing.specs.Choice.{CandidateOf, pinAt}
 use Rattle.listing.specs.Lines.{kindPin, pinCandidates}
 use Rattle.listing.specs.declared.Listed.{Listed}
-use Rattle.cs_pins.specs.Pins.{pinListed, dataListed, active, activeListed, kindListed, selectListed, commonedListed, numbered}
+use Rattle.cs_pins.specs.Pins.{pinListed, dataListed, active, activeListed, kindListed, selectListed, multiCommoned, commonedListed, numbered}
 use Rattle.cs_roles.specs.Roles.{activeKinds, xRoles, selectRoles}
+use Rattle.cs_data_layout.specs.Choices.{numCommoned}
 
 -- the kinds of the active ones of the first k lines, as a set
 unfoldable kindSet : Description → ℕ → ℕ
@@ -151,16 +152,36 @@ module _ (d : Description) where
       (List·getD-append (dataListed d ++ selectListed d) (commonedListed d) z k (simp length-append (omega (arith, tab-length f n)))
       ∙ List·getD-append (dataListed d) (selectListed d) z k (omega (arith, tab-length f n)) ∙ getD-tab f n k z l)
 
-  -- and in Multi the select next
-  pub select-pin : isMulti (d .«set_type») ≡ true → pinAt (numbered d) (chip0 d .«num_data_pins») ≡ kindListed d (d .multi .select) .gpios
+  -- the select pins next
+  pub select-pin : (k : ℕ) → k < length (selectListed d) → pinAt (numbered d) (chip0 d .«num_data_pins» + k) ≡ pinAt (selectListed d) k
   unfolding numbered
-  select-pin m =
+  select-pin k l =
       let z = listed Absent OutOfDomain in
       let n = chip0 d .«num_data_pins» in
-      let xs = xPins (d .board) (leb 2 (d .«num_chips»)) (leb 3 (d .«num_chips»)) in
-      let is = multi-selects m in
-      let some : 0 < length (selectListed d) = rw is (omega arith) in
-      let both : n < length (dataListed d ++ selectListed d) = simp length-append (omega (arith, data-length)) in
       ap (λ (x : Listed). x .gpios)
-      (List·getD-append (dataListed d ++ selectListed d) (commonedListed d) z n both ∙ ap (λ (ls : List Listed). getD (dataListed d ++ ls) n z) is
-      ∙ getD-at (dataListed d) (kindListed d (d .multi .select)) xs z n data-length)
+      (List·getD-append (dataListed d ++ selectListed d) (commonedListed d) z (n + k) (simp length-append (omega (arith, data-length)))
+      ∙ ap (λ (i : ℕ). getD (dataListed d ++ selectListed d) (i + k) z) (sym data-length)
+      ∙ getD-append-add (dataListed d) (selectListed d) k z)
+
+  -- in Multi the select before the X pins
+  pub multi-pin : isMulti (d .«set_type») ≡ true → pinAt (selectListed d) 0 ≡ kindListed d (d .multi .select) .gpios
+  multi-pin m = ap (λ (ls : List Listed). pinAt ls 0) (multi-selects m)
+
+  -- and the commoned pins last
+  pub commoned-pin : (k : ℕ) → pinAt (numbered d) (chip0 d .«num_data_pins» + length (selectRoles d) + k) ≡ pinAt (commonedListed d) k
+  unfolding numbered
+  commoned-pin k =
+      let z = listed Absent OutOfDomain in
+      let before : length (dataListed d ++ selectListed d) ≡ chip0 d .«num_data_pins» + length (selectRoles d) = simp length-append (omega (arith, data-length, select-roles)) in
+      ap (λ (x : Listed). x .gpios)
+      (ap (λ (i : ℕ). getD ((dataListed d ++ selectListed d) ++ commonedListed d) (i + k) z) (sym before)
+      ∙ getD-append-add (dataListed d ++ selectListed d) (commonedListed d) k z)
+
+  -- as many of them as there are commoned lines
+  pub commoned-length : length (commonedListed d) ≡ numCommoned d
+  unfolding commonedListed
+  commoned-length = by (isMulti (d .«set_type»))
+    where
+      by : (t : Bool) → length (cond t (multiCommoned d) []) ≡ cond t (d .multi .«num_commoned») 0
+      by true = tab-length (λ k. kindListed d (getD (d .multi .commoned) k 0)) (d .multi .«num_commoned»)
+      by false = refl

@@ -1,8 +1,12 @@
--- Past the earlier tests each numbered pin has a candidate. Assumes nothing.
+-- Past the earlier tests each numbered pin has a candidate, and some pin selects. Assumes nothing.
 use mathlib.Core.Path.{_≡_, refl}
 use mathlib.Core.Bool.{Bool, true, false}
 use mathlib.Core.List.{List, [], _∷_, _++_}
+use Prim.Native.Nat.{_<_}
+use native.Mathlib.Omega.{arith}
 use lib.Dec.{leb}
+use lib.ListN.{length}
+use Rattle.lists.proofs.Loops.{zero-one}
 use Rattle.slot.specs.Description.{isMulti, chip0}
 use Rattle.slot.specs.declared.description.Description.{Description}
 use Rattle.listing.specs.Listing.{xPins, faultFrom, firstFault}
@@ -21,6 +25,11 @@ active-none : (ls : List Listed) → firstFault (orNoActive ls) ≡ None → fir
 unfolding orNoActive faultFrom
 active-none [] e = refl
 active-none (l ∷ ls) e = e
+
+active-some : (ls : List Listed) → firstFault (orNoActive ls) ≡ None → 0 < length ls
+unfolding orNoActive faultFrom
+active-some [] e = absurd (zero-one cc)
+active-some (l ∷ ls) e = omega arith
 
 module _ (d : Description) where
   abbrev selectLine : List Listed
@@ -41,10 +50,27 @@ module _ (d : Description) where
       let active : firstFault (orNoActive (activeListed d (chip0 d .control .count))) ≡ None = rw m at e in
       rw m (active-none (activeListed d (chip0 d .control .count)) active, refl)
 
-  -- past the earlier tests no numbered pin has a fault
+  -- and in any set but Multi one of them is active
+  select-some : (m : Bool) → isMulti (d .«set_type») ≡ m → firstFault (checked d) ≡ None → 0 < length (selectListed d)
+  unfolding selectListed checked
+  select-some true m e = rw m (omega arith)
+  select-some false m e =
+      let active : firstFault (orNoActive (activeListed d (chip0 d .control .count))) ≡ None = rw m at e in
+      rw m (active-some (activeListed d (chip0 d .control .count)) active)
+
+  -- past the earlier tests no data pin and no pin that is checked has a fault
+  faults-none : (a : GivenLayout) → earlier d a ≡ None → (firstFault (dataListed d) ≡ None) × (firstFault (checked d) ≡ None)
+  unfolding earlier
+  faults-none a e = or-none (firstFault (dataListed d)) _ (or-none (romTooLarge d (handed a)) _ (or-none (missingLayout d a) _ e .1) .1)
+
+  -- so that some pin selects
+  pub some-select : (a : GivenLayout) → earlier d a ≡ None → 0 < length (selectListed d)
+  some-select a e = select-some (isMulti (d .«set_type»)) refl (faults-none a e .1)
+
+  -- and no numbered pin has a fault
   pub numbered-none : (a : GivenLayout) → earlier d a ≡ None → firstFault (numbered d) ≡ None
-  unfolding earlier numbered
+  unfolding numbered
   numbered-none a e =
-      let (ds, cs) = or-none (firstFault (dataListed d)) _ (or-none (romTooLarge d (handed a)) _ (or-none (missingLayout d a) _ e .1) .1) in
+      let (ds, cs) = faults-none a e in
       let (s, c) = select-none (isMulti (d .«set_type»)) refl cs in
       none-append (dataListed d ++ selectListed d) (commonedListed d) (none-append (dataListed d) (selectListed d) ds s) c

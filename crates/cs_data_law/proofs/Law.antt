@@ -11,7 +11,7 @@ use Rattle.refusal.specs.declared.Refusal.the-variants.{NonContiguousSelect, In
 use Rattle.refusal.specs.First.{orElse}
 use Rattle.refusal.specs.declared.first.FirstFault.{FirstFault}
 use Rattle.refusal.specs.declared.first.FirstFault.the-variants.{None, Of}
-use Rattle.listing.specs.Law.{Assigned, Makes, Numbers}
+use Rattle.listing.specs.Law.{Assigned, Numbers}
 use Rattle.listing.proofs.Numbers.{numbers}
 use Rattle.search.specs.Search.{best}
 use Rattle.search.specs.declared.Trial.{Trial}
@@ -31,11 +31,15 @@ use Rattle.cs_data_layout.specs.Search.{csBest, orNoLayout, noneFits, csDataAns
 use Rattle.cs_data_layout.specs.declared.layout.GivenLayout.{GivenLayout}
 use Rattle.cs_data_layout.specs.declared.layout.CsDataOutcome.the-variants.{LaidOut, Refused}
 use Rattle.cs_data_layout.specs.declared.layout.CsDataAnswer.{CsDataAnswer}
-use Rattle.cs_data_law.specs.Law.{PastTests, choices, choice, selectPicked, Fit, SelectRefused, NoneFits, seen, Sees, FirstSeen, LastRefused, NoneSeen, NoneRefused, WhyNone, eight, seven, nine, FoundBest, CsDataDemand}
+use Rattle.cs_data_law.specs.Law.{PastTests, choices, choice, selectPicked, Fit, SelectRefused, NoneFits, seen, FirstSeen, LastRefused, NoneSeen, NoneRefused, WhyNone, eight, seven, nine, FoundBest, CsDataDemand}
 use Rattle.cs_data_law.proofs.Scores.{scoreBy, judged-at, verdict-fit, fit-verdict, verdict-refused, refused-verdict, score-worse, worse-score, fits-too, refused-too, sees-too, scores-too}
 use Rattle.cs_data_law.proofs.Why.{first-is, FirstIs, last-is, LastIs}
 use Rattle.cs_data_law.proofs.Faults.{numbered-none}
-use Rattle.cs_data_law.proofs.Sound.{in-domain, sound-layout}
+use Rattle.cs_data_law.proofs.Lines.{in-domain, sound-lines}
+use Rattle.cs_data_law.proofs.Selects.{sound-selects}
+use Rattle.cs_data_law.proofs.Qualifiers.{sound-qualifiers}
+use Rattle.cs_data_law.proofs.Sound.{sound-layout}
+use Rattle.cs_data_law.proofs.Window.{sound-window}
 
 -- a choice has a score exactly if it fits
 fits-scores : (v : Verdict) (t : ℕ) → v ≡ Fits t → verdictTrial v ≡ Score t
@@ -161,6 +165,10 @@ module _ (d : Description) (a : GivenLayout) (past : PastTests d a) where
         lowest = λ pick ok f. let (j, l, t) = number-of pick ok f in score-worse d a (choice d c) pick (rw (← score) (b .lowest j (scoreBy d a pick) l t));
         earliest = λ j l f n. omega (arith, score, worse-score d a (choice d j) (choice d c) n, b .earliest j (scoreBy d a (choice d j)) l (fit-scores j f));
         sound = sound-layout d a past c (assigned c) fit;
+        lines = sound-lines d a past c (assigned c);
+        selects = sound-selects d a past c fit;
+        qualifiers = sound-qualifiers d a past c;
+        window = sound-window d a past c fit;
       }
 
   some-found : (pick : ℕ → ℕ) → Assigned (numbered d) pick → Fit d a pick → csDataAnswer d a .outcome ≡ LaidOut

@@ -1,6 +1,12 @@
 pub mod Counts
+pub mod Faults
 pub mod Scores
 pub mod Why
-pub mod Faults
+pub mod Gap
+pub mod Lines
+pub mod Parts
 pub mod Sound
+pub mod Selects
+pub mod Qualifiers
+pub mod Window
 pub mod Law

@@ -1,29 +1,28 @@
--- Demand 2's law of the select search, why a search in which nothing fits refuses, and what a found layout keeps. Assumes nothing.
+-- Demand 2's law of the select search, and why a search in which nothing fits refuses. Assumes nothing.
 use mathlib.Core.Path.{_≡_}
 use mathlib.Core.Bool.{true, false, _&&_}
 use mathlib.Core.Logic.{_⊎_}
 use Prim.Native.Nat.{ℕ, _+_, _-_, _^_, _≤_, _<_}
 use lib.Bits.{bitAnd, bitOr}
-use lib.ListN.{length, getD}
-use Rattle.gpio.specs.Candidates.{lastGpio}
-use Rattle.gpio.specs.Set.{setOf, Distinct, lowest, width, gapless, gap}
-use Rattle.slot.specs.Description.{isMulti, chip0}
+use lib.ListN.{length}
+use Rattle.gpio.specs.Set.{setOf, lowest, width, gapless, gap}
+use Rattle.slot.specs.Description.{isMulti}
 use Rattle.slot.specs.declared.description.Description.{Description}
 use Rattle.refusal.specs.declared.Refusal.{Refusal}
 use Rattle.refusal.specs.declared.Refusal.the-variants.{NonContiguousSelect, InteriorIgnoredLine, NoValidLayout}
 use Rattle.listing.specs.Listing.{twos}
-use Rattle.listing.specs.Lines.{kindPin, pinCandidates}
-use Rattle.listing.specs.Choice.{CandidateOf, gpioAt}
+use Rattle.listing.specs.Choice.{gpioAt}
 use Rattle.listing.specs.Law.{Assigned, Numbers}
 use Rattle.refusal.specs.declared.first.FirstFault.the-variants.{None}
 use Rattle.cs_pins.specs.Pins.{numbered, csSearchIn}
 use Rattle.cs_verdict.specs.Verdict.{selectable, allOf, inOneWindow, preferenceBy}
-use Rattle.cs_data_layout.specs.Layout.{line, csDataRefused, handed}
+use Rattle.cs_data_layout.specs.Layout.{csDataRefused, handed}
 use Rattle.cs_data_layout.specs.Choices.{numData, excessSet, qualifierSet, csDataLayoutOf, ignoredSet}
 use Rattle.cs_data_layout.specs.Search.{givenIn, earlier, csDataAnswer}
 use Rattle.cs_data_layout.specs.declared.layout.GivenLayout.{GivenLayout}
 use Rattle.cs_data_layout.specs.declared.layout.CsDataLayout.{CsDataLayout}
 use Rattle.cs_data_layout.specs.declared.layout.CsDataOutcome.the-variants.{LaidOut}
+use Rattle.cs_data_law.specs.Sound.{SoundLayout, SoundLines, SoundSelects, SoundQualifiers, SoundWindow}
 
 -- 00 Demand 2: the tests before the search are past: what is handed in is in the domain, and none of the other tests refuses it
 pub record PastTests (d : Description) (a : GivenLayout) : Type 0 where
@@ -42,7 +41,7 @@ choice d c k = gpioAt (numbered d) c k
 abbrev pub dataPicked : Description → (ℕ → ℕ) → ℕ
 dataPicked d pick = setOf (numData d) pick
 
--- 01 cs_data_layout 3: those picked for the pins behind them, select and commoned, make one set with the excess lines
+-- 01 cs_data_layout 3: those picked for the pins behind the data pins, select and commoned, make one set with the excess lines
 abbrev pub selectPicked : Description → GivenLayout → (ℕ → ℕ) → ℕ
 selectPicked d a pick = bitOr (setOf (length (numbered d) - numData d) (λ k. pick (numData d + k))) (excessSet (handed a))
 
@@ -59,8 +58,8 @@ pub record Fit (d : Description) (a : GivenLayout) (pick : ℕ → ℕ) : Type 0
   -- 01 cs_data_layout 3: one window holds all GPIOs
   pub window : inOneWindow (allPicked d a pick) ≡ true
 
--- 01 Number 7: the select set of GPIOs that were picked is refused: the data GPIOs have no gap, and the select GPIOs have a gap that is
--- not allowed
+-- 01 Number 7: the select set of GPIOs that were picked is refused: the data GPIOs have no gap, and the select GPIOs have one that
+-- is not allowed
 pub record SelectRefused (d : Description) (a : GivenLayout) (pick : ℕ → ℕ) : Type 0 where
   pub data-gapless : gapless (dataPicked d pick) ≡ true
   pub select-gap : selectable (isMulti (d .«set_type»)) (selectPicked d a pick) ≡ false
@@ -118,50 +117,6 @@ pub data WhyNone (d : Description) (a : GivenLayout) (why : Refusal) : Type 0 wh
       → WhyNone d a why
   nine : NoneRefused d a → why ≡ NoValidLayout → WhyNone d a why
 
--- the GPIOs of a layout's lines
-abbrev pub dataGpio : CsDataLayout → ℕ → ℕ
-dataGpio l k = getD (l .«data_pin_gpios») k 0
-
-abbrev pub selectGpio : CsDataLayout → ℕ → ℕ
-selectGpio l k = getD (l .«select_lines») k (line 0 0) .gpio
-
-abbrev pub commonedGpio : CsDataLayout → ℕ → ℕ
-commonedGpio l k = getD (l .«commoned_lines») k (line 0 0) .gpio
-
--- a GPIO in a layout's window of 32
-abbrev pub InWindow : CsDataLayout → ℕ → Type 0
-InWindow l g = (l .«gpio_base» ≤ g) × (g < l .«gpio_base» + 32)
-
--- what a found layout's own fields keep, l being the layout of choice c
-pub record SoundLayout (d : Description) (c : ℕ) (l : CsDataLayout) : Type 0 where
-  -- 01 cs_data_layout 3: there are two bases, 0 and 16
-  pub base : (l .«gpio_base» ≡ 0) ⊎ (l .«gpio_base» ≡ 16)
-  -- 01 cs_data_layout 6: there are as many data lines as chip 0 has data pins
-  pub data-count : l .«num_data_pins» ≡ numData d
-  -- the GPIO of each is a candidate of its pin, in the window
-  pub data-gpio : (k : ℕ) → k < l .«num_data_pins» → dataGpio l k ≡ gpioAt (numbered d) c k
-  pub data-candidate : (k : ℕ) → k < l .«num_data_pins» → CandidateOf (pinCandidates d (getD (chip0 d .«data_pins») k 0)) (dataGpio l k)
-  pub data-in : (k : ℕ) → k < l .«num_data_pins» → dataGpio l k ≤ lastGpio
-  pub data-window : (k : ℕ) → k < l .«num_data_pins» → InWindow l (dataGpio l k)
-  -- 01 cs_data_layout 6: no data GPIO is below the base and the base data pin added up
-  pub data-above : (k : ℕ) → k < l .«num_data_pins» → l .«gpio_base» + l .«base_data_pin» ≤ dataGpio l k
-  -- 01 cs_data_layout 6: some data GPIO is the base and the base data pin added up
-  pub data-attained : (k : ℕ) × (k < l .«num_data_pins») × (dataGpio l k ≡ l .«gpio_base» + l .«base_data_pin»)
-  -- and since they have no gap, data GPIOs that differ stand at positions below their number
-  pub data-below : Distinct (l .«num_data_pins») (dataGpio l)
-      → (k : ℕ) → k < l .«num_data_pins» → dataGpio l k - (l .«gpio_base» + l .«base_data_pin») < l .«num_data_pins»
-  -- the select and commoned lines have a place each, and are in the window
-  -- 01 Domain 13: a layout that was found has at most 30 select lines
-  pub select-count : l .«num_select_lines» ≤ 30
-  pub select-window : (k : ℕ) → k < l .«num_select_lines» → InWindow l (selectGpio l k)
-  -- 01 Domain 13: a layout that was found has at most 6 commoned lines
-  pub commoned-count : l .«num_commoned_lines» ≤ 6
-  pub commoned-window : (k : ℕ) → k < l .«num_commoned_lines» → InWindow l (commonedGpio l k)
-  -- in Multi the first select line is that of the select, which is on chip 0
-  pub first-select : isMulti (d .«set_type») ≡ true → 0 < l .«num_select_lines»
-  pub select-on : isMulti (d .«set_type») ≡ true → kindPin d (d .multi .select) ≡ 0 → ⊥
-  pub select-candidate : isMulti (d .«set_type») ≡ true → CandidateOf (pinCandidates d (kindPin d (d .multi .select))) (selectGpio l 0)
-
 -- 00 Demand 2: l is the layout of choice c, which fits; it is no worse than any choice of candidates that fits, and no earlier one
 -- that fits is as good
 pub record FoundBest (d : Description) (a : GivenLayout) (c : ℕ) (l : CsDataLayout) : Type 0 where
@@ -172,6 +127,10 @@ pub record FoundBest (d : Description) (a : GivenLayout) (c : ℕ) (l : CsDataLa
   pub earliest : (j : ℕ) → j < c → Fit d a (choice d j) → NoWorse d a (choice d j) (choice d c) → ⊥
   -- what the layout's own fields keep
   pub sound : SoundLayout d c l
+  pub lines : SoundLines d a c l
+  pub selects : SoundSelects d l
+  pub qualifiers : SoundQualifiers d a l
+  pub window : SoundWindow d a l
 
 -- 00 Demand 2: past its tests the select search finds a layout exactly if some choice of candidates fits, and then the best
 pub record CsDataDemand (d : Description) (a : GivenLayout) : Type 0 where

@@ -1,5 +1,5 @@
 -- The layout that a search answers is that of the best choice, and so a sound one. Assumes nothing.
-use mathlib.Core.Path.{_≡_, refl, sym, _∙_, ap, subst}
+use mathlib.Core.Path.{_≡_, refl, ap, subst}
 use mathlib.Core.Bool.{Bool, true, false, cond, _&&_}
 use Prim.Native.Nat.{ℕ}
 use Rattle.lists.proofs.Loops.{zero-one}

@@ -13,7 +13,8 @@ use Rattle.slot.specs.declared.description.Description.{Description}
 use Rattle.domain.proofs.Bounds.{description-in}
 use Rattle.gpio.specs.declared.line.LineGpio.the-variants.{At}
 use Rattle.addr_layout.specs.declared.layout.AddrLayout.{AddrLayout}
-use Rattle.cs_data_law.specs.Law as cs
+use Rattle.cs_data_law.specs.Law.{FoundBest}
+use Rattle.cs_data_law.specs.Sound as cs
 use Rattle.cs_data_layout.proofs.Bounds.{line-in}
 use Rattle.cs_data_layout.specs.declared.layout.CsDataLayout.{CsDataLayout}
 use Rattle.build_args.specs.Args.{argsOf}
@@ -79,7 +80,7 @@ pub record Storable (d : Description) (a : AddrLayout) (c : CsDataLayout) : Type
   pub line-gpio : (k : ℕ) → k < a .«num_lines» → getD (a .gpios) k 0 ≤ 47
   pub data-lines : c .«num_data_pins» < 32
   pub data-gpio : (k : ℕ) → k < c .«num_data_pins» → getD (c .«data_pin_gpios») k 0 ≤ 47
-  pub select : isMulti (d .«set_type») ≡ true → 0 < c .«num_select_lines»
+  pub select : 0 < c .«num_select_lines»
 
 module _ (d : Description) (a : AddrLayout) (c : CsDataLayout) (can : Storable d a c) where
   abbrev s : StoredSlot
@@ -102,14 +103,14 @@ module _ (d : Description) (a : AddrLayout) (c : CsDataLayout) (can : Storable d
           ∙ map-at (c .«data_pin_gpios») (c .«num_data_pins») (can .data-lines) n 0 m;
     }
 
-  first-at : isMulti (d .«set_type») ≡ true → firstSelect c ≡ At (cs.selectGpio c 0)
-  first-at m = rw (ne-eqb (c .«num_select_lines») 0 (λ e. omega (arith, can .select m, e)))
+  first-at : firstSelect c ≡ At (cs.selectGpio c 0)
+  first-at = rw (ne-eqb (c .«num_select_lines») 0 (λ e. omega (arith, can .select, e)))
 
-  select-is : isMulti (d .«set_type») ≡ true → firstSelect c ≡ At (stored.storedSelect s)
+  select-is : firstSelect c ≡ At (stored.storedSelect s)
   unfolding storedOf
-  select-is m =
-      let same : stored.storedSelect s ≡ cs.selectGpio c 0 = omega (arith, ap gpioOr0 (first-at m)) in
-      first-at m ∙ ap At (sym same)
+  select-is =
+      let same : stored.storedSelect s ≡ cs.selectGpio c 0 = omega (arith, ap gpioOr0 first-at) in
+      first-at ∙ ap At (sym same)
 
   word-bytes-is : stored.wordBytes s ≡ d .«word_bytes»
   unfolding storedOf
@@ -133,7 +134,7 @@ module _ (d : Description) (a : AddrLayout) (c : CsDataLayout) (can : Storable d
     roms = refl;
     rom = mapped;
     alg-cs = λ m. refl;
-    select = select-is;
+    select = λ m. select-is;
     overrides = omega arith;
   }
 
@@ -146,7 +147,7 @@ module _ (d : Description) (a : AddrLayout) (c : CsDataLayout) (images : List �
   past : Past d a c images spans lent
   past = build-past d a c images spans lent (ok .build)
 
-  selects : (n : ℕ) × cs.FoundBest d (record { given = true; layout = a }) n c
+  selects : (n : ℕ) × FoundBest d (record { given = true; layout = a }) n c
   selects = cs-found d (record { given = true; layout = a }) c (ok .select)
 
   storable : Storable d a c
@@ -157,7 +158,7 @@ module _ (d : Description) (a : AddrLayout) (c : CsDataLayout) (images : List �
     line-gpio = λ k l. line-in a (addressed (argsOf d a c spans) (past .tests .domain)) k (omega (arith, l));
     data-lines = omega (arith, data-count c (selected (argsOf d a c spans) (past .tests .domain)) .1);
     data-gpio = selects .1 .sound .data-in;
-    select = selects .1 .sound .first-select;
+    select = selects .1 .sound .some-select;
   }
 
   pub stored-as : StoredAs d a c (storedOf d a c)

@@ -22,7 +22,7 @@ use Rattle.addr_law.specs.Law as addr
 use Rattle.addr_law.specs.Law.Spanned.{of-select}
 use Rattle.gpio.specs.declared.line.LineGpio.the-variants.{At}
 use Rattle.addr_layout.specs.declared.layout.AddrLayout.{AddrLayout}
-use Rattle.cs_data_law.specs.Law as cs
+use Rattle.cs_data_law.specs.Sound as cs
 use Rattle.cs_data_layout.specs.declared.layout.CsDataLayout.{CsDataLayout}
 use Rattle.build_args.specs.Positions.{dataPosition}
 use Rattle.build_args.specs.Picks.{firstSelect}
@@ -90,7 +90,7 @@ module _ (d : Description) (a : AddrLayout) (ca cc' : ℕ) (found : addr.FoundBe
     selects = on-socket d (selectPin d) (cs.selectGpio c 0) (laid .select-candidate m)
 
     first-is : firstSelect c ≡ At (cs.selectGpio c 0)
-    first-is = rw (ne-eqb (c .«num_select_lines») 0 (λ e. omega (arith, laid .first-select m, e)))
+    first-is = rw (ne-eqb (c .«num_select_lines») 0 (λ e. omega (arith, laid .some-select, e)))
 
     first-of : addr.FirstOf (kindCandidates d (d .multi .select)) (cs.selectGpio c 0)
     first-of =
