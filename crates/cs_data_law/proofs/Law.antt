@@ -29,6 +29,7 @@ use Rattle.cs_data_layout.specs.Layout.{csDataRefused, handed}
 use Rattle.cs_data_layout.specs.Choices.{csVerdict, csDataLayoutOf, ignoredSet}
 use Rattle.cs_data_layout.specs.Search.{csBest, orNoLayout, noneFits, csDataAnswerOf, csDataAnswer}
 use Rattle.cs_data_layout.specs.declared.layout.GivenLayout.{GivenLayout}
+use Rattle.cs_data_layout.specs.declared.layout.CsDataLayout.{CsDataLayout}
 use Rattle.cs_data_layout.specs.declared.layout.CsDataOutcome.the-variants.{LaidOut, Refused}
 use Rattle.cs_data_layout.specs.declared.layout.CsDataAnswer.{CsDataAnswer}
 use Rattle.cs_data_law.specs.Law.{PastTests, choices, choice, selectPicked, Fit, SelectRefused, NoneFits, seen, FirstSeen, LastRefused, NoneSeen, NoneRefused, WhyNone, eight, seven, nine, FoundBest, CsDataDemand}
@@ -224,11 +225,23 @@ module _ (d : Description) (a : GivenLayout) (past : PastTests d a) where
   one-why v w (nine none p) (seven c n g q) = absurd (none (choice d c) (assigned c) (g .refused))
   one-why v w (nine none p) (nine n q) = p ∙ sym q
 
+  -- of two best choices neither is the earlier: it would be as good
+  not-earlier : (b c : ℕ) (l m : CsDataLayout) → FoundBest d a b l → FoundBest d a c m → b < c → ⊥
+  not-earlier b c l m x y h = y .earliest b h (x .fit) (x .lowest (choice d c) (assigned c) (y .fit))
+
+  one-best : (b c : ℕ) (l m : CsDataLayout) → FoundBest d a b l → FoundBest d a c m → l ≡ m
+  one-best b c l m x y =
+      let most : b < suc c = lt-of-not-le (λ (h : suc c ≤ b). not-earlier c b m l y x h) in
+      let least : c < suc b = lt-of-not-le (λ (h : suc b ≤ c). not-earlier b c l m x y h) in
+      let same : b ≡ c = omega arith in
+      x .layout ∙ ap (csDataLayoutOf d (handed a) (numbered d)) same ∙ sym (y .layout)
+
   pub cs-data-demand : CsDataDemand d a
   cs-data-demand = record {
     numbers = by-numbers;
     some-found = some-found;
     found-best = found;
+    one-best = one-best;
     none-refused = none-refused;
     refused-none = refused-none;
     one-why = one-why;

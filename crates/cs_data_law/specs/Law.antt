@@ -138,6 +138,8 @@ pub record CsDataDemand (d : Description) (a : GivenLayout) : Type 0 where
   pub numbers : Numbers (numbered d)
   pub some-found : (pick : ℕ → ℕ) → Assigned (numbered d) pick → Fit d a pick → csDataAnswer d a .outcome ≡ LaidOut
   pub found-best : csDataAnswer d a .outcome ≡ LaidOut → (c : ℕ) × FoundBest d a c (csDataAnswer d a .layout)
+  -- there is one such layout, so that a law which said less would not do
+  pub one-best : (b c : ℕ) (l m : CsDataLayout) → FoundBest d a b l → FoundBest d a c m → l ≡ m
   -- 01 cs_data_layout 9: the answer is a refusal exactly if no choice fits, for the one reason that there is
   pub none-refused : NoneFits d a → (why : Refusal) × (csDataAnswer d a ≡ csDataRefused why)
   pub refused-none : (why : Refusal) → csDataAnswer d a ≡ csDataRefused why → NoneFits d a × WhyNone d a why
