@@ -1,9 +1,11 @@
 // Slots through both searches, the build and read-back: that well wired slots which nothing refuses are there, of each set kind and
-// number of chips, in 8 and in 16-bit mode. That each is well wired is tested by `well_wired`, whose law gives the premise of demand 3.
+// number of chips, in 8 and in 16-bit mode. That each is well wired is tested by `well_wired`, and that the buffers have room by
+// `has_room`: their laws give the premises of demand 3.
 // Each pin has one GPIO and no GPIO two pins; what stands past a board's pins shares the GPIO of one of them. The lent buffers hold
 // JUNK before.
 use addr_layout::derive_addr_layout;
 use build_args::images::ImageSpan;
+use given::room::has_room;
 use gpio::candidates::Candidates;
 use gpio::candidates::Pin;
 use lists::array::entry;
@@ -310,10 +312,10 @@ fn say_refusal(why: Refusal) {
     say(b"\n");
 }
 
-// Whether demand 3's premise holds of the slot and of its address layout.
+// Whether demand 3's premises hold of the slot, of its address layout and of the buffers.
 fn say_wiring(d: Description) {
     let found = derive_addr_layout(d);
-    if well_wired(d, found.layout) {
+    if well_wired(d, found.layout) & has_room(d, found.layout, 2048, 1024) {
         say(b": well wired");
     } else {
         say(b": NOT WELL WIRED");

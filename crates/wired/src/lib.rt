@@ -63,7 +63,8 @@ fn select_one(d: Description) -> bool
     !gpios.is_two()
 }
 
-fn in_window(a: AddrLayout, gpio: u8) -> bool
+// Whether a GPIO is in the window of the address layout.
+pub fn in_window(a: AddrLayout, gpio: u8) -> bool
     ensures { λ r. ⌜ r ≡ inAddrWindow a gpio ⌝ }
 {
     let end = a.gpio_base as u32 + a.num_addr_pins as u32;

@@ -1,0 +1,10 @@
+-- `forces` meets its contract. Assumes nothing.
+use borrow.Author.Needs.{needs}
+use Rattle.given.proofs.forced.forces.Statement.{statement}
+use Rattle.given.proofs.forced.forces.Tie as tie
+
+returns : tie.Need-returns
+returns c = rw (c .in-window .ensures)
+
+pub forces-spec : {M : Type 1} → statement M
+forces-spec = tie.close (tie.spec (λ c κs. search needs) returns)
