@@ -1,2 +1,3 @@
 pub mod Found
 pub mod FourCalls
+pub mod Refused

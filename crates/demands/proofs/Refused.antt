@@ -1,0 +1,187 @@
+-- How each exported call ends. Assumes nothing.
+use mathlib.Core.Path.{_≡_, refl, sym, _∙_, ap}
+use mathlib.Core.Bool.{Bool, true, false, not, _&&_, cond}
+use mathlib.Core.List.{List, _++_}
+use mathlib.Core.Logic.{_⊎_, inl, inr}
+use Prim.Native.Nat.{ℕ, zero, suc, _^_, _/_}
+use native.Mathlib.Omega.{arith}
+use lib.Dec.{ltb, eqb}
+use lib.ListN.{length, drop}
+use Rattle.slot.specs.declared.description.ChipSetType.{ChipSetType}
+use Rattle.slot.specs.declared.description.Description.{Description}
+use Rattle.refusal.specs.First.{orElse, faultIf, firstOf}
+use Rattle.refusal.specs.Refusal.{numberOf, refusalCode}
+use Rattle.refusal.specs.declared.Refusal.{Refusal}
+use Rattle.refusal.specs.declared.Refusal.the-variants.{OutOfDomain, ShortBuffer, WrongSize, UnknownSlotType, Inconsistent, Unserved}
+use Rattle.refusal.specs.declared.Answer.{Answer}
+use Rattle.refusal.specs.declared.Answer.the-variants.{Done, Refused}
+use Rattle.refusal.specs.declared.first.FirstFault.{FirstFault}
+use Rattle.refusal.specs.declared.first.FirstFault.the-variants.{None, Of}
+use Rattle.refusal.proofs.Law.{number-law}
+use Rattle.addr_layout.specs.Search.{addrAnswer}
+use Rattle.addr_layout.specs.declared.layout.AddrLayout.{AddrLayout}
+use Rattle.addr_layout.specs.declared.layout.AddrOutcome.{AddrOutcome}
+use Rattle.cs_data_layout.specs.Search.{csDataAnswer}
+use Rattle.cs_data_layout.specs.declared.layout.CsDataLayout.{CsDataLayout}
+use Rattle.cs_data_layout.specs.declared.layout.CsDataOutcome.{CsDataOutcome}
+use Rattle.image_record.specs.ImageRecord.{spansAt}
+use Rattle.build_args.specs.Args.{argsOf}
+use Rattle.build_args.specs.Domain.{buildIn}
+use Rattle.build_args.specs.Faults.{buildFault}
+use Rattle.build_args.specs.declared.BuildArgs.{BuildArgs}
+use Rattle.rom_image.specs.Build.{buildAfter, built, buildOf}
+use Rattle.description_record.specs.Record.{decodedOf}
+use Rattle.addr_record.specs.AddrRecord.{addrSize, layoutBytes, layoutAt, givenAt, givenFormed}
+use Rattle.cs_data_record.specs.CsDataRecord.{csDataSize, csDataBytes, csDataAt}
+use Rattle.stored_record.specs.StoredRecord.{storedAt, storedFormed}
+use Rattle.picks.specs.declared.Picked.{Picked}
+use Rattle.picks.specs.declared.Picked.the-variants.{NoChip, Chip}
+use Rattle.stored_slot.specs.Stored.{storedIn, storedPins}
+use Rattle.stored_slot.specs.Words.{romWords}
+use Rattle.unscramble.specs.Words.{romPicked, addressAt, serves, valueAt}
+use Rattle.stored_slot.specs.Faults.{romsFault, wrongSize}
+use Rattle.stored_slot.specs.declared.stored.StoredSlot.{StoredSlot}
+use Rattle.stored_slot.specs.declared.stored.SlotType.{SlotType}
+use Rattle.stored_slot.specs.declared.stored.SlotType.the-variants.{Unknown, Plugin, Roms}
+use Rattle.unscramble.specs.Recovered.{firstFor, keptValue, disagreesFor, inconsistent, unserved, readBack, readRefused, front, afterEntries, readAfter, ofType, unscrambled}
+use Rattle.onerom.specs.Packed.{packed, packedCode, resultOf}
+use Rattle.onerom.specs.Calls.{Answered, answer, callRefused, written, ifDescribed, ifRecord, addrOutcome, addrFound, addrCall, csDataOutcome, csDataFound, csDataCall, buildFound, buildFrom, buildFormed, buildCall, readAnswer, readFound, readBackCall}
+use Rattle.demands.specs.Refused.{numberIn, FromTable, Ends, ReadEnds, FirstDemand}
+use Rattle.demands.specs.Refused as ends
+
+number-of : (why : Refusal) → numberIn (packed why) ≡ numberOf why
+unfolding packedCode
+number-of why = omega arith
+
+from-table : (why : Refusal) → FromTable (packed why)
+from-table why = let n = number-law why in (rw (number-of why) (n .some), rw (number-of why) (n .most))
+
+-- a refusal leaves the buffer
+stays : (why : Refusal) (buffer : List ℕ) → Ends buffer (callRefused why buffer)
+stays why buffer = ends.Ends.refused (from-table why) refl
+
+written-ends : (bytes buffer : List ℕ) (size : ℕ) (t : Bool) → Ends buffer (cond t (callRefused ShortBuffer buffer) (answer 0 (bytes ++ drop size buffer)))
+written-ends bytes buffer size true = stays ShortBuffer buffer
+written-ends bytes buffer size false = ends.Ends.done refl
+
+formed-ends : (t : Bool) (x : Answered) (buffer : List ℕ) → Ends buffer x → Ends buffer (cond t x (callRefused OutOfDomain buffer))
+formed-ends true x buffer e = e
+formed-ends false x buffer e = stays OutOfDomain buffer
+
+described-ends : (f : Description → Answered) (buffer : List ℕ) → ((d : Description) → Ends buffer (f d)) → (x : Answer) (d : Description)
+    → Ends buffer (ifDescribed f (λ why. callRefused why buffer) x d)
+described-ends f buffer h Done d = h d
+described-ends f buffer h (Refused why) d = stays why buffer
+
+-- the searches
+addr-ends : (o : AddrOutcome) (l : AddrLayout) (buffer : List ℕ) → Ends buffer (addrOutcome o l buffer)
+addr-ends AddrOutcome.LaidOut l buffer = written-ends (layoutBytes l) buffer addrSize (ltb (length buffer) addrSize)
+addr-ends (AddrOutcome.Refused why) l buffer = stays why buffer
+
+cs-data-ends : (o : CsDataOutcome) (l : CsDataLayout) (buffer : List ℕ) → Ends buffer (csDataOutcome o l buffer)
+cs-data-ends CsDataOutcome.LaidOut l buffer = written-ends (csDataBytes l) buffer csDataSize (ltb (length buffer) csDataSize)
+cs-data-ends (CsDataOutcome.Refused why) l buffer = stays why buffer
+
+-- the build
+after-ends : (b : BuildArgs) (images table : List ℕ) (f : FirstFault) → Ends table (buildFound (buildAfter b images table f))
+unfolding packedCode
+after-ends b images table (Of why) = stays why table
+after-ends b images table None = ends.Ends.done refl
+
+build-ends : (b : BuildArgs) (images table : List ℕ) → Ends table (buildFound (buildOf b images table))
+unfolding buildOf
+build-ends b images table = by (buildIn b)
+  where
+    by : (t : Bool) → Ends table (buildFound (cond t (buildAfter b images table (buildFault b images (length table))) (built (Refused OutOfDomain) table)))
+    by true = after-ends b images table (buildFault b images (length table))
+    by false = stays OutOfDomain table
+
+-- what the entries come to: 23 or 24
+abbrev Told : FirstFault → Type 0
+Told None = Unit
+Told (Of why) = (numberOf why ≡ 23) ⊎ (numberOf why ≡ 24)
+
+told-or : (f g : FirstFault) → Told f → Told g → Told (orElse f g)
+told-or None g p q = q
+told-or (Of why) g p q = p
+
+told-if : (t : Bool) (why : Refusal) → (numberOf why ≡ 23) ⊎ (numberOf why ≡ 24) → Told (faultIf t why)
+told-if true why p = p
+told-if false why p = tt
+
+told-first : (n : ℕ) (f : ℕ → FirstFault) → ((k : ℕ) → Told (f k)) → Told (firstOf n f)
+unfolding firstOf
+told-first zero f h = tt
+told-first (suc n) f h = told-or (firstOf n f) (f n) (told-first n f h) (h n)
+
+module _ (s : StoredSlot) (stored output marks : List ℕ) where
+  read-stays : (why : Refusal) → ReadEnds s output marks (readFound (readRefused why output marks))
+  read-stays why = ends.ReadEnds.refused (from-table why) refl refl
+
+  told-entries : (set : ChipSetType) → Told (orElse (inconsistent s set stored) (unserved s set))
+  told-entries set =
+      told-or (inconsistent s set stored) (unserved s set)
+      (told-first (2 ^ storedPins s) _ (λ i. disagreed i (romPicked s set i)))
+      (told-first (s .«num_roms») _ (λ rom. told-first (romWords s rom) _ (λ n. told-if (eqb (firstFor s set rom n (2 ^ storedPins s)) (2 ^ storedPins s)) (Unserved rom n) (inr refl))))
+    where
+      disagreed : (i : ℕ) (p : Picked) → Told (disagreesFor s set stored i p)
+      disagreed i NoChip = tt
+      disagreed i (Chip rom) =
+          let n = addressAt s rom i in
+          told-if (serves s set rom n i && not (eqb (valueAt s stored rom i) (keptValue s set stored rom n))) (Inconsistent rom n) (inl refl)
+
+  entries-end : (set : ChipSetType) (f : FirstFault) → Told f → ReadEnds s output marks (readFound (afterEntries s set stored output marks f))
+  unfolding packedCode
+  entries-end set None t = ends.ReadEnds.done refl
+  entries-end set (Of why) (inl e) = ends.ReadEnds.cleared (inl (number-of why ∙ e)) refl refl
+  entries-end set (Of why) (inr e) = ends.ReadEnds.cleared (inr (number-of why ∙ e)) refl refl
+
+  roms-end : (set : ChipSetType) (f : FirstFault) → ReadEnds s output marks (readFound (readAfter s set stored output marks f))
+  roms-end set (Of why) = read-stays why
+  roms-end set None = entries-end set (orElse (inconsistent s set stored) (unserved s set)) (told-entries set)
+
+  plugin-end : (t : Bool) → ReadEnds s output marks (readFound (cond t (readRefused ShortBuffer output marks) (readBack Done (front stored output) marks)))
+  unfolding packedCode
+  plugin-end true = read-stays ShortBuffer
+  plugin-end false = ends.ReadEnds.done refl
+
+  type-end : (t : SlotType) → ReadEnds s output marks (readFound (ofType s stored output marks t))
+  type-end Unknown = read-stays UnknownSlotType
+  type-end Plugin = plugin-end (ltb (length output) (length stored))
+  type-end (Roms set) = roms-end set (romsFault s set stored (length output) (length marks))
+
+  tested-end : (in-domain wrong : Bool)
+      → ReadEnds s output marks (readFound (cond in-domain (cond wrong (readRefused WrongSize output marks) (ofType s stored output marks (s .«slot_type»))) (readRefused OutOfDomain output marks)))
+  tested-end false wrong = read-stays OutOfDomain
+  tested-end true true = read-stays WrongSize
+  tested-end true false = type-end (s .«slot_type»)
+
+  read-end : ReadEnds s output marks (readFound (unscrambled s stored output marks))
+  unfolding unscrambled
+  read-end = tested-end (storedIn s) (wrongSize s stored)
+
+formed-end : (t : Bool) (s : StoredSlot) (stored output marks : List ℕ)
+    → ReadEnds s output marks (cond t (readFound (unscrambled s stored output marks)) (readAnswer (packed OutOfDomain) output marks))
+formed-end true s stored output marks = read-end s stored output marks
+formed-end false s stored output marks = read-stays s stored output marks OutOfDomain
+
+-- over a description's bytes
+described-by : (f : Description → Answered) (description buffer : List ℕ) → ((d : Description) → Ends buffer (f d))
+    → Ends buffer (ifRecord f (λ why. callRefused why buffer) (decodedOf description))
+described-by f description buffer h = described-ends f buffer h (decodedOf description .answer) (decodedOf description .description)
+
+pub first-demand : FirstDemand
+unfolding addrCall csDataCall buildCall readBackCall
+first-demand = record {
+  address = λ description layout.
+      described-by (λ d. addrFound (addrAnswer d) layout) description layout (λ d. addr-ends (addrAnswer d .outcome) (addrAnswer d .layout) layout);
+  select = λ description addr-layout layout.
+      let given = givenAt addr-layout in
+      formed-ends (givenFormed addr-layout) _ layout
+      (described-by (λ d. csDataFound (csDataAnswer d given) layout) description layout (λ d. cs-data-ends (csDataAnswer d given .outcome) (csDataAnswer d given .layout) layout));
+  build = λ description addr-layout cs-data-layout spans images table.
+      formed-ends (buildFormed addr-layout cs-data-layout spans) _ table
+      (described-by (λ d. buildFrom d addr-layout cs-data-layout spans images table) description table
+      (λ d. build-ends (argsOf d (layoutAt addr-layout) (csDataAt cs-data-layout) (spansAt spans)) images table));
+  read-back = λ slot stored output marks. formed-end (storedFormed slot) (storedAt slot) stored output marks;
+}
