@@ -46,7 +46,9 @@ board-in b e =
 pub record ChipIn (c : Chip) : Type 0 where
   pub address-pins : (1 ≤ c .«num_address_pins») × (c .«num_address_pins» ≤ 24)
   pub data-pins : (1 ≤ c .«num_data_pins») × (c .«num_data_pins» ≤ 16)
+  pub data-pin : (k : ℕ) → k < c .«num_data_pins» → getD (c .«data_pins») k 0 ≤ 40
   pub control-lines : c .control .count ≤ 8
+  pub control-pin : (k : ℕ) → k < c .control .count → lineAt (c .control) k .pin ≤ 40
   -- no line of kind 0 to 5 has the kind of an earlier one
   pub kinds-differ : (j k : ℕ) → j < k → k < c .control .count → kindAt (c .control) k ≤ 5 → kindAt (c .control) j ≡ kindAt (c .control) k → ⊥
   pub size : c .size ≤ 16777216
@@ -61,7 +63,12 @@ chip-in c w e =
     record {
       address-pins = between-is 1 24 _ (and-left _ _ (and-left _ _ address));
       data-pins = between-is 1 16 _ (and-left _ _ data-lines);
+      data-pin = λ k l.
+          between-is 1 40 (getD (c .«data_pins») k 0) (each-at _ (c .«num_data_pins») (and-right (between 1 16 (c .«num_data_pins»)) _ data-lines) k l) .1;
       control-lines = leb-true _ 8 count;
+      control-pin = λ k l.
+          let pin = between 1 40 (lineAt (c .control) k .pin) in
+          between-is 1 40 (lineAt (c .control) k .pin) (and-left pin _ (and-left (pin && leb (kindAt (c .control) k) 6) _ (each-at _ (c .control .count) lines k l))) .1;
       kinds-differ = λ j k l m five same.
           let kind = kindAt (c .control) k in
           let differs = each k (λ i. not (eqb (kindAt (c .control) i) kind)) in

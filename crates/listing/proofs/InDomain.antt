@@ -49,7 +49,7 @@ or-count n m true l f e = f refl
 or-count n m false l f e = omega (arith, eqb-true n m e)
 
 -- no socket has more than 40 pins
-pins-fit : (n : ℕ) → boardPinsIn n ≡ true → n ≤ 40
+pub pins-fit : (n : ℕ) → boardPinsIn n ≡ true → n ≤ 40
 pins-fit n =
     or-count n 40 _ (omega arith) (or-count n 32 _ (omega arith) (or-count n 28 (eqb n 24) (omega arith) (λ e. omega (arith, eqb-true n 24 e))))
 

@@ -6,3 +6,4 @@ pub mod Pushed
 pub mod Parts
 pub mod InDomain
 pub mod Walked
+pub mod Places

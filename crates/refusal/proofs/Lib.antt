@@ -1,2 +1,3 @@
 pub mod Firsts
 pub mod Law
+pub mod Places

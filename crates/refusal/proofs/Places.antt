@@ -1,0 +1,30 @@
+-- Faults whose places have 48 bits, as the one number that a refused call returns has room for. Assumes nothing.
+use Prim.Native.Nat.{ℕ, zero, suc, _^_, _<_}
+use mathlib.Core.Bool.{Bool, true, false}
+use native.Mathlib.Omega.{arith}
+use Rattle.refusal.specs.First.{orElse, faultIf, firstOf}
+use Rattle.refusal.specs.Refusal.{placeOf}
+use Rattle.refusal.specs.declared.Refusal.{Refusal}
+use Rattle.refusal.specs.declared.first.FirstFault.{FirstFault}
+use Rattle.refusal.specs.declared.first.FirstFault.the-variants.{None, Of}
+
+abbrev pub SmallPlace : Refusal → Type 0
+SmallPlace why = placeOf why < 2 ^ 48
+
+-- no fault, or one whose place has 48 bits
+abbrev pub Small : FirstFault → Type 0
+Small None = Unit
+Small (Of why) = SmallPlace why
+
+pub small-or : (f g : FirstFault) → Small f → Small g → Small (orElse f g)
+small-or None g p q = q
+small-or (Of why) g p q = p
+
+pub small-if : (bad : Bool) (why : Refusal) → SmallPlace why → Small (faultIf bad why)
+small-if true why h = h
+small-if false why h = tt
+
+pub small-first : (n : ℕ) (f : ℕ → FirstFault) → ((k : ℕ) → k < n → Small (f k)) → Small (firstOf n f)
+unfolding firstOf
+small-first zero f h = tt
+small-first (suc n) f h = small-or (firstOf n f) (f n) (small-first n f (λ k l. h k (omega arith))) (h n (omega arith))
