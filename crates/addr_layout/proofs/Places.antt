@@ -25,7 +25,7 @@ use Rattle.listing.proofs.InDomain.{pins-fit}
 use Rattle.listing.proofs.Places.{Placed, placed-append, placed-tab, placed-x, small-fault}
 use Rattle.search.specs.declared.Found.{Found}
 use Rattle.search.specs.declared.Found.the-variants.{Nothing, At}
-use Rattle.addr_lines.specs.Lines.{firstPin, lines, lineSocket, offBefore, flyLead, overhanging, atSocket, lineListed, addrListed}
+use Rattle.addr_lines.specs.Lines.{firstPin, lines, lineSocket, offBefore, flyLead, atSocket, lineListed, addrListed}
 use Rattle.addr_layout.specs.Layout.{addrRefused, addrCode}
 use Rattle.addr_layout.specs.Search.{addrSearchIn, addrBest, addrAnswerOf, afterFaults, addrAnswer}
 

@@ -14,11 +14,10 @@ use Rattle.gpio.specs.declared.candidates.Candidates.the-variants.{Absent}
 use Rattle.gpio.proofs.Sets.{set-within}
 use Rattle.slot.specs.Description.{isMulti, chip0, lineAt, kindAt, cs1Kind}
 use Rattle.slot.specs.declared.description.Description.{Description}
-use Rattle.refusal.specs.First.{orElse}
 use Rattle.refusal.specs.declared.Refusal.the-variants.{OutOfDomain, NoSelectLine, MissingAddrPinGpios, RomTooLargeNoCsConfig, InteriorIgnoredLine}
 use Rattle.refusal.specs.declared.first.FirstFault.{FirstFault}
 use Rattle.refusal.specs.declared.first.FirstFault.the-variants.{None, Of}
-use Rattle.refusal.proofs.Places.{SmallPlace, Small, small-or, small-if}
+use Rattle.refusal.proofs.Places.{SmallPlace, Small, small-or, small-test}
 use Rattle.domain.specs.Domain.{descriptionIn}
 use Rattle.domain.proofs.Bounds.{chip0-in}
 use Rattle.control.specs.CsConfig.{ignores}
@@ -30,7 +29,6 @@ use Rattle.listing.proofs.InDomain.{gpio-in}
 use Rattle.listing.proofs.Places.{Placed, placed-append, placed-one, placed-tab, placed-if, placed-x, small-fault}
 use Rattle.search.specs.declared.Found.{Found}
 use Rattle.search.specs.declared.Found.the-variants.{Nothing, At}
-use Rattle.addr_layout.specs.declared.layout.AddrLayout.{AddrLayout}
 use Rattle.cs_pins.specs.Pins.{pinListed, dataListed, active, ifActive, activeListed, kindListed, multiCommoned, numbered, csSearchIn}
 use Rattle.cs_pins.proofs.InDomain.{numbered-in}
 use Rattle.cs_checked.specs.Checked.{orNoActive, ignoredListed, multiChecked, checked}
@@ -41,7 +39,7 @@ use Rattle.cs_choices.specs.Nothing.{interiorIn, interiorOf, interior, refusedO
 use Rattle.cs_choices.specs.Sets.{dataSet, selectSet}
 use Rattle.cs_data_layout.specs.Layout.{csDataRefused, csDataCode, handed}
 use Rattle.cs_data_layout.specs.Choices.{numData, excessGpio, excessSet, qualifierSet, csVerdict, ignoredSet}
-use Rattle.cs_data_layout.specs.Search.{givenIn, missingLayout, romTooLarge, earlier, csBest, orNoLayout, noneFits, csDataAnswerOf, afterEarlier, csDataAnswer}
+use Rattle.cs_data_layout.specs.Search.{givenIn, earlier, csBest, orNoLayout, noneFits, csDataAnswerOf, afterEarlier, csDataAnswer}
 use Rattle.cs_data_layout.specs.declared.layout.GivenLayout.{GivenLayout}
 use Rattle.cs_data_layout.proofs.Bounds.{described, excess-in}
 use Rattle.cs_data_layout.proofs.Searched.{handed-in}
@@ -114,8 +112,8 @@ module _ (d : Description) (e : descriptionIn d ≡ true) where
   small-earlier : (a : GivenLayout) → Small (earlier d a)
   unfolding earlier
   small-earlier a =
-      small-or (missingLayout d a) _ (small-if (not (a .given) && ltb 0 (d .«num_qualifiers»)) MissingAddrPinGpios (omega arith))
-      (small-or (romTooLarge d (handed a)) _ (small-if (ltb 0 (handed a .«num_excess») && ignores (d .«cs_config») cs1Kind) RomTooLargeNoCsConfig (omega arith))
+      small-test (not (a .given) && ltb 0 (d .«num_qualifiers»)) MissingAddrPinGpios _ (omega arith)
+      (small-test (ltb 0 (handed a .«num_excess») && ignores (d .«cs_config») cs1Kind) RomTooLargeNoCsConfig _ (omega arith)
       (small-or (firstFault (dataListed d)) (firstFault (checked d)) (small-fault (dataListed d) data-placed) (small-fault (checked d) checked-placed)))
 
 -- where nothing fits: a GPIO of 64 at most, or a select set

@@ -24,6 +24,11 @@ pub small-if : (bad : Bool) (why : Refusal) → SmallPlace why → Small (faultI
 small-if true why h = h
 small-if false why h = tt
 
+-- a test, and what is tested after it
+pub small-test : (bad : Bool) (why : Refusal) (rest : FirstFault) → SmallPlace why → Small rest → Small (orElse (faultIf bad why) rest)
+small-test true why rest h s = h
+small-test false why rest h s = s
+
 pub small-first : (n : ℕ) (f : ℕ → FirstFault) → ((k : ℕ) → k < n → Small (f k)) → Small (firstOf n f)
 unfolding firstOf
 small-first zero f h = tt

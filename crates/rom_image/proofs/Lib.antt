@@ -3,3 +3,4 @@ pub mod Chips
 pub mod Entries
 pub mod Past
 pub mod Power
+pub mod Places

@@ -9,3 +9,4 @@ pub mod ReadBy
 pub mod Loops
 pub mod Unrefused
 pub mod Finished
+pub mod Places

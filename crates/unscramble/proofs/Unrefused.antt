@@ -81,7 +81,7 @@ module _ (s : StoredSlot) (in-domain : storedIn s ≡ true) where
   pub few-roms : s .«num_roms» ≤ 4
   few-roms = leb-true (s .«num_roms») 4 (and-left (leb (s .«num_roms») 4) sizes roms-in)
 
-  rom-small : (k : ℕ) → k < s .«num_roms» → romWords s k ≤ 2 ^ 24
+  pub rom-small : (k : ℕ) → k < s .«num_roms» → romWords s k ≤ 2 ^ 24
   rom-small k l =
       let size = leb-true (romAt s k .«chip_size») (2 ^ 24) (each-at (λ j. leb (romAt s j .«chip_size») (2 ^ 24)) (s .«num_roms») (and-right (leb (s .«num_roms») 4) sizes roms-in) k l) in
       le-trans (min-le-left _ _) (le-trans (div-le-self _ _) size)
