@@ -15,7 +15,6 @@ use Rattle.refusal.specs.declared.Refusal.{Refusal}
 use Rattle.refusal.specs.declared.Answer.{Answer}
 use Rattle.refusal.specs.declared.Answer.the-variants.{Done, Refused}
 use Rattle.refusal.specs.declared.Refusal.the-variants.{ShortBuffer, OutOfDomain}
-use Rattle.refusal.proofs.Law.{number-law}
 use Rattle.domain.specs.Domain.{descriptionIn}
 use Rattle.listing.specs.Listing.{firstFault}
 use Rattle.addr_lines.specs.Lines.{addrListed}
@@ -34,10 +33,11 @@ use Rattle.addr_record.specs.AddrRecord.{addrSize, layoutBytes, layoutAt, layou
 use Rattle.addr_record.proofs.Back.{layout-formed, layout-back}
 use Rattle.cs_data_record.specs.CsDataRecord.{csDataSize, csDataBytes, csDataAt, csDataFormed, ValuedCsData}
 use Rattle.cs_data_record.proofs.Back.{cs-data-formed, cs-data-back}
-use Rattle.onerom.specs.Packed.{packed, packedCode, resultOf}
-use Rattle.onerom.specs.Calls.{Answered, answer, callRefused, written, ifDescribed, addrOutcome, addrFound, addrCall, csDataOutcome, csDataFound, csDataCall, buildFound, buildFormed, buildCall, readFound, readBackCall}
+use Rattle.onerom.specs.Packed.{packedCode}
+use Rattle.onerom.proofs.Law.{done-alone}
+use Rattle.onerom.specs.Calls.{Answered, answered, callRefused, written, ifDescribed, addrOutcome, addrFound, addrCall, csDataOutcome, csDataFound, csDataCall, buildFormed, buildRefused, buildCall, readBackCall, readResult}
 use Rattle.build_args.specs.Faults.{tableSize}
-use Rattle.rom_image.specs.Build.{buildOf}
+use Rattle.rom_image.specs.Build.{Built, buildOf}
 use Rattle.unscramble.specs.Recovered.{unscrambled}
 use Rattle.stored_record.specs.StoredRecord.{storedAt}
 use Rattle.round_trip.specs.RoundTrip.{Accepted, tableBuilt}
@@ -48,30 +48,24 @@ use Rattle.demands.specs.FourCalls as FourCalls
 use Rattle.demands.specs.FourCalls.{Bench, addressed, addrRecord, selected, csDataRecord, built, slotArgs, stored}
 use Rattle.demands.proofs.Found.{addr-valued, cs-data-valued}
 
--- a refused call does not return 0
-packed-some : (why : Refusal) → packed why ≡ 0 → ⊥
-unfolding packedCode
-packed-some why e = let n = number-law why .some in omega arith
+refused-done : (why : Refusal) → Refused why ≡ Done → ⊥
+refused-done why e = zero-one cc
 
-answer-done : (x : Answer) → resultOf x ≡ 0 → x ≡ Done
-answer-done Done e = refl
-answer-done (Refused why) e = absurd (packed-some why e)
+-- so its description is one, and so are its other records
+described : {A : Type 0} (says : A → Answer) (f : Description → A) (refuse : Refusal → A) → ((why : Refusal) → says (refuse why) ≡ Refused why)
+    → (x : Answer) (d : Description) → says (ifDescribed f refuse x d) ≡ Done → x ≡ Done
+described says f refuse h Done d e = refl
+described says f refuse h (Refused why) d e = absurd (refused-done why (sym (h why) ∙ e))
 
--- a description that is none is refused, and so is a record that is none
-described : (f : Description → Answered) (buffer : List ℕ) (x : Answer) (d : Description)
-    → ifDescribed f (λ why. callRefused why buffer) x d .result ≡ 0 → x ≡ Done
-described f buffer Done d e = refl
-described f buffer (Refused why) d e = absurd (packed-some why e)
-
-formed : (t : Bool) (x : Answered) (buffer : List ℕ) → cond t x (callRefused OutOfDomain buffer) .result ≡ 0 → t ≡ true
-formed true x buffer e = refl
-formed false x buffer e = absurd (packed-some OutOfDomain e)
+formed : {A : Type 0} (says : A → Answer) (good bad : A) (why : Refusal) → says bad ≡ Refused why → (t : Bool) → says (cond t good bad) ≡ Done → t ≡ true
+formed says good bad why h true e = refl
+formed says good bad why h false e = absurd (refused-done why (sym h ∙ e))
 
 -- a record that is written stands at the front of its buffer
 front : (bytes buffer : List ℕ) (size : ℕ) (t : Bool) → length bytes ≡ size
-    → cond t (callRefused ShortBuffer buffer) (answer 0 (bytes ++ drop size buffer)) .result ≡ 0
-    → take size (cond t (callRefused ShortBuffer buffer) (answer 0 (bytes ++ drop size buffer)) .buffer) ≡ bytes
-front bytes buffer size true l e = absurd (packed-some ShortBuffer e)
+    → cond t (callRefused ShortBuffer buffer) (answered Done (bytes ++ drop size buffer)) .answer ≡ Done
+    → take size (cond t (callRefused ShortBuffer buffer) (answered Done (bytes ++ drop size buffer)) .buffer) ≡ bytes
+front bytes buffer size true l e = absurd (refused-done ShortBuffer e)
 front bytes buffer size false l e = take-at bytes (drop size buffer) size l
 
 addr-long : (l : AddrLayout) → length (layoutBytes l) ≡ addrSize
@@ -82,16 +76,16 @@ cs-data-long : (l : CsDataLayout) → length (csDataBytes l) ≡ csDataSize
 unfolding csDataFormed
 cs-data-long l = eqb-true (length (csDataBytes l)) csDataSize (and-left _ _ (cs-data-formed l))
 
--- a search that returns 0 has found a layout, and its record is the buffer's front
-addr-found : (o : AddrOutcome) (l : AddrLayout) (buffer : List ℕ) → addrOutcome o l buffer .result ≡ 0
+-- a search that is done has found a layout, and its record is the buffer's front
+addr-found : (o : AddrOutcome) (l : AddrLayout) (buffer : List ℕ) → addrOutcome o l buffer .answer ≡ Done
     → (o ≡ AddrOutcome.LaidOut) × (take addrSize (addrOutcome o l buffer .buffer) ≡ layoutBytes l)
 addr-found AddrOutcome.LaidOut l buffer e = (refl, front (layoutBytes l) buffer addrSize (ltb (length buffer) addrSize) (addr-long l) e)
-addr-found (AddrOutcome.Refused why) l buffer e = absurd (packed-some why e)
+addr-found (AddrOutcome.Refused why) l buffer e = absurd (refused-done why e)
 
-cs-data-found : (o : CsDataOutcome) (l : CsDataLayout) (buffer : List ℕ) → csDataOutcome o l buffer .result ≡ 0
+cs-data-found : (o : CsDataOutcome) (l : CsDataLayout) (buffer : List ℕ) → csDataOutcome o l buffer .answer ≡ Done
     → (o ≡ CsDataOutcome.LaidOut) × (take csDataSize (csDataOutcome o l buffer .buffer) ≡ csDataBytes l)
 cs-data-found CsDataOutcome.LaidOut l buffer e = (refl, front (csDataBytes l) buffer csDataSize (ltb (length buffer) csDataSize) (cs-data-long l) e)
-cs-data-found (CsDataOutcome.Refused why) l buffer e = absurd (packed-some why e)
+cs-data-found (CsDataOutcome.Refused why) l buffer e = absurd (refused-done why e)
 
 -- a search that found a layout had a description in the domain
 searched : (d : Description) (l : AddrLayout) (t : Bool) → addrSearchIn d ≡ t
@@ -107,11 +101,15 @@ module _ (b : Bench) (ok : FourCalls.Accepted b) where
   abbrev d : Description
   d = decodedOf (b .description) .description
 
-  addressed-is : (decodedOf (b .description) .answer ≡ Done) × (addressed b ≡ addrFound (addrAnswer d) (b .addr-buffer))
+  abbrev searched-addr : Answered
+  searched-addr = addrCall (b .description) (b .addr-buffer)
+
+  addressed-is : (decodedOf (b .description) .answer ≡ Done) × (searched-addr ≡ addrFound (addrAnswer d) (b .addr-buffer))
   unfolding addrCall
   addressed-is =
-      let done = described (λ d. addrFound (addrAnswer d) (b .addr-buffer)) (b .addr-buffer) (decodedOf (b .description) .answer) d (ok .address) in
-      (done, rw done)
+      let is-done = done-alone (searched-addr .answer) (ok .address) in
+      let record-is = described (λ (x : Answered). x .answer) (λ d. addrFound (addrAnswer d) (b .addr-buffer)) (λ why. callRefused why (b .addr-buffer)) (λ why. refl) (decodedOf (b .description) .answer) d is-done in
+      (record-is, rw record-is)
 
   abbrev done : decodedOf (b .description) .answer ≡ Done
   done = addressed-is .0
@@ -122,7 +120,8 @@ module _ (b : Bench) (ok : FourCalls.Accepted b) where
   address : (addrAnswer d ≡ laidOut a) × (addrRecord b ≡ layoutBytes a)
   address =
       let is = addressed-is .1 in
-      let (laid, at-front) = addr-found (addrAnswer d .outcome) a (b .addr-buffer) (ap (λ (x : Answered). x .result) (sym is) ∙ ok .address) in
+      let is-done = ap (λ (x : Answered). x .answer) (sym is) ∙ done-alone (searched-addr .answer) (ok .address) in
+      let (laid, at-front) = addr-found (addrAnswer d .outcome) a (b .addr-buffer) is-done in
       (ap (λ (o : AddrOutcome). record { outcome = o; layout = a }) laid, ap (λ (x : Answered). take addrSize (x .buffer)) is ∙ at-front)
 
   addr-back : layoutAt (addrRecord b) ≡ a
@@ -138,9 +137,14 @@ module _ (b : Bench) (ok : FourCalls.Accepted b) where
       ap (λ (t : Bool). record { given = not t; layout = layoutAt (addrRecord b) }) some
       ∙ ap (λ (l : AddrLayout). record { given = true; layout = l }) addr-back
 
-  selected-is : selected b ≡ csDataFound (csDataAnswer d (givenAt (addrRecord b))) (b .cs-data-buffer)
+  abbrev searched-cs : Answered
+  searched-cs = csDataCall (b .description) (addrRecord b) (b .cs-data-buffer)
+
+  selected-is : searched-cs ≡ csDataFound (csDataAnswer d (givenAt (addrRecord b))) (b .cs-data-buffer)
   unfolding csDataCall
-  selected-is = rw (formed (givenFormed (addrRecord b)) _ (b .cs-data-buffer) (ok .select), done)
+  selected-is =
+      let is-record = formed (λ (x : Answered). x .answer) _ (callRefused OutOfDomain (b .cs-data-buffer)) OutOfDomain refl (givenFormed (addrRecord b)) (done-alone (searched-cs .answer) (ok .select)) in
+      rw (is-record, done)
 
   abbrev c : CsDataLayout
   c = csDataAnswer d (record { given = true; layout = a }) .layout
@@ -148,7 +152,7 @@ module _ (b : Bench) (ok : FourCalls.Accepted b) where
   select : (csDataAnswer d (record { given = true; layout = a }) ≡ csLaidOut c) × (csDataRecord b ≡ csDataBytes c)
   select =
       let is = selected-is ∙ ap (λ (g : GivenLayout). csDataFound (csDataAnswer d g) (b .cs-data-buffer)) given in
-      let (laid, at-front) = cs-data-found (csDataAnswer d (record { given = true; layout = a }) .outcome) c (b .cs-data-buffer) (ap (λ (x : Answered). x .result) (sym is) ∙ ok .select) in
+      let (laid, at-front) = cs-data-found (csDataAnswer d (record { given = true; layout = a }) .outcome) c (b .cs-data-buffer) (ap (λ (x : Answered). x .answer) (sym is) ∙ done-alone (searched-cs .answer) (ok .select)) in
       (ap (λ (o : CsDataOutcome). record { outcome = o; layout = c }) laid, ap (λ (x : Answered). take csDataSize (x .buffer)) is ∙ at-front)
 
   cs-data-back-at : csDataAt (csDataRecord b) ≡ c
@@ -157,24 +161,29 @@ module _ (b : Bench) (ok : FourCalls.Accepted b) where
       ap csDataAt (select .1) ∙ cs-data-back c (subst ValuedCsData (sym (best .layout)) (cs-data-valued d a k))
 
   -- the build is given both
-  built-is : built b ≡ buildFound (buildOf (slotArgs b) (b .images) (b .table))
+  abbrev made : Built
+  made = buildCall (b .description) (addrRecord b) (csDataRecord b) (b .spans) (b .images) (b .table)
+
+  built-is : made ≡ buildOf (slotArgs b) (b .images) (b .table)
   unfolding buildCall
-  built-is = rw (formed (buildFormed (addrRecord b) (csDataRecord b) (b .spans)) _ (b .table) (ok .build), done)
+  built-is =
+      let is-record = formed (λ (x : Built). x .answer) _ (buildRefused OutOfDomain (b .table)) OutOfDomain refl (buildFormed (addrRecord b) (csDataRecord b) (b .spans)) (done-alone (made .answer) (ok .build)) in
+      rw (is-record, done)
 
   accepted : Accepted (slotArgs b) (b .images) (b .table)
   accepted = record {
     address = address .0 ∙ ap laidOut (sym addr-back);
     select =
         ap (λ (l : AddrLayout). csDataAnswer d (record { given = true; layout = l })) addr-back ∙ select .0 ∙ ap csLaidOut (sym cs-data-back-at);
-    build = answer-done _ (ap (λ (x : Answered). x .result) (sym built-is) ∙ ok .build);
+    build = ap (λ (x : Built). x .answer) (sym built-is) ∙ done-alone (made .answer) (ok .build);
   }
 
   table-is : stored b ≡ tableBuilt (slotArgs b) (b .images) (b .table)
-  table-is = ap (λ (x : Answered). take (tableSize (slotArgs b .description) (slotArgs b .addr)) (x .buffer)) built-is
+  table-is = ap (λ (x : Built). take (tableSize (slotArgs b .description) (slotArgs b .addr)) (x .table)) built-is
 
 pub four-calls : FourCalls.FourCalls
 unfolding readBackCall packedCode
 four-calls b slot output marks bytes ok wired given room =
     let read = round-trip (slotArgs b) (b .images) (b .table) (storedAt slot) output marks bytes (given .says) (given .unforced) (accepted b ok) wired room in
     rw (given .formed)
-    (ap (λ (t : List ℕ). readFound (unscrambled (storedAt slot) t output marks)) (table-is b ok) ∙ ap readFound read)
+    (ap (λ (t : List ℕ). readResult (unscrambled (storedAt slot) t output marks)) (table-is b ok) ∙ ap readResult read)

@@ -44,8 +44,8 @@ use Rattle.stored_slot.specs.declared.stored.StoredSlot.{StoredSlot}
 use Rattle.stored_slot.specs.declared.stored.SlotType.{SlotType}
 use Rattle.stored_slot.specs.declared.stored.SlotType.the-variants.{Unknown, Plugin, Roms}
 use Rattle.unscramble.specs.Recovered.{firstFor, keptValue, disagreesFor, inconsistent, unserved, readBack, readRefused, front, afterEntries, readAfter, ofType, unscrambled}
-use Rattle.onerom.specs.Packed.{packed, packedCode, resultOf}
-use Rattle.onerom.specs.Calls.{Answered, answer, callRefused, written, ifDescribed, ifRecord, addrOutcome, addrFound, addrCall, csDataOutcome, csDataFound, csDataCall, buildFound, buildFrom, buildFormed, buildCall, readAnswer, readFound, readBackCall}
+use Rattle.onerom.specs.Packed.{packed, packedCode}
+use Rattle.onerom.specs.Calls.{Answered, answered, callRefused, written, ifDescribed, ifRecord, addrOutcome, addrFound, addrCall, csDataOutcome, csDataFound, csDataCall, buildFrom, buildFormed, buildRefused, buildCall, readBackCall, searchResult, buildResult, readResult}
 use Rattle.demands.specs.Refused.{numberIn, FromTable, Ends, ReadEnds, FirstDemand}
 use Rattle.demands.specs.Refused as ends
 
@@ -57,42 +57,47 @@ from-table : (why : Refusal) → FromTable (packed why)
 from-table why = let n = number-law why in (rw (number-of why) (n .some), rw (number-of why) (n .most))
 
 -- a refusal leaves the buffer
-stays : (why : Refusal) (buffer : List ℕ) → Ends buffer (callRefused why buffer)
+stays : (why : Refusal) (buffer : List ℕ) → Ends buffer (searchResult (callRefused why buffer))
 stays why buffer = ends.Ends.refused (from-table why) refl
 
-written-ends : (bytes buffer : List ℕ) (size : ℕ) (t : Bool) → Ends buffer (cond t (callRefused ShortBuffer buffer) (answer 0 (bytes ++ drop size buffer)))
+written-ends : (bytes buffer : List ℕ) (size : ℕ) (t : Bool) → Ends buffer (searchResult (cond t (callRefused ShortBuffer buffer) (answered Done (bytes ++ drop size buffer))))
+unfolding packedCode
 written-ends bytes buffer size true = stays ShortBuffer buffer
 written-ends bytes buffer size false = ends.Ends.done refl
 
-formed-ends : (t : Bool) (x : Answered) (buffer : List ℕ) → Ends buffer x → Ends buffer (cond t x (callRefused OutOfDomain buffer))
-formed-ends true x buffer e = e
-formed-ends false x buffer e = stays OutOfDomain buffer
+-- what is tested before ends so, and what it is tested for
+formed-ends : {A : Type 0} (Ok : A → Type 0) (t : Bool) (good bad : A) → Ok good → Ok bad → Ok (cond t good bad)
+formed-ends Ok true good bad g b = g
+formed-ends Ok false good bad g b = b
 
-described-ends : (f : Description → Answered) (buffer : List ℕ) → ((d : Description) → Ends buffer (f d)) → (x : Answer) (d : Description)
-    → Ends buffer (ifDescribed f (λ why. callRefused why buffer) x d)
-described-ends f buffer h Done d = h d
-described-ends f buffer h (Refused why) d = stays why buffer
+described-ends : {A : Type 0} (Ok : A → Type 0) (f : Description → A) (refuse : Refusal → A) → ((d : Description) → Ok (f d)) → ((why : Refusal) → Ok (refuse why))
+    → (description : List ℕ) → Ok (ifRecord f refuse (decodedOf description))
+described-ends Ok f refuse h r description = by (decodedOf description .answer)
+  where
+    by : (x : Answer) → Ok (ifDescribed f refuse x (decodedOf description .description))
+    by Done = h (decodedOf description .description)
+    by (Refused why) = r why
 
 -- the searches
-addr-ends : (o : AddrOutcome) (l : AddrLayout) (buffer : List ℕ) → Ends buffer (addrOutcome o l buffer)
+addr-ends : (o : AddrOutcome) (l : AddrLayout) (buffer : List ℕ) → Ends buffer (searchResult (addrOutcome o l buffer))
 addr-ends AddrOutcome.LaidOut l buffer = written-ends (layoutBytes l) buffer addrSize (ltb (length buffer) addrSize)
 addr-ends (AddrOutcome.Refused why) l buffer = stays why buffer
 
-cs-data-ends : (o : CsDataOutcome) (l : CsDataLayout) (buffer : List ℕ) → Ends buffer (csDataOutcome o l buffer)
+cs-data-ends : (o : CsDataOutcome) (l : CsDataLayout) (buffer : List ℕ) → Ends buffer (searchResult (csDataOutcome o l buffer))
 cs-data-ends CsDataOutcome.LaidOut l buffer = written-ends (csDataBytes l) buffer csDataSize (ltb (length buffer) csDataSize)
 cs-data-ends (CsDataOutcome.Refused why) l buffer = stays why buffer
 
 -- the build
-after-ends : (b : BuildArgs) (images table : List ℕ) (f : FirstFault) → Ends table (buildFound (buildAfter b images table f))
+after-ends : (b : BuildArgs) (images table : List ℕ) (f : FirstFault) → Ends table (buildResult (buildAfter b images table f))
 unfolding packedCode
 after-ends b images table (Of why) = stays why table
 after-ends b images table None = ends.Ends.done refl
 
-build-ends : (b : BuildArgs) (images table : List ℕ) → Ends table (buildFound (buildOf b images table))
+build-ends : (b : BuildArgs) (images table : List ℕ) → Ends table (buildResult (buildOf b images table))
 unfolding buildOf
 build-ends b images table = by (buildIn b)
   where
-    by : (t : Bool) → Ends table (buildFound (cond t (buildAfter b images table (buildFault b images (length table))) (built (Refused OutOfDomain) table)))
+    by : (t : Bool) → Ends table (buildResult (cond t (buildAfter b images table (buildFault b images (length table))) (built (Refused OutOfDomain) table)))
     by true = after-ends b images table (buildFault b images (length table))
     by false = stays OutOfDomain table
 
@@ -115,7 +120,7 @@ told-first zero f h = tt
 told-first (suc n) f h = told-or (firstOf n f) (f n) (told-first n f h) (h n)
 
 module _ (s : StoredSlot) (stored output marks : List ℕ) where
-  read-stays : (why : Refusal) → ReadEnds s output marks (readFound (readRefused why output marks))
+  read-stays : (why : Refusal) → ReadEnds s output marks (readResult (readRefused why output marks))
   read-stays why = ends.ReadEnds.refused (from-table why) refl refl
 
   told-entries : (set : ChipSetType) → Told (orElse (inconsistent s set stored) (unserved s set))
@@ -130,58 +135,57 @@ module _ (s : StoredSlot) (stored output marks : List ℕ) where
           let n = addressAt s rom i in
           told-if (serves s set rom n i && not (eqb (valueAt s stored rom i) (keptValue s set stored rom n))) (Inconsistent rom n) (inl refl)
 
-  entries-end : (set : ChipSetType) (f : FirstFault) → Told f → ReadEnds s output marks (readFound (afterEntries s set stored output marks f))
+  entries-end : (set : ChipSetType) (f : FirstFault) → Told f → ReadEnds s output marks (readResult (afterEntries s set stored output marks f))
   unfolding packedCode
   entries-end set None t = ends.ReadEnds.done refl
   entries-end set (Of why) (inl e) = ends.ReadEnds.cleared (inl (number-of why ∙ e)) refl refl
   entries-end set (Of why) (inr e) = ends.ReadEnds.cleared (inr (number-of why ∙ e)) refl refl
 
-  roms-end : (set : ChipSetType) (f : FirstFault) → ReadEnds s output marks (readFound (readAfter s set stored output marks f))
+  roms-end : (set : ChipSetType) (f : FirstFault) → ReadEnds s output marks (readResult (readAfter s set stored output marks f))
   roms-end set (Of why) = read-stays why
   roms-end set None = entries-end set (orElse (inconsistent s set stored) (unserved s set)) (told-entries set)
 
-  plugin-end : (t : Bool) → ReadEnds s output marks (readFound (cond t (readRefused ShortBuffer output marks) (readBack Done (front stored output) marks)))
+  plugin-end : (t : Bool) → ReadEnds s output marks (readResult (cond t (readRefused ShortBuffer output marks) (readBack Done (front stored output) marks)))
   unfolding packedCode
   plugin-end true = read-stays ShortBuffer
   plugin-end false = ends.ReadEnds.done refl
 
-  type-end : (t : SlotType) → ReadEnds s output marks (readFound (ofType s stored output marks t))
+  type-end : (t : SlotType) → ReadEnds s output marks (readResult (ofType s stored output marks t))
   type-end Unknown = read-stays UnknownSlotType
   type-end Plugin = plugin-end (ltb (length output) (length stored))
   type-end (Roms set) = roms-end set (romsFault s set stored (length output) (length marks))
 
   tested-end : (in-domain wrong : Bool)
-      → ReadEnds s output marks (readFound (cond in-domain (cond wrong (readRefused WrongSize output marks) (ofType s stored output marks (s .«slot_type»))) (readRefused OutOfDomain output marks)))
+      → ReadEnds s output marks (readResult (cond in-domain (cond wrong (readRefused WrongSize output marks) (ofType s stored output marks (s .«slot_type»))) (readRefused OutOfDomain output marks)))
   tested-end false wrong = read-stays OutOfDomain
   tested-end true true = read-stays WrongSize
   tested-end true false = type-end (s .«slot_type»)
 
-  read-end : ReadEnds s output marks (readFound (unscrambled s stored output marks))
+  read-end : ReadEnds s output marks (readResult (unscrambled s stored output marks))
   unfolding unscrambled
   read-end = tested-end (storedIn s) (wrongSize s stored)
 
 formed-end : (t : Bool) (s : StoredSlot) (stored output marks : List ℕ)
-    → ReadEnds s output marks (cond t (readFound (unscrambled s stored output marks)) (readAnswer (packed OutOfDomain) output marks))
+    → ReadEnds s output marks (readResult (cond t (unscrambled s stored output marks) (readRefused OutOfDomain output marks)))
 formed-end true s stored output marks = read-end s stored output marks
 formed-end false s stored output marks = read-stays s stored output marks OutOfDomain
-
--- over a description's bytes
-described-by : (f : Description → Answered) (description buffer : List ℕ) → ((d : Description) → Ends buffer (f d))
-    → Ends buffer (ifRecord f (λ why. callRefused why buffer) (decodedOf description))
-described-by f description buffer h = described-ends f buffer h (decodedOf description .answer) (decodedOf description .description)
 
 pub first-demand : FirstDemand
 unfolding addrCall csDataCall buildCall readBackCall
 first-demand = record {
   address = λ description layout.
-      described-by (λ d. addrFound (addrAnswer d) layout) description layout (λ d. addr-ends (addrAnswer d .outcome) (addrAnswer d .layout) layout);
+      described-ends (λ x. Ends layout (searchResult x)) (λ d. addrFound (addrAnswer d) layout) (λ why. callRefused why layout)
+      (λ d. addr-ends (addrAnswer d .outcome) (addrAnswer d .layout) layout) (λ why. stays why layout) description;
   select = λ description addr-layout layout.
       let given = givenAt addr-layout in
-      formed-ends (givenFormed addr-layout) _ layout
-      (described-by (λ d. csDataFound (csDataAnswer d given) layout) description layout (λ d. cs-data-ends (csDataAnswer d given .outcome) (csDataAnswer d given .layout) layout));
+      formed-ends (λ x. Ends layout (searchResult x)) (givenFormed addr-layout) _ _
+      (described-ends (λ x. Ends layout (searchResult x)) (λ d. csDataFound (csDataAnswer d given) layout) (λ why. callRefused why layout)
+      (λ d. cs-data-ends (csDataAnswer d given .outcome) (csDataAnswer d given .layout) layout) (λ why. stays why layout) description)
+      (stays OutOfDomain layout);
   build = λ description addr-layout cs-data-layout spans images table.
-      formed-ends (buildFormed addr-layout cs-data-layout spans) _ table
-      (described-by (λ d. buildFrom d addr-layout cs-data-layout spans images table) description table
-      (λ d. build-ends (argsOf d (layoutAt addr-layout) (csDataAt cs-data-layout) (spansAt spans)) images table));
+      formed-ends (λ x. Ends table (buildResult x)) (buildFormed addr-layout cs-data-layout spans) _ _
+      (described-ends (λ x. Ends table (buildResult x)) (λ d. buildFrom d addr-layout cs-data-layout spans images table) (λ why. buildRefused why table)
+      (λ d. build-ends (argsOf d (layoutAt addr-layout) (csDataAt cs-data-layout) (spansAt spans)) images table) (λ why. stays why table) description)
+      (stays OutOfDomain table);
   read-back = λ slot stored output marks. formed-end (storedFormed slot) (storedAt slot) stored output marks;
 }

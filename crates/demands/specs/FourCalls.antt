@@ -17,7 +17,7 @@ use Rattle.image_record.specs.ImageRecord.{spansAt}
 use Rattle.stored_record.specs.StoredRecord.{storedAt, storedFormed}
 use Rattle.round_trip.specs.WellWired.{WellWired, StoredAs, Unforced}
 use Rattle.round_trip.specs.RoundTrip.{Room, returnedWhole}
-use Rattle.onerom.specs.Calls.{Answered, ReadAnswered, readAnswer, addrCall, csDataCall, buildCall, readBackCall}
+use Rattle.onerom.specs.Calls.{addrCall, csDataCall, buildCall, readBackCall, Returned, searchResult, buildResult, readReturned, readResult}
 
 -- what the bench hands in and lends
 pub record Bench : Type 0 where
@@ -29,22 +29,22 @@ pub record Bench : Type 0 where
   pub cs-data-buffer : List ℕ
   pub table : List ℕ
 
--- the calls in turn
-abbrev pub addressed : Bench → Answered
-addressed b = addrCall (b .description) (b .addr-buffer)
+-- what the calls return, in turn
+abbrev pub addressed : Bench → Returned
+addressed b = searchResult (addrCall (b .description) (b .addr-buffer))
 
 -- the record of the layout found: the front of the buffer
 abbrev pub addrRecord : Bench → List ℕ
 addrRecord b = take addrSize (addressed b .buffer)
 
-abbrev pub selected : Bench → Answered
-selected b = csDataCall (b .description) (addrRecord b) (b .cs-data-buffer)
+abbrev pub selected : Bench → Returned
+selected b = searchResult (csDataCall (b .description) (addrRecord b) (b .cs-data-buffer))
 
 abbrev pub csDataRecord : Bench → List ℕ
 csDataRecord b = take csDataSize (selected b .buffer)
 
-abbrev pub built : Bench → Answered
-built b = buildCall (b .description) (addrRecord b) (csDataRecord b) (b .spans) (b .images) (b .table)
+abbrev pub built : Bench → Returned
+built b = buildResult (buildCall (b .description) (addrRecord b) (csDataRecord b) (b .spans) (b .images) (b .table))
 
 -- 00 Demand 3: both searches and the build accept
 pub record Accepted (b : Bench) : Type 0 where
@@ -74,5 +74,5 @@ FourCalls =
     (b : Bench) (slot output marks : List ℕ) → ((k : ℕ) → getD (b .images) k 0 < 256)
     → Accepted b → WellWired (slotArgs b .description) (slotArgs b .addr) → SlotRecord b slot
     → Room (slotArgs b .description) (slotArgs b .addr) output marks
-    → readBackCall slot (stored b) output marks
-    ≡ readAnswer 0 (returnedWhole (slotArgs b) (b .images) output marks .output) (returnedWhole (slotArgs b) (b .images) output marks .marks)
+    → readResult (readBackCall slot (stored b) output marks)
+    ≡ readReturned 0 (returnedWhole (slotArgs b) (b .images) output marks .output) (returnedWhole (slotArgs b) (b .images) output marks .marks)

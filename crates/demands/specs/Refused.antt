@@ -10,7 +10,7 @@ use Rattle.stored_slot.specs.Words.{allWords}
 use Rattle.stored_slot.specs.declared.stored.StoredSlot.{StoredSlot}
 use Rattle.stored_record.specs.StoredRecord.{storedAt}
 use Rattle.unscramble.specs.Recovered.{front}
-use Rattle.onerom.specs.Calls.{Answered, ReadAnswered, addrCall, csDataCall, buildCall, readBackCall}
+use Rattle.onerom.specs.Calls.{addrCall, csDataCall, buildCall, readBackCall, Returned, ReadReturned, searchResult, buildResult, readResult}
 
 -- 01 Numbers 1: the number of a refusal, in the result
 abbrev pub numberIn : ℕ → ℕ
@@ -21,13 +21,13 @@ abbrev pub FromTable : ℕ → Type 0
 FromTable result = (1 ≤ numberIn result) × (numberIn result ≤ 25)
 
 -- how a call with one lent buffer ends
-pub data Ends (lent : List ℕ) (r : Answered) : Type 0 where
+pub data Ends (lent : List ℕ) (r : Returned) : Type 0 where
   done : r .result ≡ 0 → Ends lent r
   -- 01 Numbers 5: a refusal leaves the buffer as it was
   refused : FromTable (r .result) → r .buffer ≡ lent → Ends lent r
 
 -- how a read-back of slot s ends
-pub data ReadEnds (s : StoredSlot) (output marks : List ℕ) (r : ReadAnswered) : Type 0 where
+pub data ReadEnds (s : StoredSlot) (output marks : List ℕ) (r : ReadReturned) : Type 0 where
   done : r .result ≡ 0 → ReadEnds s output marks r
   -- 01 Numbers 5: so does every refusal of a read-back but 23 and 24
   refused : FromTable (r .result) → r .output ≡ output → r .marks ≡ marks → ReadEnds s output marks r
@@ -37,8 +37,8 @@ pub data ReadEnds (s : StoredSlot) (output marks : List ℕ) (r : ReadAnswered) 
 
 -- 00 Demand 1: for all bytes handed in and all buffers
 pub record FirstDemand : Type 0 where
-  pub address : (description layout : List ℕ) → Ends layout (addrCall description layout)
-  pub select : (description addr-layout layout : List ℕ) → Ends layout (csDataCall description addr-layout layout)
+  pub address : (description layout : List ℕ) → Ends layout (searchResult (addrCall description layout))
+  pub select : (description addr-layout layout : List ℕ) → Ends layout (searchResult (csDataCall description addr-layout layout))
   pub build : (description addr-layout cs-data-layout spans images table : List ℕ)
-      → Ends table (buildCall description addr-layout cs-data-layout spans images table)
-  pub read-back : (slot stored output marks : List ℕ) → ReadEnds (storedAt slot) output marks (readBackCall slot stored output marks)
+      → Ends table (buildResult (buildCall description addr-layout cs-data-layout spans images table))
+  pub read-back : (slot stored output marks : List ℕ) → ReadEnds (storedAt slot) output marks (readResult (readBackCall slot stored output marks))

@@ -1,4 +1,4 @@
--- What each call answers: its result, and what the buffers lent to it hold then. Assumes nothing.
+-- What each call answers, and what the buffers lent to it hold then; and what its caller gets of that. Assumes nothing.
 use Prim.Native.Nat.{ℕ}
 use mathlib.Core.Path.{_≡_}
 use mathlib.Core.Bool.{Bool, true, _&&_, cond}
@@ -20,32 +20,33 @@ use Rattle.cs_data_layout.specs.declared.layout.CsDataLayout.{CsDataLayout}
 use Rattle.cs_data_layout.specs.declared.layout.CsDataOutcome.{CsDataOutcome}
 use Rattle.cs_data_layout.specs.declared.layout.CsDataAnswer.{CsDataAnswer}
 use Rattle.build_args.specs.Args.{argsOf}
-use Rattle.rom_image.specs.Build.{Built, buildOf}
+use Rattle.rom_image.specs.Build.{Built, built, buildOf}
 use Rattle.addr_record.specs.AddrRecord.{addrSize, layoutBytes, layoutAt, layoutFormed, givenAt, givenFormed}
 use Rattle.cs_data_record.specs.CsDataRecord.{csDataSize, csDataBytes, csDataAt, csDataFormed}
 use Rattle.image_record.specs.ImageRecord.{spansAt, spansFormed}
 use Rattle.stored_record.specs.StoredRecord.{storedAt, storedFormed}
-use Rattle.unscramble.specs.Recovered.{ReadBack, unscrambled}
+use Rattle.unscramble.specs.Recovered.{ReadBack, readRefused, unscrambled}
 use Rattle.round_trip.specs.WellWired.{WellWired}
 use Rattle.round_trip.specs.RoundTrip.{Accepted, Room, returnedWhole}
-use Rattle.round_trip.specs.Chain.{Trip, roundTripOf}
-use Rattle.onerom.specs.Packed.{packed, resultOf}
+use Rattle.round_trip.specs.Chain.{Trip, stopped, roundTripOf}
+use Rattle.onerom.specs.Packed.{resultOf}
 
+-- a search's call is lent one buffer
 pub record Answered : Type 0 where
-  pub result : ℕ
+  pub answer : Answer
   pub buffer : List ℕ
 
-abbrev pub answer : ℕ → List ℕ → Answered
-answer r b = record { result = r; buffer = b }
+abbrev pub answered : Answer → List ℕ → Answered
+answered a b = record { answer = a; buffer = b }
 
 -- 01 Numbers 5: a refused call leaves its buffer as it was lent
 abbrev pub callRefused : Refusal → List ℕ → Answered
-callRefused why buffer = answer (packed why) buffer
+callRefused why buffer = answered (Answer.Refused why) buffer
 
 -- 01 Number 16: the buffer has fewer bytes than the record
 -- 01 Numbers 7: the buffer's bytes behind the record stay
 abbrev pub written : ℕ → List ℕ → List ℕ → Answered
-written size bytes buffer = cond (ltb (length buffer) size) (callRefused ShortBuffer buffer) (answer 0 (bytes ++ drop size buffer))
+written size bytes buffer = cond (ltb (length buffer) size) (callRefused ShortBuffer buffer) (answered Answer.Done (bytes ++ drop size buffer))
 
 -- 01 Number 1: the bytes are no description record
 -- 01 Numbers 2: such bytes are refused before anything is done with a description
@@ -82,85 +83,95 @@ csDataCall description layout buffer =
     (ifRecord (λ d. csDataFound (csDataAnswer d (givenAt layout)) buffer) (λ why. callRefused why buffer) (decodedOf description))
     (callRefused OutOfDomain buffer)
 
--- a build says itself what its table holds
-abbrev pub buildFound : Built → Answered
-buildFound b = answer (resultOf (b .answer)) (b .table)
-
 -- both layouts and the spans: here each has to be a record
 abbrev pub buildFormed : List ℕ → List ℕ → List ℕ → Bool
 buildFormed addr csData spans = layoutFormed addr && csDataFormed csData && spansFormed spans
 
-abbrev pub buildFrom : Description → List ℕ → List ℕ → List ℕ → List ℕ → List ℕ → Answered
-buildFrom d addr csData spans images table =
-    buildFound (buildOf (argsOf d (layoutAt addr) (csDataAt csData) (spansAt spans)) images table)
+-- a build says itself what its table holds
+abbrev pub buildFrom : Description → List ℕ → List ℕ → List ℕ → List ℕ → List ℕ → Built
+buildFrom d addr csData spans images table = buildOf (argsOf d (layoutAt addr) (csDataAt csData) (spansAt spans)) images table
+
+abbrev pub buildRefused : Refusal → List ℕ → Built
+buildRefused why table = built (Answer.Refused why) table
 
 -- `onerom_build_rom_image` of the bytes of a description, of both layouts and of the spans, of the chips' bytes, and of a lent table
-unfoldable pub buildCall : List ℕ → List ℕ → List ℕ → List ℕ → List ℕ → List ℕ → Answered
+unfoldable pub buildCall : List ℕ → List ℕ → List ℕ → List ℕ → List ℕ → List ℕ → Built
 buildCall description addr csData spans images table =
     cond (buildFormed addr csData spans)
-    (ifRecord (λ d. buildFrom d addr csData spans images table) (λ why. callRefused why table) (decodedOf description))
-    (callRefused OutOfDomain table)
-
--- 01 Shape 2: read-back is lent two buffers, an output for all chips and the marks of their words
-pub record ReadAnswered : Type 0 where
-  pub result : ℕ
-  pub output : List ℕ
-  pub marks : List ℕ
-
-abbrev pub readAnswer : ℕ → List ℕ → List ℕ → ReadAnswered
-readAnswer r o m = record { result = r; output = o; marks = m }
+    (ifRecord (λ d. buildFrom d addr csData spans images table) (λ why. buildRefused why table) (decodedOf description))
+    (buildRefused OutOfDomain table)
 
 -- 01 Numbers 5: read-back says itself what its buffers hold, since 23 and 24 do write
-abbrev pub readFound : ReadBack → ReadAnswered
-readFound b = readAnswer (resultOf (b .answer)) (b .output) (b .marks)
-
-abbrev pub readFrom : List ℕ → List ℕ → List ℕ → List ℕ → ReadAnswered
-readFrom slot stored output marks = readFound (unscrambled (storedAt slot) stored output marks)
+abbrev pub readFrom : List ℕ → List ℕ → List ℕ → List ℕ → ReadBack
+readFrom slot stored output marks = unscrambled (storedAt slot) stored output marks
 
 -- `onerom_unscramble_slot` of a stored slot's bytes, of its table, and of two lent buffers
 -- 01 Number 1: the bytes are no stored slot record
 -- 01 Numbers 2: such bytes are refused before anything is done with a slot
-unfoldable pub readBackCall : List ℕ → List ℕ → List ℕ → List ℕ → ReadAnswered
+unfoldable pub readBackCall : List ℕ → List ℕ → List ℕ → List ℕ → ReadBack
 readBackCall slot stored output marks =
     cond (storedFormed slot)
     (readFrom slot stored output marks)
-    (readAnswer (packed OutOfDomain) output marks)
+    (readRefused OutOfDomain output marks)
 
 -- both searches, the build and read-back in turn, on three buffers
-pub record TripAnswered : Type 0 where
+abbrev pub tripFrom : Description → List ℕ → List ℕ → List ℕ → List ℕ → List ℕ → Trip
+tripFrom d spans images table output marks = roundTripOf d images (spansAt spans) table output marks
+
+-- `onerom_round_trip` of the bytes of a description and of the spans, of the chips' bytes, and of the lent table, output and marks
+unfoldable pub tripCall : List ℕ → List ℕ → List ℕ → List ℕ → List ℕ → List ℕ → Trip
+tripCall description spans images table output marks =
+    cond (spansFormed spans)
+    (ifRecord (λ d. tripFrom d spans images table output marks) (λ why. stopped why table output marks) (decodedOf description))
+    (stopped OutOfDomain table output marks)
+
+-- what a caller gets: the answer as one number, and the buffers
+pub record Returned : Type 0 where
+  pub result : ℕ
+  pub buffer : List ℕ
+
+abbrev pub returned : ℕ → List ℕ → Returned
+returned r b = record { result = r; buffer = b }
+
+abbrev pub searchResult : Answered → Returned
+searchResult x = returned (resultOf (x .answer)) (x .buffer)
+
+abbrev pub buildResult : Built → Returned
+buildResult x = returned (resultOf (x .answer)) (x .table)
+
+-- 01 Shape 2: read-back is lent two buffers, an output for all chips and the marks of their words
+pub record ReadReturned : Type 0 where
+  pub result : ℕ
+  pub output : List ℕ
+  pub marks : List ℕ
+
+abbrev pub readReturned : ℕ → List ℕ → List ℕ → ReadReturned
+readReturned r o m = record { result = r; output = o; marks = m }
+
+abbrev pub readResult : ReadBack → ReadReturned
+readResult x = readReturned (resultOf (x .answer)) (x .output) (x .marks)
+
+pub record TripReturned : Type 0 where
   pub result : ℕ
   pub table : List ℕ
   pub output : List ℕ
   pub marks : List ℕ
 
-abbrev pub tripAnswer : ℕ → List ℕ → List ℕ → List ℕ → TripAnswered
-tripAnswer r t o m = record { result = r; table = t; output = o; marks = m }
+abbrev pub tripReturned : ℕ → List ℕ → List ℕ → List ℕ → TripReturned
+tripReturned r t o m = record { result = r; table = t; output = o; marks = m }
 
-abbrev pub tripRefused : Refusal → List ℕ → List ℕ → List ℕ → TripAnswered
-tripRefused why table output marks = tripAnswer (packed why) table output marks
-
-abbrev pub tripFound : Trip → TripAnswered
-tripFound t = tripAnswer (resultOf (t .answer)) (t .table) (t .output) (t .marks)
-
-abbrev pub tripFrom : Description → List ℕ → List ℕ → List ℕ → List ℕ → List ℕ → TripAnswered
-tripFrom d spans images table output marks = tripFound (roundTripOf d images (spansAt spans) table output marks)
-
--- `onerom_round_trip` of the bytes of a description and of the spans, of the chips' bytes, and of the lent table, output and marks
-unfoldable pub tripCall : List ℕ → List ℕ → List ℕ → List ℕ → List ℕ → List ℕ → TripAnswered
-tripCall description spans images table output marks =
-    cond (spansFormed spans)
-    (ifRecord (λ d. tripFrom d spans images table output marks) (λ why. tripRefused why table output marks) (decodedOf description))
-    (tripRefused OutOfDomain table output marks)
+abbrev pub tripResult : Trip → TripReturned
+tripResult x = tripReturned (resultOf (x .answer)) (x .table) (x .output) (x .marks)
 
 -- of what a round trip returns and leaves in output and marks
 -- 00 Demand 3: where searches and build accept a well wired slot and the buffers have room, it is done, and they hold the chips' words
-abbrev pub TripDemanded : Description → List ℕ → List ℕ → List ℕ → List ℕ → List ℕ → ReadAnswered → Type 0
+abbrev pub TripDemanded : Description → List ℕ → List ℕ → List ℕ → List ℕ → List ℕ → ReadReturned → Type 0
 TripDemanded d spans images table output marks r =
     (a : AddrLayout) (c : CsDataLayout) → Accepted (argsOf d a c (spansAt spans)) images table → WellWired d a → Room d a output marks
-    → r ≡ readFound (returnedWhole (argsOf d a c (spansAt spans)) images output marks)
+    → r ≡ readResult (returnedWhole (argsOf d a c (spansAt spans)) images output marks)
 
 -- 00 Demand 3: the same over bytes, where description and spans are records
-abbrev pub CallDemanded : List ℕ → List ℕ → List ℕ → List ℕ → List ℕ → List ℕ → ReadAnswered → Type 0
+abbrev pub CallDemanded : List ℕ → List ℕ → List ℕ → List ℕ → List ℕ → List ℕ → ReadReturned → Type 0
 CallDemanded description spans images table output marks r =
     decodedOf description .answer ≡ Answer.Done → spansFormed spans ≡ true
     → TripDemanded (decodedOf description .description) spans images table output marks r

@@ -5,7 +5,7 @@ use Rattle.refusal.specs.Refusal.{Code, refusalCode, answerCode}
 use Rattle.refusal.specs.declared.Refusal.{Refusal}
 
 -- a code as one number: the place in the low 48 bits, the number above them. A `GpioSet` could hold 64 bits, so that the place goes in
--- by its remainder. By the calls that exist it loses nothing: a set of GPIOs has 48 bits, a ROM is below 4 and an address below 2^32.
+-- by its remainder. That no call's answer loses anything by it stands in Law.
 -- 01 Numbers 1: a refused call has one result, which holds both the refusal's number and its place
 unfoldable pub packedCode : Code → ℕ
 packedCode c = c .number * 2 ^ 48 + c .place % 2 ^ 48

@@ -6,11 +6,11 @@ use addr_layout::layout::AddrOutcome;
 use refusal::Refusal;
 ghost use mathlib.Core.Path.{_≡_};
 ghost use Rattle.addr_record.specs.AddrRecord.{addrSize, layoutBytes};
-ghost use Rattle.onerom.specs.Calls.{answer, written, addrFound};
+ghost use Rattle.onerom.specs.Calls.{returned, searchResult, written, addrFound};
 
 // Writes the layout's record, if the buffer holds one.
 fn write(l: AddrLayout, buffer: &mut [u8]) -> u64
-    ensures { λ r. ⌜ answer r (now (buffer .exit)) ≡ written addrSize (layoutBytes l) (now (buffer .entry)) ⌝ }
+    ensures { λ r. ⌜ returned r (now (buffer .exit)) ≡ searchResult (written addrSize (layoutBytes l) (now (buffer .entry))) ⌝ }
 {
     if buffer.len() < addr_record::SIZE {
         return packed(Refusal::ShortBuffer);
@@ -21,7 +21,7 @@ fn write(l: AddrLayout, buffer: &mut [u8]) -> u64
 
 // Answers as the search did.
 pub fn hand_over(a: AddrAnswer, buffer: &mut [u8]) -> u64
-    ensures { λ r. ⌜ answer r (now (buffer .exit)) ≡ addrFound a (now (buffer .entry)) ⌝ }
+    ensures { λ r. ⌜ returned r (now (buffer .exit)) ≡ searchResult (addrFound a (now (buffer .entry))) ⌝ }
 {
     let outcome = a.outcome;
     match outcome {

@@ -4,7 +4,7 @@ use build_args::BuildArgs;
 use rom_image::build_rom_image;
 use slot::description::Description;
 ghost use mathlib.Core.Path.{_≡_};
-ghost use Rattle.onerom.specs.Calls.{answer, buildFormed, buildFrom};
+ghost use Rattle.onerom.specs.Calls.{returned, buildResult, buildFormed, buildFrom};
 
 // Whether the bytes are records of both layouts and of the chips' spans.
 pub fn formed(addr_layout: &[u8], cs_data_layout: &[u8], spans: &[u8]) -> bool
@@ -24,9 +24,9 @@ pub fn hand_over(
     images: &[u8],
     table: &mut [u8],
 ) -> u64
-    ensures { λ r. ⌜ answer r (now (table .exit))
-        ≡ buildFrom d (now («addr_layout» .entry)) (now («cs_data_layout» .entry)) (now (spans .entry)) (now (images .entry))
-        (now (table .entry)) ⌝ }
+    ensures { λ r. ⌜ returned r (now (table .exit))
+        ≡ buildResult (buildFrom d (now («addr_layout» .entry)) (now («cs_data_layout» .entry)) (now (spans .entry)) (now (images .entry))
+        (now (table .entry))) ⌝ }
 {
     let args = BuildArgs {
         description: d,

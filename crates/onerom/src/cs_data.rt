@@ -6,11 +6,11 @@ use cs_data_layout::layout::CsDataOutcome;
 use refusal::Refusal;
 ghost use mathlib.Core.Path.{_≡_};
 ghost use Rattle.cs_data_record.specs.CsDataRecord.{csDataSize, csDataBytes};
-ghost use Rattle.onerom.specs.Calls.{answer, written, csDataFound};
+ghost use Rattle.onerom.specs.Calls.{returned, searchResult, written, csDataFound};
 
 // Writes the layout's record, if the buffer holds one.
 fn write(l: CsDataLayout, buffer: &mut [u8]) -> u64
-    ensures { λ r. ⌜ answer r (now (buffer .exit)) ≡ written csDataSize (csDataBytes l) (now (buffer .entry)) ⌝ }
+    ensures { λ r. ⌜ returned r (now (buffer .exit)) ≡ searchResult (written csDataSize (csDataBytes l) (now (buffer .entry))) ⌝ }
 {
     if buffer.len() < cs_data_record::SIZE {
         return packed(Refusal::ShortBuffer);
@@ -21,7 +21,7 @@ fn write(l: CsDataLayout, buffer: &mut [u8]) -> u64
 
 // Answers as the search did.
 pub fn hand_over(a: CsDataAnswer, buffer: &mut [u8]) -> u64
-    ensures { λ r. ⌜ answer r (now (buffer .exit)) ≡ csDataFound a (now (buffer .entry)) ⌝ }
+    ensures { λ r. ⌜ returned r (now (buffer .exit)) ≡ searchResult (csDataFound a (now (buffer .entry))) ⌝ }
 {
     let outcome = a.outcome;
     match outcome {

@@ -15,12 +15,13 @@ use refusal::Answer;
 use refusal::Refusal;
 use refused::packed;
 ghost use mathlib.Core.Path.{_≡_};
-ghost use Rattle.onerom.specs.Calls.{answer, tripAnswer, tripCall, addrCall, csDataCall, buildCall, readAnswer, readBackCall, CallDemanded};
+ghost use Rattle.onerom.specs.Calls.{addrCall, csDataCall, buildCall, readBackCall, tripCall, CallDemanded};
+ghost use Rattle.onerom.specs.Calls.{returned, readReturned, tripReturned, searchResult, buildResult, readResult, tripResult};
 
 // Finds the address layout of the slot that the record describes, and writes it as a record.
 #[no_mangle]
 pub extern "C" fn onerom_derive_addr_layout(description: &[u8], layout: &mut [u8]) -> u64
-    ensures { λ r. ⌜ answer r (now (layout .exit)) ≡ addrCall (now (description .entry)) (now (layout .entry)) ⌝ }
+    ensures { λ r. ⌜ returned r (now (layout .exit)) ≡ searchResult (addrCall (now (description .entry)) (now (layout .entry))) ⌝ }
 {
     let decoded = description_record::decode(description);
     let outcome = decoded.answer;
@@ -38,8 +39,8 @@ pub extern "C" fn onerom_derive_cs_data_layout(
     addr_layout: &[u8],
     layout: &mut [u8],
 ) -> u64
-    ensures { λ r. ⌜ answer r (now (layout .exit))
-        ≡ csDataCall (now (description .entry)) (now («addr_layout» .entry)) (now (layout .entry)) ⌝ }
+    ensures { λ r. ⌜ returned r (now (layout .exit))
+        ≡ searchResult (csDataCall (now (description .entry)) (now («addr_layout» .entry)) (now (layout .entry))) ⌝ }
 {
     if !given_formed(addr_layout) {
         return packed(Refusal::OutOfDomain);
@@ -68,9 +69,9 @@ pub extern "C" fn onerom_build_rom_image(
     images: &[u8],
     table: &mut [u8],
 ) -> u64
-    ensures { λ r. ⌜ answer r (now (table .exit))
-        ≡ buildCall (now (description .entry)) (now («addr_layout» .entry)) (now («cs_data_layout» .entry)) (now (spans .entry))
-        (now (images .entry)) (now (table .entry)) ⌝ }
+    ensures { λ r. ⌜ returned r (now (table .exit))
+        ≡ buildResult (buildCall (now (description .entry)) (now («addr_layout» .entry)) (now («cs_data_layout» .entry)) (now (spans .entry))
+        (now (images .entry)) (now (table .entry))) ⌝ }
 {
     if !build::formed(addr_layout, cs_data_layout, spans) {
         return packed(Refusal::OutOfDomain);
@@ -100,8 +101,8 @@ pub extern "C" fn onerom_unscramble_slot(
     output: &mut [u8],
     marks: &mut [u8],
 ) -> u64
-    ensures { λ r. ⌜ readAnswer r (now (output .exit)) (now (marks .exit))
-        ≡ readBackCall (now (slot .entry)) (now (stored .entry)) (now (output .entry)) (now (marks .entry)) ⌝ }
+    ensures { λ r. ⌜ readReturned r (now (output .exit)) (now (marks .exit))
+        ≡ readResult (readBackCall (now (slot .entry)) (now (stored .entry)) (now (output .entry)) (now (marks .entry))) ⌝ }
 {
     if !stored_record::formed(slot) {
         return packed(Refusal::OutOfDomain);
@@ -119,11 +120,11 @@ pub extern "C" fn onerom_round_trip(
     output: &mut [u8],
     marks: &mut [u8],
 ) -> u64
-    ensures { λ r. ⌜ tripAnswer r (now (table .exit)) (now (output .exit)) (now (marks .exit))
-        ≡ tripCall (now (description .entry)) (now (spans .entry)) (now (images .entry)) (now (table .entry))
-        (now (output .entry)) (now (marks .entry)) ⌝ }
+    ensures { λ r. ⌜ tripReturned r (now (table .exit)) (now (output .exit)) (now (marks .exit))
+        ≡ tripResult (tripCall (now (description .entry)) (now (spans .entry)) (now (images .entry)) (now (table .entry))
+        (now (output .entry)) (now (marks .entry))) ⌝ }
     ensures { λ r. ⌜ CallDemanded (now (description .entry)) (now (spans .entry)) (now (images .entry)) (now (table .entry))
-        (now (output .entry)) (now (marks .entry)) (readAnswer r (now (output .exit)) (now (marks .exit))) ⌝ }
+        (now (output .entry)) (now (marks .entry)) (readReturned r (now (output .exit)) (now (marks .exit))) ⌝ }
 {
     if !image_record::formed(spans) {
         return packed(Refusal::OutOfDomain);

@@ -3,7 +3,7 @@ use crate::refused::result;
 use round_trip::round_trip;
 use slot::description::Description;
 ghost use mathlib.Core.Path.{_≡_};
-ghost use Rattle.onerom.specs.Calls.{tripAnswer, tripFrom, TripDemanded, readAnswer};
+ghost use Rattle.onerom.specs.Calls.{tripReturned, tripResult, tripFrom, TripDemanded, readReturned};
 
 // Makes the round trip of the chips that the spans give, and answers as it did.
 pub fn hand_over(
@@ -14,10 +14,10 @@ pub fn hand_over(
     output: &mut [u8],
     marks: &mut [u8],
 ) -> u64
-    ensures { λ r. ⌜ tripAnswer r (now (table .exit)) (now (output .exit)) (now (marks .exit))
-        ≡ tripFrom d (now (spans .entry)) (now (images .entry)) (now (table .entry)) (now (output .entry)) (now (marks .entry)) ⌝ }
+    ensures { λ r. ⌜ tripReturned r (now (table .exit)) (now (output .exit)) (now (marks .exit))
+        ≡ tripResult (tripFrom d (now (spans .entry)) (now (images .entry)) (now (table .entry)) (now (output .entry)) (now (marks .entry))) ⌝ }
     ensures { λ r. ⌜ TripDemanded d (now (spans .entry)) (now (images .entry)) (now (table .entry)) (now (output .entry))
-        (now (marks .entry)) (readAnswer r (now (output .exit)) (now (marks .exit))) ⌝ }
+        (now (marks .entry)) (readReturned r (now (output .exit)) (now (marks .exit))) ⌝ }
 {
     result(round_trip(
         d,

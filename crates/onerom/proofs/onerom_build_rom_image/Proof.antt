@@ -2,33 +2,46 @@
 use mathlib.Core.Path.{ap, _∙_}
 use Prim.Native.Nat.{ℕ}
 use borrow.Author.Needs.{needs}
-use Rattle.onerom.specs.Calls.{answer, callRefused, buildCall}
+use Rattle.slot.specs.declared.description.Description.{Description}
+use Rattle.refusal.specs.declared.Refusal.{Refusal}
+use Rattle.refusal.specs.declared.Refusal.the-variants.{OutOfDomain}
+use Rattle.rom_image.specs.Build.{Built}
+use Rattle.onerom.specs.Calls.{returned, buildFrom, buildRefused, buildCall, buildResult}
 use Rattle.onerom.proofs.Records.{taken, no-record, formed, not-formed}
 use Rattle.onerom.proofs.onerom_build_rom_image.Statement.{statement}
 use Rattle.onerom.proofs.onerom_build_rom_image.Tie as tie
+
+-- what a described slot comes to, and what a refusal leaves
+abbrev builds : (s : tie.Start) → Description → Built
+builds s d = buildFrom d (s .args .addr-layout .now) (s .args .cs-data-layout .now) (s .args .spans .now) (s .args .images .now) (s .args .table .now)
+
+abbrev refuse : (s : tie.Start) → Refusal → Built
+refuse s why = buildRefused why (s .args .table .now)
 
 returns : tie.Need-returns
 unfolding buildCall
 returns c =
     let s = c .before .before .before .before .before .before .before .before .before in
-    ap (λ (r : ℕ). answer r (s .args .table .now)) (c .packed .ensures)
-    ∙ not-formed _ _ _ _ (c .before .before .formed .ensures) (c .before .if1 .taken)
+    ap (λ (r : ℕ). returned r (s .args .table .now)) (c .packed .ensures)
+    ∙ ap buildResult (not-formed _ (refuse s OutOfDomain) _ _ (c .before .before .formed .ensures) (c .before .if1 .taken))
 
 returns-2 : tie.Need-returns-2
 unfolding buildCall
 returns-2 c =
     let s = c .before .before .before .before .before .before .before .before .before .before .before .before .before .before .before in
     c .before .before .hand-over .ensures
-    ∙ taken _ (λ why. callRefused why (s .args .table .now)) (s .args .description .now) _ (c .before .before .before .before .before .before .decode .ensures) (c .before .before .before .before .enum-told .given .1)
-    ∙ formed _ _ _ _ (c .before .before .before .before .before .before .before .before .formed .ensures) (c .before .before .before .before .before .before .before .if1 .left)
+    ∙ ap buildResult
+    (taken (builds s) (refuse s) (s .args .description .now) _ (c .before .before .before .before .before .before .decode .ensures) (c .before .before .before .before .enum-told .given .1)
+    ∙ formed _ _ _ _ (c .before .before .before .before .before .before .before .before .formed .ensures) (c .before .before .before .before .before .before .before .if1 .left))
 
 returns-3 : tie.Need-returns-3
 unfolding buildCall
 returns-3 c =
     let s = c .before .before .before .before .before .before .before .before .before .before .before .before .before in
-    ap (λ (r : ℕ). answer r (s .args .table .now)) (c .packed2 .ensures)
-    ∙ no-record _ (λ why. callRefused why (s .args .table .now)) (s .args .description .now) _ (c .before .before .before .before .decode .ensures) _ (c .before .before .outcome .given .1)
-    ∙ formed _ _ _ _ (c .before .before .before .before .before .before .formed .ensures) (c .before .before .before .before .before .if1 .left)
+    ap (λ (r : ℕ). returned r (s .args .table .now)) (c .packed2 .ensures)
+    ∙ ap buildResult
+    (no-record (builds s) (refuse s) (s .args .description .now) _ (c .before .before .before .before .decode .ensures) _ (c .before .before .outcome .given .1)
+    ∙ formed _ _ _ _ (c .before .before .before .before .before .before .formed .ensures) (c .before .before .before .before .before .if1 .left))
 
 pub onerom-build-rom-image-spec : {M : Type 1} → statement M
 onerom-build-rom-image-spec =

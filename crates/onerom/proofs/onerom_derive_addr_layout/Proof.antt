@@ -8,7 +8,7 @@ use Rattle.refusal.specs.declared.Answer.the-variants.{Done}
 use Rattle.description_record.specs.declared.Decoded.{Decoded}
 use Rattle.addr_layout.specs.Search.{addrAnswer}
 use Rattle.addr_layout.specs.declared.layout.AddrAnswer.{AddrAnswer}
-use Rattle.onerom.specs.Calls.{answer, callRefused, addrFound, addrCall}
+use Rattle.onerom.specs.Calls.{returned, searchResult, callRefused, addrFound, addrCall}
 use Rattle.onerom.proofs.Records.{taken, no-record}
 use Rattle.onerom.proofs.onerom_derive_addr_layout.Statement.{statement}
 use Rattle.onerom.proofs.onerom_derive_addr_layout.Tie as tie
@@ -23,15 +23,17 @@ returns : tie.Need-returns
 returns c =
     let s = c .before .before .before .before .before .before .before .before .before .before in
     c .before .before .hand-over .ensures
-    ∙ searched (s .args .description .now) (s .args .layout .now) _ (c .before .before .before .before .before .before .before .decode .ensures) _
-    (c .before .before .before .before .before .enum-told .given .1) (c .before .before .before .before .derive-addr-layout .ensures)
+    ∙ ap searchResult
+    (searched (s .args .description .now) (s .args .layout .now) _ (c .before .before .before .before .before .before .before .decode .ensures) _
+    (c .before .before .before .before .before .enum-told .given .1) (c .before .before .before .before .derive-addr-layout .ensures))
 
 returns-2 : tie.Need-returns-2
 unfolding addrCall
 returns-2 c =
     let s = c .before .before .before .before .before .before .before in
-    ap (λ (r : ℕ). answer r (s .args .layout .now)) (c .packed .ensures)
-    ∙ no-record _ (λ why. callRefused why (s .args .layout .now)) (s .args .description .now) _ (c .before .before .before .before .decode .ensures) _ (c .before .before .outcome .given .1)
+    ap (λ (r : ℕ). returned r (s .args .layout .now)) (c .packed .ensures)
+    ∙ ap searchResult
+    (no-record (λ d. addrFound (addrAnswer d) (s .args .layout .now)) (λ why. callRefused why (s .args .layout .now)) (s .args .description .now) _ (c .before .before .before .before .decode .ensures) _ (c .before .before .outcome .given .1))
 
 pub onerom-derive-addr-layout-spec : {M : Type 1} → statement M
 onerom-derive-addr-layout-spec =

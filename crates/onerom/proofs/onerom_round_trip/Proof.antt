@@ -5,19 +5,25 @@ use Rattle.lists.proofs.Loops.{zero-one}
 use Rattle.refusal.specs.declared.Answer.the-variants.{Done, Refused}
 use Rattle.description_record.specs.declared.Decoded.{Decoded}
 use Prim.Native.Nat.{ℕ}
+use Rattle.slot.specs.declared.description.Description.{Description}
 use Rattle.refusal.specs.declared.Refusal.{Refusal}
-use Rattle.onerom.specs.Calls.{TripAnswered, tripAnswer, tripRefused, tripCall}
+use Rattle.refusal.specs.declared.Refusal.the-variants.{OutOfDomain}
+use Rattle.round_trip.specs.Chain.{Trip, stopped}
+use Rattle.onerom.specs.Calls.{TripReturned, tripReturned, tripFrom, tripCall, tripResult}
 use Rattle.onerom.proofs.Records.{taken, no-record, formed, not-formed}
 use borrow.Author.Needs.{needs}
 use Rattle.onerom.proofs.onerom_round_trip.Statement.{statement}
 use Rattle.onerom.proofs.onerom_round_trip.Tie as tie
 
--- what a refusal leaves
-abbrev refuse : (s : tie.Start) → Refusal → TripAnswered
-refuse s why = tripRefused why (s .args .table .now) (s .args .output .now) (s .args .marks .now)
+-- what a described slot comes to, and what a refusal leaves
+abbrev trips : (s : tie.Start) → Description → Trip
+trips s d = tripFrom d (s .args .spans .now) (s .args .images .now) (s .args .table .now) (s .args .output .now) (s .args .marks .now)
 
-abbrev says : (s : tie.Start) → ℕ → TripAnswered
-says s r = tripAnswer r (s .args .table .now) (s .args .output .now) (s .args .marks .now)
+abbrev refuse : (s : tie.Start) → Refusal → Trip
+refuse s why = stopped why (s .args .table .now) (s .args .output .now) (s .args .marks .now)
+
+abbrev says : (s : tie.Start) → ℕ → TripReturned
+says s r = tripReturned r (s .args .table .now) (s .args .output .now) (s .args .marks .now)
 
 neither : {t : Bool} → t ≡ true → not t ≡ true → ⊥
 neither {t} e n = zero-one cc
@@ -29,7 +35,7 @@ returns : tie.Need-returns
 unfolding tripCall
 returns c = let f = c .before .before in
     let s = f .before .before .before .before .before .before .before in (
-      ap (says s) (c .packed .ensures) ∙ not-formed _ _ _ _ (f .formed .ensures) (c .before .if1 .taken),
+      ap (says s) (c .packed .ensures) ∙ ap tripResult (not-formed _ (refuse s OutOfDomain) _ _ (f .formed .ensures) (c .before .if1 .taken)),
       λ is-record formed-so. absurd (neither (f .formed .ensures ∙ formed-so) (c .before .if1 .taken)),
     )
 
@@ -41,8 +47,9 @@ returns-2 c = let k = c .before .before .before .before .before .before in
     let f = x .before .before in
     let s = f .before .before .before .before .before .before .before in (
       k .hand-over .ensures .0
-          ∙ taken _ (refuse s) (s .args .description .now) _ (x .decode .ensures) (t .enum-told .given .1)
-          ∙ formed _ _ _ _ (f .formed .ensures) (x .before .if1 .left),
+          ∙ ap tripResult
+          (taken (trips s) (refuse s) (s .args .description .now) _ (x .decode .ensures) (t .enum-told .given .1)
+          ∙ formed _ _ _ _ (f .formed .ensures) (x .before .if1 .left)),
       λ is-record formed-so. rw (x .decode .ensures) at (k .hand-over .ensures .1),
     )
 
@@ -53,8 +60,9 @@ returns-3 c = let o = c .before .before in
     let f = x .before .before in
     let s = f .before .before .before .before .before .before .before in (
       ap (says s) (c .packed2 .ensures)
-          ∙ no-record _ (refuse s) (s .args .description .now) _ (x .decode .ensures) _ (o .outcome .given .1)
-          ∙ formed _ _ _ _ (f .formed .ensures) (x .before .if1 .left),
+          ∙ ap tripResult
+          (no-record (trips s) (refuse s) (s .args .description .now) _ (x .decode .ensures) _ (o .outcome .given .1)
+          ∙ formed _ _ _ _ (f .formed .ensures) (x .before .if1 .left)),
       λ is-record formed-so. absurd (not-done _ (sym (o .outcome .given .1) ∙ ap (λ (y : Decoded). y .answer) (x .decode .ensures) ∙ is-record)),
     )
 

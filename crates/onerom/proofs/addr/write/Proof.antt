@@ -4,6 +4,7 @@ use lib.ListN.{length}
 use borrow.Author.Needs.{needs}
 use borrow.Author.Tests.{lt-ltb, le-ltb}
 use Rattle.addr_record.specs.AddrRecord.{addrSize}
+use Rattle.onerom.specs.Packed.{packedCode}
 use Rattle.onerom.proofs.addr.write.Statement.{statement}
 use Rattle.onerom.proofs.addr.write.Tie as tie
 
@@ -11,6 +12,7 @@ returns : tie.Need-returns
 returns c = rw (c .packed .ensures, lt-ltb (length (c .before .before .before .args .buffer .now)) addrSize (omega arith))
 
 returns-2 : tie.Need-returns-2
+unfolding packedCode
 returns-2 c =
     let s = c .before .before .before .before .before .before in
     rw (c .before .before .store .ensures, le-ltb (length (s .args .buffer .now)) addrSize (omega arith))

@@ -3,7 +3,7 @@ use mathlib.Core.Path.{ap, _∙_}
 use mathlib.Core.List.{List}
 use Rattle.build_args.specs.declared.images.ImageSpan.{ImageSpan}
 use Rattle.round_trip.specs.Chain.{roundTripOf}
-use Rattle.onerom.specs.Calls.{tripFound, readFound}
+use Rattle.onerom.specs.Calls.{tripResult, readResult}
 use borrow.Author.Needs.{needs}
 use Rattle.onerom.proofs.trip.hand_over.Statement.{statement}
 use Rattle.onerom.proofs.trip.hand_over.Tie as tie
@@ -13,8 +13,8 @@ returns c = let t = c .before .before .before .before .before .before .before in
     let p = t .before .before .before .before in
     let s = p .before .before .before .before .before .before in (
       rw (c .result .ensures)
-          (ap tripFound (t .round-trip .ensures .0 ∙ ap (λ (x : List ImageSpan). roundTripOf (s .args .d) (s .args .images .now) x (s .args .table .now) (s .args .output .now) (s .args .marks .now)) (p .spans-at .ensures))),
-      λ x y ok wired room. rw (c .result .ensures) (ap readFound (rw (p .spans-at .ensures) at (t .round-trip .ensures .1) x y ok wired room)),
+          (ap tripResult (t .round-trip .ensures .0 ∙ ap (λ (x : List ImageSpan). roundTripOf (s .args .d) (s .args .images .now) x (s .args .table .now) (s .args .output .now) (s .args .marks .now)) (p .spans-at .ensures))),
+      λ x y ok wired room. rw (c .result .ensures) (ap readResult (rw (p .spans-at .ensures) at (t .round-trip .ensures .1) x y ok wired room)),
     )
 
 pub hand-over-spec : {M : Type 1} → statement M
