@@ -1,3 +1,5 @@
 pub mod Words
 pub mod HasRoom
 pub mod Unforced
+pub mod Sames
+pub mod StoredWell

@@ -3,23 +3,21 @@ use mathlib.Core.Path.{_≡_, refl, sym, _∙_, ap, subst}
 use mathlib.Core.Bool.{Bool, true, false, _&&_, _||_, not}
 use mathlib.Core.List.{List}
 use mathlib.Core.Logic.{inl, inr}
-use Prim.Native.Nat.{ℕ, zero, suc, _/_, _%_, _<_}
+use Prim.Native.Nat.{ℕ, zero, suc, _-_, _/_, _%_, _<_}
 use native.Mathlib.Nat.{not-suc-le-zero, le-of-suc-le-suc, eq-or-lt-of-le}
 use native.Mathlib.Omega.{arith}
-use lib.Dec.{eqb}
+use lib.Dec.{leb, ltb, eqb}
 use lib.ListN.{getD}
-use borrow.Author.Tests.{eqb-true, eq-eqb, not-true}
+use borrow.Author.Tests.{leb-true, le-leb, ltb-true, lt-ltb, eqb-true, eq-eqb, not-true}
 use Rattle.lists.proofs.Bools.{and-left, and-right}
 use Rattle.lists.proofs.Each.{each-all, each-at}
 use Rattle.addr_law.specs.Law.{InWindow}
 use Rattle.addr_layout.specs.declared.layout.AddrLayout.{AddrLayout}
-use Rattle.stored_slot.specs.Stored.{forceLow, forceHigh, names}
+use Rattle.stored_slot.specs.Stored.{within, forceLow, forceHigh, names}
 use Rattle.stored_slot.specs.declared.stored.StoredSlot.{StoredSlot}
 use Rattle.round_trip.specs.WellWired.{Unforced}
-use Rattle.wired.specs.Wired.{inAddrWindow}
-use Rattle.wired.proofs.Law.{clash, window-is, window-of}
-use Rattle.wired.proofs.Converse.{fails}
 use Rattle.given.specs.Given.{forces, nothingForced}
+use Rattle.given.proofs.Sames.{not-so}
 
 -- whether override k names a GPIO by a kind, and whether a kind forces
 abbrev named : List ℕ → ℕ → ℕ → ℕ → Bool
@@ -27,6 +25,13 @@ named l kind g k = eqb (getD l k 0 % 64) g && eqb (getD l k 0 / 64) kind
 
 abbrev forcing : ℕ → Bool
 forcing kind = eqb kind forceLow || eqb kind forceHigh
+
+clash : (t : Bool) → t ≡ true → t ≡ false → ⊥
+clash t e f = not-so (sym f ∙ e)
+
+fails : (t : Bool) → (t ≡ true → ⊥) → t ≡ false
+fails true h = absurd (h refl)
+fails false h = refl
 
 or-left : (t u : Bool) → t ≡ true → t || u ≡ true
 or-left t u e = rw e
@@ -54,6 +59,21 @@ one-named (suc n) l kind g k m e =
     ]
 
 module _ (a : AddrLayout) (s : StoredSlot) where
+  -- the window's test
+  abbrev inside : ℕ → Bool
+  inside g = within (a .«gpio_base») (a .«num_addr_pins») g
+
+  window-is : (g : ℕ) → inside g ≡ true → InWindow a g
+  window-is g e =
+      let low = leb-true (a .«gpio_base») g (and-left (leb (a .«gpio_base») g) (ltb (g - a .«gpio_base») (a .«num_addr_pins»)) e) in
+      let high = ltb-true (g - a .«gpio_base») _ (and-right (leb (a .«gpio_base») g) (ltb (g - a .«gpio_base») (a .«num_addr_pins»)) e) in
+      (low, omega (arith, low, high))
+
+  window-of : (g : ℕ) → InWindow a g → inside g ≡ true
+  window-of g w =
+      let high : g - a .«gpio_base» < a .«num_addr_pins» = omega (arith, w .0, w .1) in
+      rw (le-leb (a .«gpio_base») g (w .0), lt-ltb _ _ high)
+
   abbrev over : ℕ → ℕ
   over k = getD (s .overrides) k 0
 
@@ -62,9 +82,9 @@ module _ (a : AddrLayout) (s : StoredSlot) where
   forced k kind g f w e =
       let at : over k % 64 ≡ g = eqb-true _ _ (and-left (eqb (over k % 64) g) (eqb (over k / 64) kind) e) in
       let by : over k / 64 ≡ kind = eqb-true _ _ (and-right (eqb (over k % 64) g) (eqb (over k / 64) kind) e) in
-      let inside : inAddrWindow a (over k % 64) ≡ true = window-of a _ (subst (InWindow a) (sym at) w) in
+      let within : inside (over k % 64) ≡ true = window-of _ (subst (InWindow a) (sym at) w) in
       let force : forcing (over k / 64) ≡ true = ap (λ (x : ℕ). forcing x) by ∙ f in
-      rw (inside, force)
+      rw (within, force)
 
   none-by : nothingForced a s ≡ true → (kind g : ℕ) → forcing kind ≡ true → InWindow a g → names (s .«num_overrides») (s .overrides) kind g ≡ false
   unfolding nothingForced
@@ -82,14 +102,14 @@ module _ (a : AddrLayout) (s : StoredSlot) where
       one-named (s .«num_overrides») (s .overrides) kind (over k % 64) k m (rw (eq-eqb (over k % 64) (over k % 64) refl, e))
 
   not-forced : Unforced a s → (k : ℕ) → k < s .«num_overrides» → forces a (over k) ≡ true → ⊥
-  not-forced u k m e = by (eqb (over k / 64) forceLow) (eqb (over k / 64) forceHigh) refl refl (and-right (inAddrWindow a (over k % 64)) (forcing (over k / 64)) e) where
+  not-forced u k m e = by (eqb (over k / 64) forceLow) (eqb (over k / 64) forceHigh) refl refl (and-right (inside (over k % 64)) (forcing (over k / 64)) e) where
     free : (names (s .«num_overrides») (s .overrides) forceLow (over k % 64) ≡ false) × (names (s .«num_overrides») (s .overrides) forceHigh (over k % 64) ≡ false)
-    free = u (over k % 64) (window-is a (over k % 64) (and-left (inAddrWindow a (over k % 64)) (forcing (over k / 64)) e))
+    free = u (over k % 64) (window-is (over k % 64) (and-left (inside (over k % 64)) (forcing (over k / 64)) e))
 
     by : (t v : Bool) → eqb (over k / 64) forceLow ≡ t → eqb (over k / 64) forceHigh ≡ v → t || v ≡ true → ⊥
     by true v p q h = clash _ (named-by k m forceLow p) (free .0)
     by false true p q h = clash _ (named-by k m forceHigh q) (free .1)
-    by false false p q h = clash false h refl
+    by false false p q h = not-so h
 
   pub unforced-if : Unforced a s → nothingForced a s ≡ true
   unfolding nothingForced

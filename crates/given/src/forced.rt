@@ -4,7 +4,7 @@ use lists::array::entry;
 use stored_slot::stored::FORCE_HIGH;
 use stored_slot::stored::FORCE_LOW;
 use stored_slot::stored::StoredSlot;
-use wired::in_window;
+use stored_slot::window::within;
 ghost use mathlib.Core.Path.{_≡_};
 ghost use Rattle.given.specs.Given.{forces, nothingForced};
 
@@ -13,7 +13,9 @@ fn forces(a: AddrLayout, over: u8) -> bool
     ensures { λ r. ⌜ r ≡ forces a over ⌝ }
 {
     let kind = over / 64;
-    in_window(a, over % 64) & ((kind == FORCE_LOW) | (kind == FORCE_HIGH))
+    let gpio = (over % 64) as u32;
+    let inside = within(a.gpio_base as u32, a.num_addr_pins as u32, gpio);
+    inside & ((kind == FORCE_LOW) | (kind == FORCE_HIGH))
 }
 
 // Whether no override does.

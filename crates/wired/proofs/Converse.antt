@@ -42,7 +42,7 @@ use Rattle.wired.specs.Wired.{
 use Rattle.wired.proofs.Law.{clash, window-is, window-of}
 
 -- what is not true is false
-pub fails : (t : Bool) → (t ≡ true → ⊥) → t ≡ false
+fails : (t : Bool) → (t ≡ true → ⊥) → t ≡ false
 fails true h = absurd (h refl)
 fails false h = refl
 

@@ -63,8 +63,7 @@ fn select_one(d: Description) -> bool
     !gpios.is_two()
 }
 
-// Whether a GPIO is in the window of the address layout.
-pub fn in_window(a: AddrLayout, gpio: u8) -> bool
+fn in_window(a: AddrLayout, gpio: u8) -> bool
     ensures { λ r. ⌜ r ≡ inAddrWindow a gpio ⌝ }
 {
     let end = a.gpio_base as u32 + a.num_addr_pins as u32;

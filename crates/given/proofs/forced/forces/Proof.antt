@@ -4,7 +4,7 @@ use Rattle.given.proofs.forced.forces.Statement.{statement}
 use Rattle.given.proofs.forced.forces.Tie as tie
 
 returns : tie.Need-returns
-returns c = rw (c .in-window .ensures)
+returns c = rw (c .within .ensures)
 
 pub forces-spec : {M : Type 1} → statement M
-forces-spec = tie.close (tie.spec (λ c κs. search needs) returns)
+forces-spec = tie.close (tie.spec (λ c. search needs) (λ c. search needs) (λ c. search needs) (λ c κs. search needs) returns)

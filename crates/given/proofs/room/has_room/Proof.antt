@@ -1,5 +1,5 @@
 -- `has_room` meets its contract. Assumes nothing.
-use Prim.Native.Nat.{_*_, _^_, _≤_}
+use Prim.Native.Nat.{_≤_}
 use native.Mathlib.Nat.{mul-le-mul}
 use native.Mathlib.Omega.{arith}
 use borrow.Author.Needs.{needs}
