@@ -1,6 +1,6 @@
 -- What the domain says of the numbers that a build uses. Assumes nothing.
 use mathlib.Core.Path.{_≡_}
-use mathlib.Core.Bool.{Bool, true, false, _&&_, _||_, not}
+use mathlib.Core.Bool.{Bool, true, false, _&&_}
 use Prim.Native.Nat.{_≤_}
 use native.Mathlib.Omega.{arith}
 use lib.Dec.{leb}
@@ -18,7 +18,7 @@ use Rattle.cs_data_layout.proofs.Bounds.{few-lines}
 use Rattle.cs_data_layout.specs.declared.layout.CsDataLayout.{CsDataLayout}
 use Rattle.build_args.specs.Positions.{dataBase}
 use Rattle.build_args.specs.declared.BuildArgs.{BuildArgs}
-use Rattle.build_args.specs.Domain.{selectLinesIn, csDataIn, buildIn}
+use Rattle.build_args.specs.Domain.{selectLinesIn, qualifierPinIn, csDataIn, buildIn}
 
 -- a select layout's numbers
 module _ (c : CsDataLayout) (e : csDataIn c ≡ true) where
@@ -26,7 +26,7 @@ module _ (c : CsDataLayout) (e : csDataIn c ≡ true) where
   bases = gpioIn (c .«gpio_base») && gpioIn (c .«base_data_pin») && gpioIn (c .«base_cs_pin»)
 
   qualifiers : Bool
-  qualifiers = not (c .qualifiers .present) || gpioIn (c .qualifiers .«base_qualifier_pin»)
+  qualifiers = qualifierPinIn (c .qualifiers)
 
   gpios : Bool
   gpios = each (c .«num_data_pins») (λ k. between 0 47 (getD (c .«data_pin_gpios») k 0))

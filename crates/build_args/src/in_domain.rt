@@ -2,6 +2,7 @@
 use crate::BuildArgs;
 use addr_layout::layout::layout_in;
 use cs_data_layout::layout::CsDataLayout;
+use cs_data_layout::layout::Qualifiers;
 use cs_data_layout::layout::SelectLine;
 use cs_roles::HALF_ROLE;
 use domain::description::description_in;
@@ -10,7 +11,7 @@ use gpio::LAST_GPIO;
 use lists::array::all_between;
 ghost use mathlib.Core.Path.{_≡_};
 ghost use mathlib.Core.Bool.{true, false};
-ghost use Rattle.build_args.specs.Domain.{selectLineOf, selectLineIn, selectLinesIn, csDataIn, buildIn};
+ghost use Rattle.build_args.specs.Domain.{selectLineOf, selectLineIn, selectLinesIn, qualifierPinIn, csDataIn, buildIn};
 
 fn select_line(c: CsDataLayout, k: usize) -> SelectLine
     ensures { λ r. ⌜ r ≡ selectLineOf c false k ⌝ }
@@ -61,6 +62,19 @@ fn select_lines_in(c: CsDataLayout, commoned: bool, count: u8) -> bool
     ok
 }
 
+fn qualifier_pin_in(q: Qualifiers) -> bool
+    ensures { λ r. ⌜ r ≡ qualifierPinIn q ⌝ }
+{
+    match q {
+        Qualifiers::Absent => true,
+        Qualifiers::Present {
+            base_qualifier_pin,
+            num_qualifier_pins: _,
+            qualifier_inactive_pattern: _,
+        } => base_qualifier_pin <= LAST_GPIO,
+    }
+}
+
 // Whether a select layout keeps to the domain.
 fn cs_data_in(c: CsDataLayout) -> bool
     ensures { λ r. ⌜ r ≡ csDataIn c ⌝ }
@@ -70,7 +84,7 @@ fn cs_data_in(c: CsDataLayout) -> bool
     let bases_in = (c.gpio_base <= LAST_GPIO)
         & (c.base_data_pin <= LAST_GPIO)
         & (c.base_cs_pin <= LAST_GPIO);
-    let qualifiers_in = !q.present | (q.base_qualifier_pin <= LAST_GPIO);
+    let qualifiers_in = qualifier_pin_in(q);
     let n = c.num_data_pins;
     let data_in = (1 <= n) & (n <= 16) & all_between(&gpios, n, 0, LAST_GPIO);
     let selects_in = (c.num_select_lines <= 30) & select_lines_in(c, false, c.num_select_lines);

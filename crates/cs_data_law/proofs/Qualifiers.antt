@@ -1,6 +1,5 @@
 -- What a choice's layout says of qualifiers. Assumes nothing.
 use mathlib.Core.Path.{_≡_, sym, _∙_, ap, subst}
-use mathlib.Core.Bool.{true}
 use Prim.Native.Nat.{ℕ, _+_, _-_, _/_, _%_, _^_, _≤_, _<_}
 use native.Mathlib.Nat.{zero-div}
 use native.Mathlib.Omega.{arith}
@@ -19,7 +18,7 @@ use Rattle.gpio.proofs.Members.{held-low, held-high, held-most, set-held, held-
 use Rattle.slot.specs.declared.description.Description.{Description}
 use Rattle.domain.specs.Domain.{qualifierGpio, qualifierIn}
 use Rattle.cs_pins.specs.Pins.{numbered}
-use Rattle.cs_data_layout.specs.Layout.{noQualifiers, handed}
+use Rattle.cs_data_layout.specs.Layout.{handed}
 use Rattle.cs_data_layout.specs.Choices.{qualifierSet, csDataLayoutOf}
 use Rattle.cs_data_layout.specs.declared.layout.GivenLayout.{GivenLayout}
 use Rattle.cs_data_layout.specs.declared.layout.Qualifiers.{Qualifiers}
@@ -67,7 +66,7 @@ module _ (d : Description) (a : GivenLayout) (past : PastTests d a) where
     abbrev laid : CsDataLayout
     laid = csDataLayoutOf d (handed a) (numbered d) c
 
-    none-laid : count ≡ 0 → laid .qualifiers ≡ noQualifiers
+    none-laid : count ≡ 0 → laid .qualifiers ≡ Qualifiers.Absent
     none-laid e = rw (eq-eqb qualifiers 0 (no-set e))
 
     module _ (some : 0 < count) where
@@ -89,42 +88,39 @@ module _ (d : Description) (a : GivenLayout) (past : PastTests d a) where
       not-none : qualifiers ≡ 0 → ⊥
       not-none e = omega (arith, rw (e, zero-div) at first-held)
 
-      -- the record that is laid out
-      laid-is : laid .qualifiers ≡ record {
-        present = true;
-        «base_qualifier_pin» = lowest qualifiers - baseOf (allPicked d a (choice d c));
-        «num_qualifier_pins» = width qualifiers;
-        «qualifier_inactive_pattern» = qualifiers / 2 ^ lowest qualifiers % 0x100;
-      }
-      laid-is = rw (ne-eqb qualifiers 0 not-none)
+      -- the numbers that are laid out
+      abbrev pin : ℕ
+      pin = lowest qualifiers - baseOf (allPicked d a (choice d c))
 
-      from-is : qualifierFrom laid ≡ lowest qualifiers
+      abbrev pattern : ℕ
+      pattern = qualifiers / 2 ^ lowest qualifiers % 2 ^ 8
+
+      from-is : qualifierFrom laid pin ≡ lowest qualifiers
       from-is =
           let base = base-below (allPicked d a (choice d c)) (lowest qualifiers) (qualifier-all d a (choice d c) (lowest qualifiers) low-held) in
-          omega (arith, base, ap (λ (q : Qualifiers). q .«base_qualifier_pin») laid-is)
+          omega (arith, base)
 
-      end-is : qualifierEnd laid ≡ end qualifiers
-      end-is =
-          omega (arith, from-is, not-empty qualifiers (gpioOf 0) (qualifier-bits d a past) first-held, ap (λ (q : Qualifiers). q .«num_qualifier_pins») laid-is)
+      end-is : qualifierEnd laid pin (width qualifiers) ≡ end qualifiers
+      end-is = omega (arith, from-is, not-empty qualifiers (gpioOf 0) (qualifier-bits d a past) first-held)
 
       -- bit k of the pattern
-      pattern-is : laid .qualifiers .«qualifier_inactive_pattern» ≡ qualifiers / 2 ^ lowest qualifiers % 2 ^ 8
-      pattern-is = ap (λ (q : Qualifiers). q .«qualifier_inactive_pattern») laid-is
+      pattern-bit : (k : ℕ) → k < 8 → bit pattern k ≡ bit qualifiers (lowest qualifiers + k)
+      pattern-bit k l = bit-mod (qualifiers / 2 ^ lowest qualifiers) 8 k l ∙ ap (λ (x : ℕ). x % 2) (shr-shr qualifiers (lowest qualifiers) k)
 
-      pattern-bit : (k : ℕ) → k < 8 → bit (laid .qualifiers .«qualifier_inactive_pattern») k ≡ bit qualifiers (lowest qualifiers + k)
-      pattern-bit k l = ap (λ (x : ℕ). bit x k) pattern-is ∙ bit-mod (qualifiers / 2 ^ lowest qualifiers) 8 k l ∙ ap (λ (x : ℕ). x % 2) (shr-shr qualifiers (lowest qualifiers) k)
-
-      bit-few : (k : ℕ) → bit (laid .qualifiers .«qualifier_inactive_pattern») k ≡ 1 → k < 8
-      bit-few k e = held-most (qualifiers / 2 ^ lowest qualifiers % 2 ^ 8) k 8 (ap (λ (x : ℕ). bit x k) (sym pattern-is) ∙ e) (omega arith)
+      bit-few : (k : ℕ) → bit pattern k ≡ 1 → k < 8
+      bit-few k e = held-most pattern k 8 e (omega arith)
 
       some-laid : SomeQualifiers d a laid
       some-laid = record {
-        present = ap (λ (q : Qualifiers). q .present) laid-is;
+        pin = pin;
+        count = width qualifiers;
+        pattern = pattern;
+        present = rw (ne-eqb qualifiers 0 not-none);
         lowest = subst (IsQualifier d a) (sym from-is) (held-qualifier (lowest qualifiers) low-held);
         above = λ g q. omega (arith, from-is, held-low qualifiers g (qualifier-held g q));
         highest = subst (IsQualifier d a) (ap (λ (x : ℕ). x - 1) (sym end-is)) (held-qualifier (end qualifiers - 1) high-held);
         below = λ g q. omega (arith, end-is, held-high qualifiers g (qualifier-bits d a past) (qualifier-held g q));
-        few = omega (arith, span-few, ap (λ (q : Qualifiers). q .«num_qualifier_pins») laid-is);
+        few = span-few;
         bit-one = λ k e.
             subst (IsQualifier d a) (ap (λ (x : ℕ). x + k) (sym from-is)) (held-qualifier (lowest qualifiers + k) (sym (pattern-bit k (bit-few k e)) ∙ e));
         one-bit = λ k q.

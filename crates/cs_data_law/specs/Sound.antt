@@ -14,11 +14,12 @@ use Rattle.listing.specs.Lines.{kindPin, pinCandidates}
 use Rattle.listing.specs.Choice.{CandidateOf, pinAt, gpioAt}
 use Rattle.cs_pins.specs.Pins.{selectListed, commonedListed, numbered}
 use Rattle.cs_roles.specs.Roles.{selectRoles, halfRole}
-use Rattle.cs_data_layout.specs.Layout.{line, noQualifiers, handed}
+use Rattle.cs_data_layout.specs.Layout.{line, handed}
 use Rattle.cs_data_layout.specs.Choices.{numData, excessGpio, numCommoned}
 use Rattle.cs_data_layout.specs.declared.layout.GivenLayout.{GivenLayout}
 use Rattle.cs_data_layout.specs.declared.layout.IgnoreIndex.the-variants.{None, At}
 use Rattle.cs_data_layout.specs.declared.layout.SelectLine.{SelectLine}
+use Rattle.cs_data_layout.specs.declared.layout.Qualifiers.{Qualifiers}
 use Rattle.cs_data_layout.specs.declared.layout.CsDataLayout.{CsDataLayout}
 
 -- the lines of a layout, and their GPIOs
@@ -121,32 +122,36 @@ pub record SoundSelects (d : Description) (l : CsDataLayout) : Type 0 where
 abbrev pub IsQualifier : Description → GivenLayout → ℕ → Type 0
 IsQualifier d a g = (k : ℕ) × (k < d .«num_qualifiers») × (qualifierGpio (d .qualifiers) (handed a .gpios) k ≡ g)
 
--- the GPIOs that a layout says they span: from here, and up to there
-abbrev pub qualifierFrom : CsDataLayout → ℕ
-qualifierFrom l = l .«gpio_base» + l .qualifiers .«base_qualifier_pin»
+-- the GPIOs that they span, by a base pin and a count of a layout: from here, and up to there
+abbrev pub qualifierFrom : CsDataLayout → ℕ → ℕ
+qualifierFrom l pin = l .«gpio_base» + pin
 
-abbrev pub qualifierEnd : CsDataLayout → ℕ
-qualifierEnd l = qualifierFrom l + l .qualifiers .«num_qualifier_pins»
+abbrev pub qualifierEnd : CsDataLayout → ℕ → ℕ → ℕ
+qualifierEnd l pin count = qualifierFrom l pin + count
 
 -- what a found layout says of qualifiers, where there are some
 pub record SomeQualifiers (d : Description) (a : GivenLayout) (l : CsDataLayout) : Type 0 where
-  pub present : l .qualifiers .present ≡ true
+  -- the layout says that there are some, with this base pin, number of pins and pattern
+  pub pin : ℕ
+  pub count : ℕ
+  pub pattern : ℕ
+  pub present : l .qualifiers ≡ Qualifiers.Present pin count pattern
   -- 01 cs_data_layout 6: the base and the base pin of the qualifiers added up are the lowest qualifier GPIO
-  pub lowest : IsQualifier d a (qualifierFrom l)
-  pub above : (g : ℕ) → IsQualifier d a g → qualifierFrom l ≤ g
+  pub lowest : IsQualifier d a (qualifierFrom l pin)
+  pub above : (g : ℕ) → IsQualifier d a g → qualifierFrom l pin ≤ g
   -- 01 cs_data_layout 6: as many pins as the qualifiers span reach just to the highest
-  pub highest : IsQualifier d a (qualifierEnd l - 1)
-  pub below : (g : ℕ) → IsQualifier d a g → g < qualifierEnd l
+  pub highest : IsQualifier d a (qualifierEnd l pin count - 1)
+  pub below : (g : ℕ) → IsQualifier d a g → g < qualifierEnd l pin count
   -- 01 Domain 10: the qualifiers span at most 8 GPIOs
-  pub few : l .qualifiers .«num_qualifier_pins» ≤ 8
+  pub few : count ≤ 8
   -- 01 cs_data_layout 7: bit k of the pattern is 1 exactly if the GPIO k places above the lowest qualifier is a qualifier's
-  pub bit-one : (k : ℕ) → bit (l .qualifiers .«qualifier_inactive_pattern») k ≡ 1 → IsQualifier d a (qualifierFrom l + k)
-  pub one-bit : (k : ℕ) → IsQualifier d a (qualifierFrom l + k) → bit (l .qualifiers .«qualifier_inactive_pattern») k ≡ 1
+  pub bit-one : (k : ℕ) → bit pattern k ≡ 1 → IsQualifier d a (qualifierFrom l pin + k)
+  pub one-bit : (k : ℕ) → IsQualifier d a (qualifierFrom l pin + k) → bit pattern k ≡ 1
 
 -- what a found layout says of qualifiers
 pub record SoundQualifiers (d : Description) (a : GivenLayout) (l : CsDataLayout) : Type 0 where
   -- 01 cs_data_layout 6: without qualifiers a layout says that there are none
-  pub none : d .«num_qualifiers» ≡ 0 → l .qualifiers ≡ noQualifiers
+  pub none : d .«num_qualifiers» ≡ 0 → l .qualifiers ≡ Qualifiers.Absent
   pub some : 0 < d .«num_qualifiers» → SomeQualifiers d a l
 
 -- 01 cs_data_layout 3: the window of a layout has to hold data, select and qualifier GPIOs

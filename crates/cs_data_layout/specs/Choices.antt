@@ -1,6 +1,6 @@
 -- cs_data_layout.rs: the GPIOs of a choice, and the layout that it makes. Assumes nothing.
 use Prim.Native.Nat.{ℕ, zero, suc, _+_, _-_, _/_, _%_, _^_}
-use mathlib.Core.Bool.{true, cond}
+use mathlib.Core.Bool.{cond}
 use mathlib.Core.List.{List}
 use lib.Dec.{ltb, eqb}
 use lib.ListN.{length, getD}
@@ -16,7 +16,7 @@ use Rattle.listing.specs.declared.Listed.{Listed}
 use Rattle.addr_layout.specs.declared.layout.AddrLayout.{AddrLayout}
 use Rattle.cs_pins.specs.Pins.{kindListed, numbered}
 use Rattle.cs_roles.specs.Roles.{selectRoles, halfRole}
-use Rattle.cs_data_layout.specs.Layout.{line, noQualifiers}
+use Rattle.cs_data_layout.specs.Layout.{line}
 use Rattle.cs_verdict.specs.Verdict.{allOf, baseOf}
 use Rattle.cs_choices.specs.Sets.{dataSet, selectSet, verdictOn}
 use Rattle.cs_choices.specs.declared.choices.Fixed.{Fixed}
@@ -63,12 +63,8 @@ ignoreIndex selectGpios = cond (gapless selectGpios) None (At (lowest (gap selec
 -- most 8
 abbrev pub qualifiersFrom : ℕ → ℕ → Qualifiers
 qualifiersFrom qualifiers base =
-    cond (eqb qualifiers 0) noQualifiers (record {
-      present = true;
-      «base_qualifier_pin» = lowest qualifiers - base;
-      «num_qualifier_pins» = width qualifiers;
-      «qualifier_inactive_pattern» = qualifiers / 2 ^ lowest qualifiers % 0x100;
-    })
+    cond (eqb qualifiers 0) Qualifiers.Absent
+    (Qualifiers.Present (lowest qualifiers - base) (width qualifiers) (qualifiers / 2 ^ lowest qualifiers % 0x100))
 
 -- 01 cs_data_layout 6: the select lines are those of the select pins with their roles, then the excess ones as half selects
 abbrev pub selectLine : List ℕ → AddrLayout → (ℕ → ℕ) → ℕ → SelectLine

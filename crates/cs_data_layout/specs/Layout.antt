@@ -1,5 +1,5 @@
 -- The layout of a refused call, and the address layout that is handed in. Assumes nothing.
-use mathlib.Core.Bool.{false, cond}
+use mathlib.Core.Bool.{cond}
 use Prim.Native.Nat.{ℕ}
 use lib.ListN.{replicate}
 use Rattle.refusal.specs.Refusal.{Code, success, refusalCode}
@@ -18,9 +18,6 @@ use Rattle.cs_data_layout.specs.declared.layout.CsDataAnswer.{CsDataAnsw
 abbrev pub line : ℕ → ℕ → SelectLine
 line role gpio = record { role = role; gpio = gpio }
 
-abbrev pub noQualifiers : Qualifiers
-noQualifiers = record { present = false; «base_qualifier_pin» = 0; «num_qualifier_pins» = 0; «qualifier_inactive_pattern» = 0 }
-
 abbrev pub noCsDataLayout : CsDataLayout
 noCsDataLayout = record {
   «gpio_base» = 0;
@@ -34,7 +31,7 @@ noCsDataLayout = record {
   «num_select_lines» = 0;
   «commoned_lines» = replicate 6 (line 0 0);
   «num_commoned_lines» = 0;
-  qualifiers = noQualifiers;
+  qualifiers = Qualifiers.Absent;
 }
 
 abbrev pub csDataRefused : Refusal → CsDataAnswer

@@ -23,12 +23,14 @@ pub struct SelectLine {
     pub gpio: u8,
 }
 
-// Address lines in use whose all being high deselects the chip; all 0 where the chip has none.
-pub struct Qualifiers {
-    pub present: bool,
-    pub base_qualifier_pin: u8,
-    pub num_qualifier_pins: u8,
-    pub qualifier_inactive_pattern: u8,
+// Address lines in use whose all being high deselects the chip.
+pub enum Qualifiers {
+    Absent,
+    Present {
+        base_qualifier_pin: u8,
+        num_qualifier_pins: u8,
+        qualifier_inactive_pattern: u8,
+    },
 }
 
 // Which GPIOs select the chip and carry its data, and which line each serves; base pins are counted from the base.
@@ -81,12 +83,7 @@ pub fn refused(why: Refusal) -> CsDataAnswer
             num_select_lines: 0,
             commoned_lines: [no_line; 6],
             num_commoned_lines: 0,
-            qualifiers: Qualifiers {
-                present: false,
-                base_qualifier_pin: 0,
-                num_qualifier_pins: 0,
-                qualifier_inactive_pattern: 0,
-            },
+            qualifiers: Qualifiers::Absent,
         },
     }
 }

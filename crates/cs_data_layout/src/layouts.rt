@@ -55,16 +55,10 @@ fn qualifiers(set: u64, base: u8) -> Qualifiers
     ensures { λ r. ⌜ r ≡ qualifiersFrom set base ⌝ }
 {
     if set == 0 {
-        return Qualifiers {
-            present: false,
-            base_qualifier_pin: 0,
-            num_qualifier_pins: 0,
-            qualifier_inactive_pattern: 0,
-        };
+        return Qualifiers::Absent;
     }
     let low = lowest(set);
-    Qualifiers {
-        present: true,
+    Qualifiers::Present {
         base_qualifier_pin: above(base, low) as u8,
         num_qualifier_pins: width(set) as u8,
         qualifier_inactive_pattern: ((set >> low) % 0x100) as u8,

@@ -13,6 +13,7 @@ use Rattle.cs_data_layout.specs.declared.layout.IgnoreIndex.{IgnoreIndex}
 use Rattle.cs_data_layout.specs.declared.layout.IgnoreIndex.the-variants.{None, At}
 use Rattle.cs_data_layout.specs.declared.layout.SelectLine.{SelectLine}
 use Rattle.cs_data_layout.specs.declared.layout.Qualifiers.{Qualifiers}
+use Rattle.cs_data_layout.specs.declared.layout.Qualifiers.the-variants.{Absent, Present}
 use Rattle.cs_data_layout.specs.declared.layout.CsDataLayout.{CsDataLayout}
 
 -- "100 bytes"
@@ -27,13 +28,18 @@ ignoreByte (At k) = k
 abbrev pub ignoreOf : ℕ → IgnoreIndex
 ignoreOf x = cond (eqb x 255) None (At x)
 
+-- places 8 to 11: "1 with qualifiers, else 0", and their three numbers, "0 without qualifiers"
+abbrev pub qualifierBytes : Qualifiers → List ℕ
+qualifierBytes Absent = 0 ∷ 0 ∷ 0 ∷ 0 ∷ []
+qualifierBytes (Present pin count pattern) = 1 ∷ pin ∷ count ∷ pattern ∷ []
+
 -- places 0 to 11
 abbrev pub csDataHead : CsDataLayout → List ℕ
 csDataHead l =
     l .«gpio_base» ∷ l .«base_data_pin» ∷ l .«num_data_pins» ∷ l .«base_cs_pin» ∷ l .«num_cs_pins» ∷ ignoreByte (l .«cs_ignore_index»)
     ∷ l .«num_select_lines» ∷ l .«num_commoned_lines»
-    ∷ cond (l .qualifiers .present) 1 0 ∷ l .qualifiers .«base_qualifier_pin» ∷ l .qualifiers .«num_qualifier_pins»
-    ∷ l .qualifiers .«qualifier_inactive_pattern» ∷ []
+    ∷ byteAt (qualifierBytes (l .qualifiers)) 0 ∷ byteAt (qualifierBytes (l .qualifiers)) 1
+    ∷ byteAt (qualifierBytes (l .qualifiers)) 2 ∷ byteAt (qualifierBytes (l .qualifiers)) 3 ∷ []
 
 -- "30 select lines, then 6 commoned lines"
 abbrev pub selectLineAt : CsDataLayout → ℕ → SelectLine
@@ -56,14 +62,9 @@ lineFrom b p = line (byteAt b p) (byteAt b (p + 1))
 abbrev pub linesFrom : List ℕ → ℕ → ℕ → List SelectLine
 linesFrom b p n = tab n (λ k. lineFrom b (p + 2 * k))
 
--- "1 with qualifiers"; without them the other three are what stands there, and count for nothing
+-- "1 with qualifiers"; without them what stands at the other three places counts for nothing
 abbrev pub qualifiersAt : List ℕ → Qualifiers
-qualifiersAt b = record {
-  present = eqb (byteAt b 8) 1;
-  «base_qualifier_pin» = byteAt b 9;
-  «num_qualifier_pins» = byteAt b 10;
-  «qualifier_inactive_pattern» = byteAt b 11;
-}
+qualifiersAt b = cond (eqb (byteAt b 8) 1) (Present (byteAt b 9) (byteAt b 10) (byteAt b 11)) Absent
 
 -- what the record lays out
 unfoldable pub csDataAt : List ℕ → CsDataLayout

@@ -7,12 +7,11 @@ use cs_data_layout::layout::Qualifiers;
 use cs_data_layout::layout::SelectLine;
 use fields::sixteen_at;
 use lists::array::entry;
-use lists::array::one_if;
 ghost use mathlib.Core.Path.{_≡_};
 ghost use mathlib.Core.List.{_++_};
 ghost use Prim.Native.Nat.{_+_, _<_, _/_, _%_, _≤_};
 ghost use lib.ListN.{length, drop};
-ghost use Rattle.cs_data_record.specs.CsDataRecord.{csDataSize, ignoreByte, csDataHead, selectLineAt, lineByte, linesBytes, csDataBytes, ignoreOf, lineFrom, linesFrom, qualifiersAt, csDataAt, csDataFormed};
+ghost use Rattle.cs_data_record.specs.CsDataRecord.{csDataSize, ignoreByte, qualifierBytes, csDataHead, selectLineAt, lineByte, linesBytes, csDataBytes, ignoreOf, lineFrom, linesFrom, qualifiersAt, csDataAt, csDataFormed};
 
 // Bytes of a record.
 pub const SIZE: usize = 100;
@@ -26,11 +25,31 @@ fn ignore_byte(index: IgnoreIndex) -> u8
     }
 }
 
+// Whether there are qualifiers, then their numbers; 0 without them.
+fn qualifier_bytes(q: Qualifiers) -> [u8; 4]
+    ensures { λ r. ⌜ r ≡ qualifierBytes q ⌝ }
+{
+    match q {
+        Qualifiers::Absent => [0, 0, 0, 0],
+        Qualifiers::Present {
+            base_qualifier_pin,
+            num_qualifier_pins,
+            qualifier_inactive_pattern,
+        } => [
+            1,
+            base_qualifier_pin,
+            num_qualifier_pins,
+            qualifier_inactive_pattern,
+        ],
+    }
+}
+
 fn head(l: CsDataLayout) -> [u8; 12]
     ensures { λ r. ⌜ r ≡ csDataHead l ⌝ }
 {
     let index = l.cs_ignore_index;
-    let qualifiers = l.qualifiers;
+    let q = l.qualifiers;
+    let qualifiers = qualifier_bytes(q);
     [
         l.gpio_base,
         l.base_data_pin,
@@ -40,10 +59,10 @@ fn head(l: CsDataLayout) -> [u8; 12]
         ignore_byte(index),
         l.num_select_lines,
         l.num_commoned_lines,
-        one_if(qualifiers.present),
-        qualifiers.base_qualifier_pin,
-        qualifiers.num_qualifier_pins,
-        qualifiers.qualifier_inactive_pattern,
+        qualifiers[0],
+        qualifiers[1],
+        qualifiers[2],
+        qualifiers[3],
     ]
 }
 
@@ -143,12 +162,14 @@ fn commoned_lines(b: &[u8]) -> [SelectLine; 6]
 fn qualifiers(b: &[u8]) -> Qualifiers
     ensures { λ r. ⌜ r ≡ qualifiersAt (now (b .entry)) ⌝ }
 {
-    Qualifiers {
-        present: entry(b, 8) == 1,
-        base_qualifier_pin: entry(b, 9),
-        num_qualifier_pins: entry(b, 10),
-        qualifier_inactive_pattern: entry(b, 11),
+    if entry(b, 8) == 1 {
+        return Qualifiers::Present {
+            base_qualifier_pin: entry(b, 9),
+            num_qualifier_pins: entry(b, 10),
+            qualifier_inactive_pattern: entry(b, 11),
+        };
     }
+    Qualifiers::Absent
 }
 
 // What the record lays out.

@@ -96,10 +96,10 @@ field-below {n} {l} b = every n (λ k. getD l k 0) (b .each)
 
 -- codes of one byte: the byte reads as the value, is one of the code's, and is a byte
 
-pub record Coded {A : Type 0} (of : ℕ → A) (fits : ℕ → Bool) (byte : A → ℕ) (a : A) : Type 0 where
-  pub back : of (byte a) ≡ a
-  pub named : fits (byte a) ≡ true
-  pub below : byte a < 2 ^ 8
+record Coded {A : Type 0} (of : ℕ → A) (fits : ℕ → Bool) (byte : A → ℕ) (a : A) : Type 0 where
+  back : of (byte a) ≡ a
+  named : fits (byte a) ≡ true
+  below : byte a < 2 ^ 8
 
 set-type : (t : ChipSetType) → Coded setTypeOf (λ x. leb x 2) setTypeByte t
 set-type Single = record { back = refl; named = refl; below = lit< tt }
@@ -117,7 +117,7 @@ setting (Given ActiveLow) = record { back = refl; named = refl; below = lit< tt 
 setting (Given ActiveHigh) = record { back = refl; named = refl; below = lit< tt }
 setting (Given Ignore) = record { back = refl; named = refl; below = lit< tt }
 
-pub flag : (f : Bool) → Coded (λ x. eqb x 1) (λ x. leb x 1) (λ b. cond b 1 0) f
+flag : (f : Bool) → Coded (λ x. eqb x 1) (λ x. leb x 1) (λ b. cond b 1 0) f
 flag true = record { back = refl; named = refl; below = lit< tt }
 flag false = record { back = refl; named = refl; below = lit< tt }
 

@@ -17,9 +17,10 @@ use Rattle.control.specs.MultiCsConfig.{nothing}
 use Rattle.addr_layout.specs.Layout.{noLayout}
 use Rattle.gpio.specs.declared.line.LineGpio.the-variants.{Unused}
 use Rattle.addr_layout.specs.declared.layout.AddrLayout.{AddrLayout}
-use Rattle.cs_data_layout.specs.Layout.{line, noQualifiers}
+use Rattle.cs_data_layout.specs.Layout.{line}
 use Rattle.cs_data_layout.specs.declared.layout.GivenLayout.{GivenLayout}
 use Rattle.cs_data_layout.specs.declared.layout.IgnoreIndex.the-variants.{None}
+use Rattle.cs_data_layout.specs.declared.layout.Qualifiers.{Qualifiers}
 use Rattle.cs_data_layout.specs.declared.layout.CsDataLayout.{CsDataLayout}
 use Rattle.build_args.specs.Images.{noSpan}
 use Rattle.build_args.specs.declared.images.ImageSpan.{ImageSpan}
@@ -101,7 +102,7 @@ dataLinesAt gpios = record {
   «num_select_lines» = 0;
   «commoned_lines» = replicate 6 (line 0 0);
   «num_commoned_lines» = 0;
-  qualifiers = noQualifiers;
+  qualifiers = Qualifiers.Absent;
 }
 
 abbrev pub inOrder : CsDataLayout

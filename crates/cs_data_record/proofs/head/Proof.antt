@@ -4,7 +4,7 @@ use Rattle.cs_data_record.proofs.head.Statement.{statement}
 use Rattle.cs_data_record.proofs.head.Tie as tie
 
 returns : tie.Need-returns
-returns c = rw (c .one-if .ensures .0, c .before .ignore-byte .ensures)
+returns c = rw (c .ignore-byte .ensures, c .before .qualifier-bytes .ensures)
 
 pub head-spec : {M : Type 1} → statement M
 head-spec =
@@ -12,4 +12,8 @@ head-spec =
     (tie.spec
     (λ c κs. search needs)
     (λ c κs. search needs)
+    (λ c. search needs)
+    (λ c. search needs)
+    (λ c. search needs)
+    (λ c. search needs)
     returns)

@@ -12,6 +12,7 @@ pub cs-data-in-spec : {M : Type 1} → statement M
 cs-data-in-spec =
     tie.close
     (tie.spec
+    (λ c κs. search needs)
     (λ c. search needs)
     (λ c κs. search needs)
     (λ c κs. search needs)

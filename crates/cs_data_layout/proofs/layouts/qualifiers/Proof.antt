@@ -1,6 +1,5 @@
 -- `qualifiers` meets its contract. Assumes nothing.
 use mathlib.Core.Path.{_≡_}
-use mathlib.Core.Bool.{true}
 use Prim.Native.Nat.{ℕ, _-_, _/_, _%_, _^_}
 use borrow.Author.Tests.{eq-eqb, ne-eqb}
 use Rattle.gpio.specs.Set.{lowest, width}
@@ -12,7 +11,7 @@ use Rattle.cs_data_layout.proofs.layouts.qualifiers.Statement.{statemen
 use Rattle.cs_data_layout.proofs.layouts.qualifiers.Tie as tie
 
 some : (set base low pin w : ℕ) → (set ≡ 0 → ⊥) → low ≡ lowest set → pin ≡ low - base → w ≡ width set
-    → _≡_ {A = Qualifiers} (record { present = true; «base_qualifier_pin» = pin; «num_qualifier_pins» = w; «qualifier_inactive_pattern» = set / 2 ^ low % 0x100 }) (qualifiersFrom set base)
+    → _≡_ {A = Qualifiers} (Qualifiers.Present pin w (set / 2 ^ low % 0x100)) (qualifiersFrom set base)
 some set base low pin w n el ep ew = rw (ne-eqb set 0 n, ep, ew, el)
 
 returns : tie.Need-returns
