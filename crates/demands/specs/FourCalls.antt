@@ -15,8 +15,9 @@ use Rattle.addr_record.specs.AddrRecord.{addrSize, layoutAt}
 use Rattle.cs_data_record.specs.CsDataRecord.{csDataSize, csDataAt}
 use Rattle.image_record.specs.ImageRecord.{spansAt}
 use Rattle.stored_record.specs.StoredRecord.{storedAt, storedFormed}
-use Rattle.round_trip.specs.WellWired.{WellWired, StoredAs, Unforced}
-use Rattle.round_trip.specs.RoundTrip.{Room, returnedWhole}
+use Rattle.premises.specs.WellWired.{WellWired, StoredAs, Unforced}
+use Rattle.premises.specs.Room.{Room}
+use Rattle.round_trip.specs.RoundTrip.{returnedWhole}
 use Rattle.onerom.specs.Calls.{addrCall, csDataCall, buildCall, readBackCall, Returned, searchResult, buildResult, readReturned, readResult}
 
 -- what the bench hands in and lends

@@ -9,7 +9,7 @@ use lib.Pow.{pow-mono}
 use borrow.Author.Tests.{leb-true, leb-false}
 use Rattle.slot.specs.declared.description.Description.{Description}
 use Rattle.addr_layout.specs.declared.layout.AddrLayout.{AddrLayout}
-use Rattle.round_trip.specs.RoundTrip.{chipWords, wordsTo}
+use Rattle.premises.specs.Room.{chipWords, wordsTo}
 
 pub words-none : (d : Description) (a : AddrLayout) → 0 ≡ wordsTo d a 0
 unfolding wordsTo

@@ -6,7 +6,7 @@ use stored_slot::stored::FORCE_LOW;
 use stored_slot::stored::StoredSlot;
 use stored_slot::window::within;
 ghost use mathlib.Core.Path.{_≡_};
-ghost use Rattle.given.specs.Given.{forces, nothingForced};
+ghost use Rattle.premises.specs.Given.{forces, nothingForced};
 
 // Whether one override does: its GPIO is below 64, and its kind above it.
 fn forces(a: AddrLayout, over: u8) -> bool

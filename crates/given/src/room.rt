@@ -5,8 +5,8 @@ use slot::description::Description;
 ghost use mathlib.Core.Path.{_≡_};
 ghost use Prim.Native.Nat.{_*_, _^_, _≤_, _<_, min};
 ghost use Rattle.rom_image.specs.Entry.{wordCount};
-ghost use Rattle.round_trip.specs.RoundTrip.{chipWords, words};
-ghost use Rattle.given.specs.Given.{roomy};
+ghost use Rattle.premises.specs.Room.{chipWords, words};
+ghost use Rattle.premises.specs.Given.{roomy};
 
 // The lower of two numbers.
 fn lower(a: u64, b: u64) -> u64

@@ -5,7 +5,7 @@ use lists::array::entry;
 use slot::description::ChipSetType;
 use stored_slot::stored::SlotType;
 ghost use mathlib.Core.Path.{_≡_};
-ghost use Rattle.given.specs.Same.{isAbsent, isOne, isBoth, sameCandidates, sameSet, isRoms, isAt, sameTo};
+ghost use Rattle.premises.specs.Same.{isAbsent, isOne, isBoth, sameCandidates, sameSet, isRoms, isAt, sameTo};
 
 fn is_absent(c: Candidates) -> bool
     ensures { λ r. ⌜ r ≡ isAbsent c ⌝ }

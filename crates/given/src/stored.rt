@@ -19,7 +19,7 @@ ghost use mathlib.Core.Path.{_≡_};
 ghost use lib.Dec.{eqb};
 ghost use Rattle.lists.specs.Each.{each};
 ghost use Rattle.build_args.specs.Faults.{tableSize};
-ghost use Rattle.given.specs.Given.{algsKnown, basesAs, xPinsAs, listsOf, mappedAs, romsAs, selectAs, storedWell};
+ghost use Rattle.premises.specs.Given.{algsKnown, basesAs, xPinsAs, listsOf, mappedAs, romsAs, selectAs, storedWell};
 
 fn algs_known(s: StoredSlot) -> bool
     ensures { λ r. ⌜ r ≡ algsKnown s ⌝ }

@@ -26,8 +26,9 @@ use Rattle.cs_data_record.specs.CsDataRecord.{csDataSize, csDataBytes, csDataAt
 use Rattle.image_record.specs.ImageRecord.{spansAt, spansFormed}
 use Rattle.stored_record.specs.StoredRecord.{storedAt, storedFormed}
 use Rattle.unscramble.specs.Recovered.{ReadBack, readRefused, unscrambled}
-use Rattle.round_trip.specs.WellWired.{WellWired}
-use Rattle.round_trip.specs.RoundTrip.{Accepted, Room, returnedWhole}
+use Rattle.premises.specs.WellWired.{WellWired}
+use Rattle.premises.specs.Room.{Room}
+use Rattle.round_trip.specs.RoundTrip.{Accepted, returnedWhole}
 use Rattle.round_trip.specs.Chain.{Trip, stopped, roundTripOf}
 use Rattle.onerom.specs.Packed.{resultOf}
 

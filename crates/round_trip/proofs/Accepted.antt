@@ -36,7 +36,7 @@ use Rattle.stored_slot.specs.Stored as stored
 use Rattle.stored_slot.specs.Faults.{layoutFault, romFault, xFault, xFaults, selectFault, pickFault, roomFault, romsFault}
 use Rattle.stored_slot.specs.Words.{allWords}
 use Rattle.stored_slot.specs.declared.stored.StoredSlot.{StoredSlot}
-use Rattle.round_trip.specs.WellWired.{OneInside, WellWired, Mapped, StoredAs}
+use Rattle.premises.specs.WellWired.{OneInside, WellWired, Mapped, StoredAs}
 use Rattle.round_trip.proofs.Fitted.{ToldApart}
 use Rattle.round_trip.proofs.Given.{window-is, is-window}
 

@@ -27,8 +27,8 @@ use Rattle.build_args.specs.Positions.{linePosition}
 use Rattle.picks.specs.Positions.{xPosition}
 use Rattle.build_args.specs.Picks.{numPicks, firstSelect, xGpio, pickOf, pickPosition}
 use Rattle.picks.specs.Picks.{xLines, picksOf}
-use Rattle.round_trip.specs.WellWired.{BoardPin, candidatesOf, PinOf, Unshared, addressPin, selectPin, WellWired}
-use Rattle.round_trip.specs.WellWired.BoardPin.{socket, x1, x2}
+use Rattle.premises.specs.WellWired.{BoardPin, candidatesOf, PinOf, Unshared, addressPin, selectPin, WellWired}
+use Rattle.premises.specs.WellWired.BoardPin.{socket, x1, x2}
 use Rattle.round_trip.proofs.Fitted.{indexPosition}
 use Rattle.round_trip.proofs.Pins.{Behind, line-behind, linePin, line-pin-in, pinBehind, lines-own, place-in, same-place, same-x, apart-x}
 

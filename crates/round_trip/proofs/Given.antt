@@ -29,7 +29,7 @@ use Rattle.stored_slot.specs.Stored as stored
 use Rattle.stored_slot.specs.Words as sizes
 use Rattle.unscramble.specs.Words as read
 use Rattle.stored_slot.specs.declared.stored.StoredSlot.{StoredSlot}
-use Rattle.round_trip.specs.WellWired.{OneInside, WellWired, StoredAs, Unforced}
+use Rattle.premises.specs.WellWired.{OneInside, WellWired, StoredAs, Unforced}
 use Rattle.round_trip.proofs.Fitted.{Fitted}
 use Rattle.round_trip.proofs.Apart.{x-few, x-third}
 

@@ -22,8 +22,8 @@ use Rattle.listing.specs.Listing.{listed, xListed}
 use Rattle.listing.specs.Choice.{CandidateOf}
 use Rattle.listing.specs.Lines.{pinSocket}
 use Rattle.addr_lines.specs.Lines.{lineSocket, isOff, offBefore, flyLead, atSocket, lineListed}
-use Rattle.round_trip.specs.WellWired.{BoardPin, candidatesOf, PinOf, addressPin}
-use Rattle.round_trip.specs.WellWired.BoardPin.{socket, x1, x2}
+use Rattle.premises.specs.WellWired.{BoardPin, candidatesOf, PinOf, addressPin}
+use Rattle.premises.specs.WellWired.BoardPin.{socket, x1, x2}
 
 -- two chip pins at one place of the socket are one
 place-of : (pin raised board s : ℕ) (t : Bool) → (leb 1 (pin + raised - 4) && leb (pin + raised - 4) board) ≡ t

@@ -46,9 +46,10 @@ use Rattle.unscramble.specs.Words as read
 use Rattle.unscramble.specs.Recovered as recover
 use Rattle.unscramble.specs.Recovered.{readBack, front, inconsistent, unserved, recovered, unscrambled}
 use Rattle.stored_slot.specs.declared.stored.StoredSlot.{StoredSlot}
-use Rattle.round_trip.specs.WellWired.{WellWired, StoredAs, Unforced}
+use Rattle.premises.specs.WellWired.{WellWired, StoredAs, Unforced}
 use Rattle.round_trip.proofs.Fitted.{Fitted, ToldApart}
-use Rattle.round_trip.specs.RoundTrip.{Accepted, tableBuilt, chipWords, wordsTo, words, Room, firstBytes, returnedWhole, RoundTrip}
+use Rattle.premises.specs.Room.{chipWords, wordsTo, words, Room}
+use Rattle.round_trip.specs.RoundTrip.{Accepted, tableBuilt, firstBytes, returnedWhole, RoundTrip}
 use Rattle.build_args.proofs.Facts.{described, selected, data-base}
 use Rattle.rom_image.proofs.Buildable.{Buildable}
 use Rattle.rom_image.specs.design.Past.{PastTests}

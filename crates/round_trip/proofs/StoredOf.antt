@@ -30,7 +30,7 @@ use Rattle.rom_image.proofs.Past.{table-small, table-fits, pins-few}
 use Rattle.stored_slot.specs.Stored as stored
 use Rattle.stored_slot.specs.declared.stored.Rom.{Rom}
 use Rattle.stored_slot.specs.declared.stored.StoredSlot.{StoredSlot}
-use Rattle.round_trip.specs.WellWired.{Mapped, StoredAs, Unforced}
+use Rattle.premises.specs.WellWired.{Mapped, StoredAs, Unforced}
 use Rattle.round_trip.specs.RoundTrip.{Accepted}
 use Rattle.round_trip.specs.Stored.{mapList, storedRom, gpioOr0, storedOf}
 use Rattle.round_trip.proofs.Laid.{cs-found}

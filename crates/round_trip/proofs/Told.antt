@@ -26,8 +26,8 @@ use Rattle.cs_data_law.specs.Sound as cs
 use Rattle.cs_data_layout.specs.declared.layout.CsDataLayout.{CsDataLayout}
 use Rattle.build_args.specs.Positions.{dataPosition}
 use Rattle.build_args.specs.Picks.{firstSelect}
-use Rattle.round_trip.specs.WellWired.{BoardPin, candidatesOf, dataPin, selectPin, WellWired}
-use Rattle.round_trip.specs.WellWired.BoardPin.{socket, x1, x2}
+use Rattle.premises.specs.WellWired.{BoardPin, candidatesOf, dataPin, selectPin, WellWired}
+use Rattle.premises.specs.WellWired.BoardPin.{socket, x1, x2}
 use Rattle.round_trip.proofs.Fitted.{ToldApart}
 use Rattle.round_trip.proofs.Pins.{place-in, same-place}
 use Rattle.round_trip.proofs.Apart.{SelectAt, index-in, index-own}

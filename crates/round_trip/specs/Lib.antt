@@ -1,4 +1,3 @@
-pub mod WellWired
 pub mod RoundTrip
 pub mod Stored
 pub mod Chain

@@ -3,12 +3,10 @@
 use mathlib.Core.Path.{_≡_}
 use mathlib.Core.Bool.{true}
 use mathlib.Core.List.{List}
-use Prim.Native.Nat.{ℕ, zero, suc, _+_, _*_, _^_, _≤_, _<_, min}
-use lib.ListN.{length, take, replicate, getD}
+use Prim.Native.Nat.{ℕ, _*_, _<_}
+use lib.ListN.{take, replicate, getD}
 use Rattle.lists.specs.Tab.{joined}
-use Rattle.slot.specs.declared.description.Description.{Description}
 use Rattle.addr_layout.specs.Search.{addrAnswer}
-use Rattle.addr_layout.specs.declared.layout.AddrLayout.{AddrLayout}
 use Rattle.addr_layout.specs.declared.layout.AddrOutcome.{AddrOutcome}
 use Rattle.addr_layout.specs.declared.layout.AddrAnswer.{AddrAnswer}
 use Rattle.cs_data_layout.specs.Search.{csDataAnswer}
@@ -17,12 +15,12 @@ use Rattle.cs_data_layout.specs.declared.layout.CsDataAnswer.{CsDataAnswer}
 use Rattle.build_args.specs.Images.{chipSpan, chipBytes}
 use Rattle.build_args.specs.Faults.{tableSize}
 use Rattle.build_args.specs.declared.BuildArgs.{BuildArgs}
-use Rattle.rom_image.specs.Entry.{wordCount}
 use Rattle.rom_image.specs.Build.{buildOf}
 use Rattle.refusal.specs.declared.Answer.{Answer}
 use Rattle.unscramble.specs.Recovered.{ReadBack, readBack, front, unscrambled}
 use Rattle.stored_slot.specs.declared.stored.StoredSlot.{StoredSlot}
-use Rattle.round_trip.specs.WellWired.{WellWired, StoredAs, Unforced}
+use Rattle.premises.specs.WellWired.{WellWired, StoredAs, Unforced}
+use Rattle.premises.specs.Room.{chipWords, words, Room}
 
 -- 00 Demand 3: the searches find the two layouts, and the build by them is not refused
 -- 01 Well wired 8: the searches and the build share the description, and the build works by the layouts found
@@ -37,22 +35,6 @@ pub record Accepted (b : BuildArgs) (images lent : List ℕ) : Type 0 where
 -- 01 Well wired 9: read-back is given the front of the lent table just as the build left it
 abbrev pub tableBuilt : BuildArgs → List ℕ → List ℕ → List ℕ
 tableBuilt b images lent = take (tableSize (b .description) (b .addr)) (buildOf b images lent .table)
-
--- 00 Demand 3: a chip's words are the whole ones of its size, but at most 2^lines; excess lines are not counted in
-abbrev pub chipWords : Description → AddrLayout → ℕ → ℕ
-chipWords d a k = min (wordCount d k) (2 ^ a .«num_lines»)
-
-unfoldable pub wordsTo : Description → AddrLayout → ℕ → ℕ
-wordsTo d a zero = 0
-wordsTo d a (suc n) = wordsTo d a n + chipWords d a n
-
-abbrev pub words : Description → AddrLayout → ℕ
-words d a = wordsTo d a (d .«num_chips»)
-
--- 01 Well wired 11: the output has w bytes for each word of all chips, and the marks have one
-pub record Room (d : Description) (a : AddrLayout) (output marks : List ℕ) : Type 0 where
-  pub for-output : words d a * d .«word_bytes» ≤ length output
-  pub for-marks : words d a ≤ length marks
 
 -- 00 Demand 3: of the bytes that the build had for chip k, those of its words
 abbrev pub firstBytes : BuildArgs → List ℕ → ℕ → List ℕ

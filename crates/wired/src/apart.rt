@@ -3,7 +3,7 @@ use lists::array::entry;
 ghost use mathlib.Core.Path.{_≡_};
 ghost use Prim.Native.Nat.{_+_};
 ghost use lib.ListN.{getD};
-ghost use Rattle.wired.specs.Wired.{apartFrom, apart, noneOn};
+ghost use Rattle.premises.specs.Wired.{apartFrom, apart, noneOn};
 
 fn pin_of(pins: &[u8], first: u8, k: u8) -> u8
     ensures { λ r. ⌜ r ≡ getD (now (pins .entry)) (first + k) 0 ⌝ }

@@ -3,7 +3,7 @@ use gpio::candidates::Candidates;
 use listing::candidates_at;
 use slot::description::Board;
 ghost use mathlib.Core.Path.{_≡_};
-ghost use Rattle.wired.specs.Wired.{boardPin, holds, disjoint, aloneAt, unshared};
+ghost use Rattle.premises.specs.Wired.{boardPin, holds, disjoint, aloneAt, unshared};
 
 // The candidates of a board's pin by number: those below n are the socket's, n is X1, n + 1 is X2.
 fn board_pin(b: Board, n: u8, i: u16) -> Candidates

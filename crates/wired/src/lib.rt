@@ -14,8 +14,8 @@ use listing::lines::kind_pin;
 use listing::lines::pin_candidates;
 use slot::description::Description;
 ghost use mathlib.Core.Path.{_≡_};
-ghost use Rattle.round_trip.specs.WellWired.{selectPin};
-ghost use Rattle.wired.specs.Wired.{linesApart, selectApart, dataApart, dataLinesWhole, selectOne, inAddrWindow, oneInAddrWindow, wired};
+ghost use Rattle.premises.specs.WellWired.{selectPin};
+ghost use Rattle.premises.specs.Wired.{linesApart, selectApart, dataApart, dataLinesWhole, selectOne, inAddrWindow, oneInAddrWindow, wired};
 
 // The chip pin of the line that tells a Multi set's chips apart.
 fn select_pin(d: Description) -> u8

@@ -7,7 +7,7 @@ use lib.ListN.{getD}
 use borrow.Author.Needs.{needs}
 use Rattle.slot.specs.Description.{chip0}
 use Rattle.cs_data_layout.specs.Choices.{numData}
-use Rattle.wired.specs.Wired.{apart}
+use Rattle.premises.specs.Wired.{apart}
 use Rattle.wired.proofs.data_apart.Statement.{statement}
 use Rattle.wired.proofs.data_apart.Tie as tie
 

@@ -1,6 +1,6 @@
 -- `well_wired` meets its contract: each sentence is asked. Assumes nothing.
 use borrow.Author.Needs.{needs}
-use Rattle.wired.specs.Wired.{wired}
+use Rattle.premises.specs.Wired.{wired}
 use Rattle.wired.proofs.well_wired.Statement.{statement}
 use Rattle.wired.proofs.well_wired.Tie as tie
 

@@ -8,7 +8,7 @@ use borrow.Author.Needs.{needs}
 use Rattle.lists.specs.Each.{each}
 use Rattle.lists.proofs.Each.{each-none, each-turn}
 use Rattle.lists.proofs.Loops.{at-count-of}
-use Rattle.given.specs.Given.{forces, nothingForced}
+use Rattle.premises.specs.Given.{forces, nothingForced}
 use Rattle.given.proofs.forced.nothing_forced.Statement.{statement}
 use Rattle.given.proofs.forced.nothing_forced.Tie as tie
 

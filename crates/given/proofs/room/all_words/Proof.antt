@@ -4,7 +4,7 @@ use Prim.Native.Nat.{_≤_, _-_, _*_, _^_}
 use native.Mathlib.Omega.{arith}
 use borrow.Author.Needs.{needs}
 use Rattle.lists.proofs.Loops.{at-count}
-use Rattle.round_trip.specs.RoundTrip.{wordsTo}
+use Rattle.premises.specs.Room.{wordsTo}
 use Rattle.given.proofs.Words.{words-none, words-turn}
 use Rattle.given.proofs.room.all_words.Statement.{statement}
 use Rattle.given.proofs.room.all_words.Tie as tie

@@ -8,7 +8,7 @@ use borrow.Author.Needs.{needs}
 use Rattle.lists.specs.Each.{each}
 use Rattle.lists.proofs.Each.{each-none, each-turn}
 use Rattle.lists.proofs.Loops.{at-count-of}
-use Rattle.given.specs.Same.{sameTo}
+use Rattle.premises.specs.Same.{sameTo}
 use Rattle.given.proofs.same.same_to.Statement.{statement}
 use Rattle.given.proofs.same.same_to.Tie as tie
 

@@ -6,7 +6,7 @@ use borrow.Author.Needs.{needs}
 use Rattle.lists.specs.Each.{each}
 use Rattle.lists.proofs.Each.{each-none, each-turn}
 use Rattle.lists.proofs.Loops.{at-count-of}
-use Rattle.given.specs.Given.{mappedAs}
+use Rattle.premises.specs.Given.{mappedAs}
 use Rattle.given.proofs.stored.all_mapped.Statement.{statement}
 use Rattle.given.proofs.stored.all_mapped.Tie as tie
 

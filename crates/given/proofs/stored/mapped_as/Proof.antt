@@ -1,6 +1,6 @@
 -- `mapped_as` meets its contract. Assumes nothing.
 use borrow.Author.Needs.{needs}
-use Rattle.given.specs.Given.{mappedAs}
+use Rattle.premises.specs.Given.{mappedAs}
 use Rattle.given.proofs.stored.mapped_as.Statement.{statement}
 use Rattle.given.proofs.stored.mapped_as.Tie as tie
 

@@ -1,6 +1,6 @@
 -- `stored_well` meets its contract: each sentence is asked. Assumes nothing.
 use borrow.Author.Needs.{needs}
-use Rattle.given.specs.Given.{storedWell}
+use Rattle.premises.specs.Given.{storedWell}
 use Rattle.given.proofs.stored.stored_well.Statement.{statement}
 use Rattle.given.proofs.stored.stored_well.Tie as tie
 

@@ -7,7 +7,7 @@ use borrow.Author.Needs.{needs}
 use Rattle.lists.specs.Each.{each}
 use Rattle.lists.proofs.Each.{each-none, each-turn}
 use Rattle.lists.proofs.Loops.{at-count-of}
-use Rattle.wired.specs.Wired.{apartFrom, apart}
+use Rattle.premises.specs.Wired.{apartFrom, apart}
 use Rattle.wired.proofs.apart.apart.Statement.{statement}
 use Rattle.wired.proofs.apart.apart.Tie as tie
 

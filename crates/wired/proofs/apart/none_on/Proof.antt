@@ -9,7 +9,7 @@ use borrow.Author.Needs.{needs}
 use Rattle.lists.specs.Each.{each}
 use Rattle.lists.proofs.Each.{each-none, each-turn}
 use Rattle.lists.proofs.Loops.{at-count-of}
-use Rattle.wired.specs.Wired.{noneOn}
+use Rattle.premises.specs.Wired.{noneOn}
 use Rattle.wired.proofs.apart.none_on.Statement.{statement}
 use Rattle.wired.proofs.apart.none_on.Tie as tie
 

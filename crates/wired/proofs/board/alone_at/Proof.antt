@@ -8,7 +8,7 @@ use borrow.Author.Needs.{needs}
 use Rattle.lists.specs.Each.{each}
 use Rattle.lists.proofs.Each.{each-none, each-turn}
 use Rattle.lists.proofs.Loops.{at-count-of}
-use Rattle.wired.specs.Wired.{boardPin, disjoint, aloneAt}
+use Rattle.premises.specs.Wired.{boardPin, disjoint, aloneAt}
 use Rattle.wired.proofs.board.alone_at.Statement.{statement}
 use Rattle.wired.proofs.board.alone_at.Tie as tie
 

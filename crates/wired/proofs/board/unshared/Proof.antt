@@ -6,7 +6,7 @@ use borrow.Author.Needs.{needs}
 use Rattle.lists.specs.Each.{each}
 use Rattle.lists.proofs.Each.{each-none, each-turn}
 use Rattle.lists.proofs.Loops.{at-count-of}
-use Rattle.wired.specs.Wired.{aloneAt, unsharedAmong}
+use Rattle.premises.specs.Wired.{aloneAt, unsharedAmong}
 use Rattle.wired.proofs.board.unshared.Statement.{statement}
 use Rattle.wired.proofs.board.unshared.Tie as tie
 

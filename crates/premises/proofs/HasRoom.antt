@@ -9,8 +9,8 @@ use borrow.Author.Tests.{leb-true, le-leb}
 use Rattle.lists.proofs.Bools.{and-left, and-right}
 use Rattle.slot.specs.declared.description.Description.{Description}
 use Rattle.addr_layout.specs.declared.layout.AddrLayout.{AddrLayout}
-use Rattle.round_trip.specs.RoundTrip.{words, Room}
-use Rattle.given.specs.Given.{roomy}
+use Rattle.premises.specs.Room.{words, Room}
+use Rattle.premises.specs.Given.{roomy}
 
 module _ (d : Description) (a : AddrLayout) (output marks : List ℕ) where
   pub room-is : roomy d a (length output) (length marks) ≡ true → Room d a output marks

@@ -8,7 +8,6 @@ use lib.ListN.{getD}
 use borrow.Author.Tests.{eqb-true, eq-eqb}
 use Rattle.lists.proofs.Bools.{and-left, and-right}
 use Rattle.lists.proofs.Each.{each-all, each-at}
-use Rattle.lists.proofs.Loops.{zero-one}
 use Rattle.gpio.specs.declared.candidates.Candidates.{Candidates}
 use Rattle.gpio.specs.declared.candidates.Candidates.the-variants.{Absent, One, Two}
 use Rattle.gpio.specs.declared.line.LineGpio.{LineGpio}
@@ -17,10 +16,8 @@ use Rattle.slot.specs.declared.description.ChipSetType.{ChipSetType}
 use Rattle.slot.specs.declared.description.ChipSetType.the-variants.{Single, Banked, Multi}
 use Rattle.stored_slot.specs.declared.stored.SlotType.{SlotType}
 use Rattle.stored_slot.specs.declared.stored.SlotType.the-variants.{Unknown, Plugin, Roms}
-use Rattle.given.specs.Same.{sameCandidates, sameSet, isRoms, isAt, sameTo}
-
-pub not-so : false ≡ true → ⊥
-not-so e = let z : _≡_ {A = Bool} false true = e in zero-one cc
+use Rattle.premises.specs.Same.{sameCandidates, sameSet, isRoms, isAt, sameTo}
+use Rattle.premises.proofs.Truths.{not-so}
 
 -- candidates
 two-same : (a b g h : ℕ) → eqb a g && eqb b h ≡ true → Two g h ≡ Two a b

@@ -15,9 +15,9 @@ use Rattle.addr_law.specs.Law.{InWindow}
 use Rattle.addr_layout.specs.declared.layout.AddrLayout.{AddrLayout}
 use Rattle.stored_slot.specs.Stored.{within, forceLow, forceHigh, names}
 use Rattle.stored_slot.specs.declared.stored.StoredSlot.{StoredSlot}
-use Rattle.round_trip.specs.WellWired.{Unforced}
-use Rattle.given.specs.Given.{forces, nothingForced}
-use Rattle.given.proofs.Sames.{not-so}
+use Rattle.premises.specs.WellWired.{Unforced}
+use Rattle.premises.specs.Given.{forces, nothingForced}
+use Rattle.premises.proofs.Truths.{not-so, clash, fails, or-left, or-right}
 
 -- whether override k names a GPIO by a kind, and whether a kind forces
 abbrev named : List ℕ → ℕ → ℕ → ℕ → Bool
@@ -25,20 +25,6 @@ named l kind g k = eqb (getD l k 0 % 64) g && eqb (getD l k 0 / 64) kind
 
 abbrev forcing : ℕ → Bool
 forcing kind = eqb kind forceLow || eqb kind forceHigh
-
-clash : (t : Bool) → t ≡ true → t ≡ false → ⊥
-clash t e f = not-so (sym f ∙ e)
-
-fails : (t : Bool) → (t ≡ true → ⊥) → t ≡ false
-fails true h = absurd (h refl)
-fails false h = refl
-
-or-left : (t u : Bool) → t ≡ true → t || u ≡ true
-or-left t u e = rw e
-
-or-right : (t u : Bool) → u ≡ true → t || u ≡ true
-or-right true u e = refl
-or-right false u e = e
 
 neither : (t u : Bool) → t ≡ false → u ≡ false → t || u ≡ false
 neither t u e f = rw (e, f)

@@ -17,9 +17,9 @@ use Rattle.addr_lines.specs.Range.{inRange}
 use Rattle.addr_law.specs.Law.{InWindow}
 use Rattle.addr_layout.specs.declared.layout.AddrLayout.{AddrLayout}
 use Rattle.cs_data_layout.specs.Choices.{numData}
-use Rattle.round_trip.specs.WellWired.{BoardPin, PinOf, Unshared, addressPin, dataPin, selectPin, OneInside, WellWired}
-use Rattle.round_trip.specs.WellWired.BoardPin.{socket, x1, x2}
-use Rattle.wired.specs.Wired.{
+use Rattle.premises.specs.WellWired.{BoardPin, PinOf, Unshared, addressPin, dataPin, selectPin, OneInside, WellWired}
+use Rattle.premises.specs.WellWired.BoardPin.{socket, x1, x2}
+use Rattle.premises.specs.Wired.{
   pinNumbered,
   boardPin,
   holds,
@@ -39,12 +39,8 @@ use Rattle.wired.specs.Wired.{
   oneInAddrWindow,
   wired,
 }
-use Rattle.wired.proofs.Law.{clash, window-is, window-of}
-
--- what is not true is false
-fails : (t : Bool) → (t ≡ true → ⊥) → t ≡ false
-fails true h = absurd (h refl)
-fails false h = refl
+use Rattle.premises.proofs.Truths.{clash, fails, all, asked-if, unless-if}
+use Rattle.premises.proofs.Wired.{window-is, window-of}
 
 -- what is held is a candidate
 either : (t u : Bool) (g a b : ℕ) → eqb g a ≡ t → eqb g b ≡ u → t || u ≡ true → CandidateOf (Two a b) g
@@ -143,15 +139,6 @@ inside-if a (Two g h) o =
     one-of (inAddrWindow a g) (inAddrWindow a h) (eqb g h) (other-inside a g h o)
     (λ e f. eq-eqb g h (o .only g (inl refl) (window-is a g e) ∙ sym (o .only h (inr refl) (window-is a h f))))
 
--- a rule that is asked only where t holds, or only where it does not
-asked-if : (t b : Bool) → (t ≡ true → b ≡ true) → not t || b ≡ true
-asked-if true b h = h refl
-asked-if false b h = refl
-
-unless-if : (t b : Bool) → (t ≡ false → b ≡ true) → t || b ≡ true
-unless-if true b h = refl
-unless-if false b h = h refl
-
 pub wired-if : (d : Description) (a : AddrLayout) → WellWired d a → wired d a ≡ true
 unfolding wired
 wired-if d a w =
@@ -172,7 +159,4 @@ wired-if d a w =
     let x2-in : single ≡ false → third ≡ true → in2 ≡ true =
     λ s t. inside-if a (d .board .x2) (w .x2-inside s (leb-true 3 _ t)) in
     let e8 = unless-if single (not third || in2) (λ s. asked-if third in2 (x2-in s)) in
-    both _ _ (both _ _ (both _ _ (both _ _ (both _ _ (both _ _ (both _ _ (both _ _ e0 e1) e2) e3) e4) e5) e6) e7) e8
-  where
-    both : (a b : Bool) → a ≡ true → b ≡ true → a && b ≡ true
-    both a b e f = rw (e, f)
+    all _ _ (all _ _ (all _ _ (all _ _ (all _ _ (all _ _ (all _ _ (all _ _ e0 e1) e2) e3) e4) e5) e6) e7) e8

@@ -13,8 +13,8 @@ use Rattle.listing.specs.Lines.{pinCandidates}
 use Rattle.addr_lines.specs.Range.{inRange}
 use Rattle.addr_layout.specs.declared.layout.AddrLayout.{AddrLayout}
 use Rattle.cs_data_layout.specs.Choices.{numData}
-use Rattle.round_trip.specs.WellWired.{BoardPin, candidatesOf, addressPin, dataPin, selectPin}
-use Rattle.round_trip.specs.WellWired.BoardPin.{socket, x1, x2}
+use Rattle.premises.specs.WellWired.{BoardPin, candidatesOf, addressPin, dataPin, selectPin}
+use Rattle.premises.specs.WellWired.BoardPin.{socket, x1, x2}
 
 -- the pins of a board by number, its socket having n pins: the socket's from 0, then X1, then X2
 abbrev pub pinNumbered : ℕ → ℕ → BoardPin

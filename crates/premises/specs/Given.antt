@@ -25,8 +25,8 @@ use Rattle.stored_slot.specs.Stored.{
   forceHigh,
 }
 use Rattle.stored_slot.specs.declared.stored.StoredSlot.{StoredSlot}
-use Rattle.round_trip.specs.RoundTrip.{words}
-use Rattle.given.specs.Same.{sameCandidates, isRoms, isAt, sameTo}
+use Rattle.premises.specs.Room.{words}
+use Rattle.premises.specs.Same.{sameCandidates, isRoms, isAt, sameTo}
 
 -- whether an output and marks of so many bytes have room
 -- 01 Well wired 11: there are w bytes of output for each word of all chips, and one mark

@@ -17,17 +17,11 @@ use Rattle.build_args.specs.Picks.{firstSelect}
 use Rattle.build_args.specs.Faults.{tableSize}
 use Rattle.stored_slot.specs.Stored as stored
 use Rattle.stored_slot.specs.declared.stored.StoredSlot.{StoredSlot}
-use Rattle.round_trip.specs.WellWired.{Mapped, StoredAs}
-use Rattle.given.specs.Same.{sameCandidates, isRoms, isAt, sameTo}
-use Rattle.given.specs.Given.{algsKnown, basesAs, xPinsAs, listsOf, mappedAs, romsAs, selectAs, storedWell}
-use Rattle.given.proofs.Sames.{candidates-is, candidates-if, roms-is, roms-if, at-is, at-if, to-is, to-if}
-
-all : (a b : Bool) → a ≡ true → b ≡ true → a && b ≡ true
-all a b e f = rw (e, f)
-
-asked-if : (t b : Bool) → (t ≡ true → b ≡ true) → not t || b ≡ true
-asked-if true b h = h refl
-asked-if false b h = refl
+use Rattle.premises.specs.WellWired.{Mapped, StoredAs}
+use Rattle.premises.specs.Same.{sameCandidates, isRoms, isAt, sameTo}
+use Rattle.premises.specs.Given.{algsKnown, basesAs, xPinsAs, listsOf, mappedAs, romsAs, selectAs, storedWell}
+use Rattle.premises.proofs.Truths.{all, asked-if}
+use Rattle.premises.proofs.Sames.{candidates-is, candidates-if, roms-is, roms-if, at-is, at-if, to-is, to-if}
 
 module _ (d : Description) (a : AddrLayout) (c : CsDataLayout) (s : StoredSlot) where
   -- a ROM

@@ -10,7 +10,6 @@ use Rattle.gpio.specs.declared.candidates.Candidates.{Candidates}
 use Rattle.gpio.specs.declared.candidates.Candidates.the-variants.{Absent, One, Two}
 use Rattle.lists.proofs.Bools.{and-left, and-right, asked}
 use Rattle.lists.proofs.Each.{each-at}
-use Rattle.lists.proofs.Loops.{zero-one}
 use Rattle.slot.specs.Description.{isSingle, isMulti}
 use Rattle.slot.specs.declared.description.Board.{Board}
 use Rattle.slot.specs.declared.description.Description.{Description}
@@ -19,9 +18,9 @@ use Rattle.addr_lines.specs.Range.{inRange}
 use Rattle.addr_law.specs.Law.{InWindow}
 use Rattle.addr_layout.specs.declared.layout.AddrLayout.{AddrLayout}
 use Rattle.cs_data_layout.specs.Choices.{numData}
-use Rattle.round_trip.specs.WellWired.{BoardPin, candidatesOf, PinOf, Unshared, addressPin, dataPin, selectPin, OneInside, WellWired}
-use Rattle.round_trip.specs.WellWired.BoardPin.{socket, x1, x2}
-use Rattle.wired.specs.Wired.{
+use Rattle.premises.specs.WellWired.{BoardPin, candidatesOf, PinOf, Unshared, addressPin, dataPin, selectPin, OneInside, WellWired}
+use Rattle.premises.specs.WellWired.BoardPin.{socket, x1, x2}
+use Rattle.premises.specs.Wired.{
   pinNumbered,
   boardPin,
   holds,
@@ -43,19 +42,13 @@ use Rattle.wired.specs.Wired.{
   oneInAddrWindow,
   wired,
 }
+use Rattle.premises.proofs.Truths.{clash, or-right, unless}
 
 -- a candidate is held
 holds-of : (c : Candidates) (g : ℕ) → CandidateOf c g → holds c g ≡ true
 holds-of Absent g h = absurd h
 holds-of (One a) g h = eq-eqb g a h
 holds-of (Two a b) g h = elim h [ inl q ↦ rw (eq-eqb g a q) | inr q ↦ or-right (eqb g a) (eqb g b) (eq-eqb g b q) ]
-  where
-    or-right : (t u : Bool) → u ≡ true → t || u ≡ true
-    or-right true u e = refl
-    or-right false u e = e
-
-pub clash : (t : Bool) → t ≡ true → t ≡ false → ⊥
-clash t e f = zero-one (ap (λ (x : Bool). cond x 0 1) (sym e ∙ f))
 
 neither : (t : Bool) → not t ≡ true → t ≡ true → ⊥
 neither t e f = clash t f (not-true t e)
@@ -159,11 +152,6 @@ one-inside : (a : AddrLayout) (c : Candidates) → oneInAddrWindow a c ≡ true 
 one-inside a Absent e = absurd (clash false e refl)
 one-inside a (One g) e = record { gpio = g; candidate = refl; inside = window-is a g e; only = λ x k w. k }
 one-inside a (Two g h) e = two-inside a g h (inAddrWindow a g) (inAddrWindow a h) refl refl e
-
--- a rule that is asked only where t does not hold
-unless : (t b : Bool) → t || b ≡ true → t ≡ false → b ≡ true
-unless true b e f = cc
-unless false b e f = e
 
 pub wired-is : (d : Description) (a : AddrLayout) → wired d a ≡ true → WellWired d a
 unfolding wired
