@@ -15,7 +15,7 @@ use Rattle.slot.specs.declared.description.Board.{Board}
 use Rattle.slot.specs.declared.description.Description.{Description}
 use Rattle.domain.specs.Domain.{descriptionIn}
 use Rattle.domain.proofs.Bounds.{BoardIn, description-in}
-use Rattle.description_record.specs.Encoded.{socketPinOf}
+use Rattle.description_law.specs.Encoded.{socketPinOf}
 
 -- candidates that are GPIOs
 abbrev pub GpiosIn : Candidates → Type 0

@@ -30,12 +30,12 @@ use Rattle.slot.specs.declared.description.MultiCsConfig.{MultiCsConfig}
 use Rattle.slot.specs.declared.description.Description.{Description}
 use Rattle.domain.specs.Domain.{descriptionIn}
 use Rattle.refusal.specs.declared.Answer.the-variants.{Done}
 use Rattle.description_record.specs.Record.{recordSize, setTypeOf, offsetOf, offsetIn, logicFrom, logicIn, settingOf, settingIn, csConfigAt, csConfigIn, multiAt, boardAt, chipAt, described, headIn, pairsIn, wellFormed, decodedOf}
 use Rattle.fields.specs.Candidates.{pairAt, pairIn, pairBytes, pairField}
 use Rattle.fields.specs.Fields.{fourAt, field, fourBytes}
 use Rattle.slot.specs.Description.{noPin, noLine, noChip}
-use Rattle.description_record.specs.Encoded.{setTypeByte, offsetByte, logicByte, settingByte, csConfigBytes, multiBytes, socketPinOf, controlLineOf, chipOf, boardBytes, lineBytes, chipRecord, descriptionHead, encoded, Bytes, ValuedBoard, ValuedChip, ValuedMulti, Valued}
-use Rattle.description_record.proofs.InDomain.{GpiosIn, OffsetIn, EncodableBoard, Encodable, in-domain}
+use Rattle.description_law.specs.Encoded.{setTypeByte, offsetByte, logicByte, settingByte, csConfigBytes, multiBytes, socketPinOf, controlLineOf, chipOf, boardBytes, lineBytes, chipRecord, descriptionHead, encoded, Bytes, ValuedBoard, ValuedChip, ValuedMulti, Valued}
+use Rattle.description_law.proofs.InDomain.{GpiosIn, OffsetIn, EncodableBoard, Encodable, in-domain}
 
 -- lists of bytes
 
@@ -193,7 +193,7 @@ chip-back c v = λ i. record {
     lines = tab-is (controlLineOf c) (c .control .lines) noLine 8 (v .lines) (λ j h. refl) i;
     count = c .control .count;
   };
-  size = four-back (c .size) (v .size) i;
+  size = four-back (c .size) (omega (arith, v .size)) i;
 }
 
 multi-back : (d : Description) → ValuedMulti (d .multi) → multiAt (encoded d) ≡ d .multi

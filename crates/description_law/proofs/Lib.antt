@@ -1,0 +1,4 @@
+pub mod InDomain
+pub mod Encodes
+pub mod Valued
+pub mod Law

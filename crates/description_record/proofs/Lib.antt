@@ -1,2 +1,0 @@
-pub mod Encodes
-pub mod InDomain
