@@ -77,18 +77,18 @@ unfolding csDataFormed
 cs-data-long l = eqb-true (length (csDataBytes l)) csDataSize (and-left _ _ (cs-data-formed l))
 
 -- a search that is done has found a layout, and its record is the buffer's front
-addr-found : (o : AddrOutcome) (l : AddrLayout) (buffer : List ℕ) → addrOutcome o l buffer .answer ≡ Done
+pub addr-found : (o : AddrOutcome) (l : AddrLayout) (buffer : List ℕ) → addrOutcome o l buffer .answer ≡ Done
     → (o ≡ AddrOutcome.LaidOut) × (take addrSize (addrOutcome o l buffer .buffer) ≡ layoutBytes l)
 addr-found AddrOutcome.LaidOut l buffer e = (refl, front (layoutBytes l) buffer addrSize (ltb (length buffer) addrSize) (addr-long l) e)
 addr-found (AddrOutcome.Refused why) l buffer e = absurd (refused-done why e)
 
-cs-data-found : (o : CsDataOutcome) (l : CsDataLayout) (buffer : List ℕ) → csDataOutcome o l buffer .answer ≡ Done
+pub cs-data-found : (o : CsDataOutcome) (l : CsDataLayout) (buffer : List ℕ) → csDataOutcome o l buffer .answer ≡ Done
     → (o ≡ CsDataOutcome.LaidOut) × (take csDataSize (csDataOutcome o l buffer .buffer) ≡ csDataBytes l)
 cs-data-found CsDataOutcome.LaidOut l buffer e = (refl, front (csDataBytes l) buffer csDataSize (ltb (length buffer) csDataSize) (cs-data-long l) e)
 cs-data-found (CsDataOutcome.Refused why) l buffer e = absurd (refused-done why e)
 
 -- a search that found a layout had a description in the domain
-searched : (d : Description) (l : AddrLayout) (t : Bool) → addrSearchIn d ≡ t
+pub searched : (d : Description) (l : AddrLayout) (t : Bool) → addrSearchIn d ≡ t
     → cond t (afterFaults d (firstFault (addrListed d))) (addrRefused OutOfDomain) ≡ laidOut l → descriptionIn d ≡ true
 searched d l true q e = and-left (descriptionIn d) _ q
 searched d l false q e = absurd (refused-not-laid (ap (λ (r : AddrAnswer). r .outcome) e))

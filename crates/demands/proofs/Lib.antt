@@ -1,3 +1,6 @@
-pub mod Found
-pub mod FourCalls
 pub mod Refused
+pub mod Found
+pub mod AddressSearch
+pub mod SelectSearch
+pub mod Searches
+pub mod FourCalls

@@ -49,7 +49,7 @@ use Rattle.onerom.specs.Calls.{Answered, answered, callRefused, written, ifDesc
 use Rattle.demands.specs.Refused.{numberIn, FromTable, Ends, ReadEnds, FirstDemand}
 use Rattle.demands.specs.Refused as ends
 
-number-of : (why : Refusal) → numberIn (packed why) ≡ numberOf why
+pub number-of : (why : Refusal) → numberIn (packed why) ≡ numberOf why
 unfolding packedCode
 number-of why = omega arith
 
