@@ -24,9 +24,9 @@ use Rattle.addr_law.proofs.Law.{addr-demand}
 use Rattle.gpio.specs.Window.{fits}
 use Rattle.addr_record.specs.AddrRecord.{addrSize, layoutAt, ValuedAddr}
 use Rattle.addr_record.proofs.Back.{layout-back}
-use Rattle.onerom.specs.Packed.{packedCode, resultOf}
-use Rattle.onerom.specs.Calls.{Answered, addrOutcome, addrFound, addrCall}
-use Rattle.onerom.proofs.Law.{done-alone}
+use Rattle.calls.specs.Packed.{packedCode, resultOf}
+use Rattle.calls.specs.Calls.{Answered, addrOutcome, addrFound, addrCall}
+use Rattle.calls.proofs.Law.{done-alone}
 use Rattle.demands.specs.Refused.{numberIn}
 use Rattle.demands.specs.Searches.{described, Seen, AddressFits, addressScore, BestAddress, addressCalled, AddressPast, AddressDemand}
 use Rattle.demands.proofs.Found.{addr-valued}

@@ -33,9 +33,9 @@ use Rattle.addr_record.specs.AddrRecord.{addrSize, layoutBytes, layoutAt, layou
 use Rattle.addr_record.proofs.Back.{layout-formed, layout-back}
 use Rattle.cs_data_record.specs.CsDataRecord.{csDataSize, csDataBytes, csDataAt, csDataFormed, ValuedCsData}
 use Rattle.cs_data_record.proofs.Back.{cs-data-formed, cs-data-back}
-use Rattle.onerom.specs.Packed.{packedCode}
-use Rattle.onerom.proofs.Law.{done-alone}
-use Rattle.onerom.specs.Calls.{Answered, answered, callRefused, written, ifDescribed, addrOutcome, addrFound, addrCall, csDataOutcome, csDataFound, csDataCall, buildFormed, buildRefused, buildCall, readBackCall, readResult}
+use Rattle.calls.specs.Packed.{packedCode}
+use Rattle.calls.proofs.Law.{done-alone}
+use Rattle.calls.specs.Calls.{Answered, answered, callRefused, written, ifDescribed, addrOutcome, addrFound, addrCall, csDataOutcome, csDataFound, csDataCall, buildFormed, buildRefused, buildCall, readBackCall, readResult}
 use Rattle.build_args.specs.Faults.{tableSize}
 use Rattle.rom_image.specs.Build.{Built, buildOf}
 use Rattle.unscramble.specs.Recovered.{unscrambled}

@@ -44,8 +44,8 @@ use Rattle.stored_slot.specs.declared.stored.StoredSlot.{StoredSlot}
 use Rattle.stored_slot.specs.declared.stored.SlotType.{SlotType}
 use Rattle.stored_slot.specs.declared.stored.SlotType.the-variants.{Unknown, Plugin, Roms}
 use Rattle.unscramble.specs.Recovered.{firstFor, keptValue, disagreesFor, inconsistent, unserved, readBack, readRefused, front, afterEntries, readAfter, ofType, unscrambled}
-use Rattle.onerom.specs.Packed.{packed, packedCode}
-use Rattle.onerom.specs.Calls.{Answered, answered, callRefused, written, ifDescribed, ifRecord, addrOutcome, addrFound, addrCall, csDataOutcome, csDataFound, csDataCall, buildFrom, buildFormed, buildRefused, buildCall, readBackCall, searchResult, buildResult, readResult}
+use Rattle.calls.specs.Packed.{packed, packedCode}
+use Rattle.calls.specs.Calls.{Answered, answered, callRefused, written, ifDescribed, ifRecord, addrOutcome, addrFound, addrCall, csDataOutcome, csDataFound, csDataCall, buildFrom, buildFormed, buildRefused, buildCall, readBackCall, searchResult, buildResult, readResult}
 use Rattle.demands.specs.Refused.{numberIn, FromTable, Ends, ReadEnds, FirstDemand}
 use Rattle.demands.specs.Refused as ends
 

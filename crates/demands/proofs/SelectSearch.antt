@@ -24,9 +24,9 @@ use Rattle.cs_data_law.proofs.Law.{cs-data-demand}
 use Rattle.cs_data_record.specs.CsDataRecord.{csDataSize, csDataAt, ValuedCsData}
 use Rattle.cs_data_record.proofs.Back.{cs-data-back}
 use Rattle.addr_record.specs.AddrRecord.{givenAt}
-use Rattle.onerom.specs.Packed.{packedCode, resultOf}
-use Rattle.onerom.specs.Calls.{Answered, csDataOutcome, csDataFound, csDataCall}
-use Rattle.onerom.proofs.Law.{done-alone}
+use Rattle.calls.specs.Packed.{packedCode, resultOf}
+use Rattle.calls.specs.Calls.{Answered, csDataOutcome, csDataFound, csDataCall}
+use Rattle.calls.proofs.Law.{done-alone}
 use Rattle.demands.specs.Refused.{numberIn}
 use Rattle.demands.specs.Searches.{described, SelectFits, BestSelect, selectCalled, SelectPast, SelectDemand}
 use Rattle.demands.proofs.Found.{cs-data-valued}

@@ -18,7 +18,7 @@ use Rattle.stored_record.specs.StoredRecord.{storedAt, storedFormed}
 use Rattle.premises.specs.WellWired.{WellWired, StoredAs, Unforced}
 use Rattle.premises.specs.Room.{Room}
 use Rattle.round_trip.specs.RoundTrip.{returnedWhole}
-use Rattle.onerom.specs.Calls.{addrCall, csDataCall, buildCall, readBackCall, Returned, searchResult, buildResult, readReturned, readResult}
+use Rattle.calls.specs.Calls.{addrCall, csDataCall, buildCall, readBackCall, Returned, searchResult, buildResult, readReturned, readResult}
 
 -- what the bench hands in and lends
 pub record Bench : Type 0 where

@@ -10,7 +10,7 @@ use Rattle.stored_slot.specs.Words.{allWords}
 use Rattle.stored_slot.specs.declared.stored.StoredSlot.{StoredSlot}
 use Rattle.stored_record.specs.StoredRecord.{storedAt}
 use Rattle.unscramble.specs.Recovered.{front}
-use Rattle.onerom.specs.Calls.{addrCall, csDataCall, buildCall, readBackCall, Returned, ReadReturned, searchResult, buildResult, readResult}
+use Rattle.calls.specs.Calls.{addrCall, csDataCall, buildCall, readBackCall, Returned, ReadReturned, searchResult, buildResult, readResult}
 
 -- 01 Numbers 1: the number of a refusal, in the result
 abbrev pub numberIn : ℕ → ℕ

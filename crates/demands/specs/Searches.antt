@@ -27,7 +27,7 @@ use Rattle.cs_data_law.specs.Law.{dataPicked, selectPicked, allPicked, preferen
 use Rattle.description_record.specs.Record.{decodedOf}
 use Rattle.addr_record.specs.AddrRecord.{addrSize, layoutAt, givenAt, givenFormed}
 use Rattle.cs_data_record.specs.CsDataRecord.{csDataSize, csDataAt}
-use Rattle.onerom.specs.Calls.{addrCall, csDataCall, Returned, searchResult}
+use Rattle.calls.specs.Calls.{addrCall, csDataCall, Returned, searchResult}
 use Rattle.demands.specs.Refused.{numberIn}
 
 -- what the bytes describe

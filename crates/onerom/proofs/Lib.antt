@@ -1,4 +1,1 @@
-pub mod Unpacked
-pub mod Places
-pub mod Law
 pub mod Records

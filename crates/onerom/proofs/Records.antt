@@ -9,7 +9,7 @@ use Rattle.description_record.specs.Record.{decodedOf}
 use Rattle.refusal.specs.declared.Answer.{Answer}
 use Rattle.refusal.specs.declared.Answer.the-variants.{Done, Refused}
 use Rattle.description_record.specs.declared.Decoded.{Decoded}
-use Rattle.onerom.specs.Calls.{ifDescribed, ifRecord}
+use Rattle.calls.specs.Calls.{ifDescribed, ifRecord}
 
 module _ {A : Type 0} (f : Description → A) (refuse : Refusal → A) (b : List ℕ) (dec : Decoded) (e : dec ≡ decodedOf b) where
   told : (a : Answer) → dec .answer ≡ a → ifDescribed f refuse a (dec .description) ≡ ifRecord f refuse (decodedOf b)

@@ -1,22 +1,21 @@
 // The C interface: calls on numbers and byte slices. docs/INTERFACE.md has the records byte by byte and each call's answers;
 // include/onerom.h declares the calls for C.
-mod refused; // a refusal as one number
-mod addr; // the address search's answer, handed over
-mod cs_data; // the select search's answer, handed over
-mod build; // the build's answer, handed over
-mod read_back; // read-back's answer, handed over
 mod trip; // the round trip's answer, handed over
 
 use addr_layout::derive_addr_layout;
 use addr_record::given_at;
 use addr_record::given_formed;
+use calls::refused::packed;
 use cs_data_layout::derive_cs_data_layout;
 use refusal::Answer;
 use refusal::Refusal;
-use refused::packed;
+use search_calls::addr;
+use search_calls::cs_data;
+use table_calls::build;
+use table_calls::read_back;
 ghost use mathlib.Core.Path.{_≡_};
-ghost use Rattle.onerom.specs.Calls.{addrCall, csDataCall, buildCall, readBackCall, tripCall, CallDemanded};
-ghost use Rattle.onerom.specs.Calls.{returned, readReturned, tripReturned, searchResult, buildResult, readResult, tripResult};
+ghost use Rattle.calls.specs.Calls.{addrCall, csDataCall, buildCall, readBackCall, tripCall, CallDemanded};
+ghost use Rattle.calls.specs.Calls.{returned, readReturned, tripReturned, searchResult, buildResult, readResult, tripResult};
 
 // Finds the address layout of the slot that the record describes, and writes it as a record.
 #[no_mangle]

@@ -1,9 +1,9 @@
 // The round trip, from the records of a caller that has no structs to its answer as one number.
-use crate::refused::result;
+use calls::refused::result;
 use round_trip::round_trip;
 use slot::description::Description;
 ghost use mathlib.Core.Path.{_≡_};
-ghost use Rattle.onerom.specs.Calls.{tripReturned, tripResult, tripFrom, TripDemanded, readReturned};
+ghost use Rattle.calls.specs.Calls.{tripReturned, tripResult, tripFrom, TripDemanded, readReturned};
 
 // Makes the round trip of the chips that the spans give, and answers as it did.
 pub fn hand_over(

@@ -6,7 +6,7 @@ use Rattle.slot.specs.declared.description.Description.{Description}
 use Rattle.refusal.specs.declared.Refusal.{Refusal}
 use Rattle.refusal.specs.declared.Refusal.the-variants.{OutOfDomain}
 use Rattle.rom_image.specs.Build.{Built}
-use Rattle.onerom.specs.Calls.{returned, buildFrom, buildRefused, buildCall, buildResult}
+use Rattle.calls.specs.Calls.{returned, buildFrom, buildRefused, buildCall, buildResult}
 use Rattle.onerom.proofs.Records.{taken, no-record, formed, not-formed}
 use Rattle.onerom.proofs.onerom_build_rom_image.Statement.{statement}
 use Rattle.onerom.proofs.onerom_build_rom_image.Tie as tie

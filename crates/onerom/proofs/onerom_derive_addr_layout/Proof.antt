@@ -8,7 +8,7 @@ use Rattle.refusal.specs.declared.Answer.the-variants.{Done}
 use Rattle.description_record.specs.declared.Decoded.{Decoded}
 use Rattle.addr_layout.specs.Search.{addrAnswer}
 use Rattle.addr_layout.specs.declared.layout.AddrAnswer.{AddrAnswer}
-use Rattle.onerom.specs.Calls.{returned, searchResult, callRefused, addrFound, addrCall}
+use Rattle.calls.specs.Calls.{returned, searchResult, callRefused, addrFound, addrCall}
 use Rattle.onerom.proofs.Records.{taken, no-record}
 use Rattle.onerom.proofs.onerom_derive_addr_layout.Statement.{statement}
 use Rattle.onerom.proofs.onerom_derive_addr_layout.Tie as tie

@@ -11,7 +11,7 @@ use Rattle.cs_data_layout.specs.Search.{csDataAnswer}
 use Rattle.cs_data_layout.specs.declared.layout.CsDataAnswer.{CsDataAnswer}
 use Rattle.cs_data_layout.specs.declared.layout.GivenLayout.{GivenLayout}
 use Rattle.addr_record.specs.AddrRecord.{givenAt}
-use Rattle.onerom.specs.Calls.{returned, searchResult, callRefused, ifRecord, csDataFound, csDataCall}
+use Rattle.calls.specs.Calls.{returned, searchResult, callRefused, ifRecord, csDataFound, csDataCall}
 use Rattle.onerom.proofs.Records.{taken, no-record, formed, not-formed}
 use Rattle.onerom.proofs.onerom_derive_cs_data_layout.Statement.{statement}
 use Rattle.onerom.proofs.onerom_derive_cs_data_layout.Tie as tie

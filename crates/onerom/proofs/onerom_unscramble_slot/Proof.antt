@@ -4,7 +4,7 @@ use Prim.Native.Nat.{ℕ}
 use borrow.Author.Needs.{needs}
 use Rattle.refusal.specs.declared.Refusal.the-variants.{OutOfDomain}
 use Rattle.unscramble.specs.Recovered.{readRefused}
-use Rattle.onerom.specs.Calls.{readReturned, readFrom, readBackCall, readResult}
+use Rattle.calls.specs.Calls.{readReturned, readFrom, readBackCall, readResult}
 use Rattle.onerom.proofs.Records.{formed, not-formed}
 use Rattle.onerom.proofs.onerom_unscramble_slot.Statement.{statement}
 use Rattle.onerom.proofs.onerom_unscramble_slot.Tie as tie

@@ -1,0 +1,38 @@
+// The build, from the records of a caller that has no structs to its answer as one number.
+use build_args::BuildArgs;
+use calls::refused::result;
+use rom_image::build_rom_image;
+use slot::description::Description;
+ghost use mathlib.Core.Path.{_≡_};
+ghost use Rattle.calls.specs.Calls.{returned, buildResult, buildFormed, buildFrom};
+
+// Whether the bytes are records of both layouts and of the chips' spans.
+pub fn formed(addr_layout: &[u8], cs_data_layout: &[u8], spans: &[u8]) -> bool
+    ensures { λ r. ⌜ r ≡ buildFormed (now («addr_layout» .entry)) (now («cs_data_layout» .entry)) (now (spans .entry)) ⌝ }
+{
+    addr_record::formed(addr_layout)
+        & cs_data_record::formed(cs_data_layout)
+        & image_record::formed(spans)
+}
+
+// Builds the table from what the records give, and answers as the build did.
+pub fn hand_over(
+    d: Description,
+    addr_layout: &[u8],
+    cs_data_layout: &[u8],
+    spans: &[u8],
+    images: &[u8],
+    table: &mut [u8],
+) -> u64
+    ensures { λ r. ⌜ returned r (now (table .exit))
+        ≡ buildResult (buildFrom d (now («addr_layout» .entry)) (now («cs_data_layout» .entry)) (now (spans .entry)) (now (images .entry))
+        (now (table .entry))) ⌝ }
+{
+    let args = BuildArgs {
+        description: d,
+        addr: addr_record::layout_at(addr_layout),
+        cs_data: cs_data_record::layout_at(cs_data_layout),
+        spans: image_record::spans_at(spans),
+    };
+    result(build_rom_image(args, images, table))
+}
