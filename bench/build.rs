@@ -1,4 +1,4 @@
-//! Has the proved static library built, and links it.
+//! Has the proved static library built, or takes a ready archive of it, and links it.
 
 use std::env;
 use std::fs;
@@ -9,16 +9,17 @@ use std::process::{Command, exit};
 const LIBRARY: &str = "onerom";
 
 fn main() {
-    println!("cargo:rerun-if-env-changed=ONEROM_ROOT");
     println!("cargo:rerun-if-changed=build.rs");
-    let root = root();
-    for sources in ["crates.txt", "crates"] {
-        println!("cargo:rerun-if-changed={}", root.join(sources).display());
+    for name in ["ONEROM_ARCHIVE", "ONEROM_ROOT"] {
+        println!("cargo:rerun-if-env-changed={name}");
     }
     check_target();
-    build_library(&root);
+    let archive = match env::var_os("ONEROM_ARCHIVE") {
+        Some(place) => ready(PathBuf::from(place)),
+        None => built(&root()),
+    };
     let out = PathBuf::from(wanted("OUT_DIR"));
-    keep(&root, &out);
+    keep(&archive, &out);
     println!("cargo:rustc-link-search=native={}", out.display());
     println!("cargo:rustc-link-lib=static={LIBRARY}");
     // The tests link the example in C with it.
@@ -52,7 +53,17 @@ fn check_target() {
     }
 }
 
-fn build_library(root: &Path) {
+/// An archive that was built before, from whatever sources.
+fn ready(place: PathBuf) -> PathBuf {
+    println!("cargo:rerun-if-changed={}", place.display());
+    place
+}
+
+/// The archive of the library, proved and built from the sources below `root`.
+fn built(root: &Path) -> PathBuf {
+    for sources in ["crates.txt", "crates"] {
+        println!("cargo:rerun-if-changed={}", root.join(sources).display());
+    }
     let built = Command::new("rt")
         .args(["staticlib", LIBRARY])
         .current_dir(root)
@@ -67,17 +78,20 @@ fn build_library(root: &Path) {
         )),
         Err(why) if why.kind() == ErrorKind::NotFound && root.is_dir() => stop(
             "`rt` is not on the path. Rattle's toolchain proves the library and builds it; put \
-             its bin folder on the path and build again",
+             its bin folder on the path and build again, or name a ready archive in ONEROM_ARCHIVE",
         ),
         Err(why) => stop(&format!("`rt` in {}: {why}", root.display())),
     }
+    root.join("target/staticlib").join(archive_name())
+}
+
+fn archive_name() -> String {
+    format!("lib{LIBRARY}.a")
 }
 
 /// Takes a copy of the archive: the gate clears the folder in which `rt` leaves it.
-fn keep(root: &Path, out: &Path) {
-    let name = format!("lib{LIBRARY}.a");
-    let archive = root.join("target/staticlib").join(&name);
-    if let Err(why) = fs::copy(&archive, out.join(&name)) {
+fn keep(archive: &Path, out: &Path) {
+    if let Err(why) = fs::copy(archive, out.join(archive_name())) {
         stop(&format!("{}: {why}", archive.display()));
     }
 }

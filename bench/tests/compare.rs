@@ -2,8 +2,8 @@
 
 use std::process::Command;
 
-/// How many cases of each call. A debug build takes its time, and is there to be tried at all.
-const COUNT: u64 = if cfg!(debug_assertions) { 100 } else { 50_000 };
+/// How many cases of each call from a seed. A debug build takes its time, and is there to be tried at all.
+const COUNT: u64 = if cfg!(debug_assertions) { 100 } else { 25_000 };
 
 const CALLS: [&str; 5] = [
     "address search",
@@ -33,9 +33,9 @@ fn part<'a>(told: &'a str, head: &str) -> &'a str {
     from.split_once(" differences\n").expect("a count").0
 }
 
-fn compared(command: &str, count: u64) -> String {
+fn compared(command: &str, seed: u64, count: u64) -> String {
     let mut program = Command::new(env!("CARGO_BIN_EXE_bench"));
-    let words = program.args([command, "1", &count.to_string()]);
+    let words = program.args([command, &seed.to_string(), &count.to_string()]);
     let told = words.output().expect("the program runs");
     let said = String::from_utf8_lossy(&told.stdout).into_owned();
     let complaint = String::from_utf8_lossy(&told.stderr);
@@ -43,9 +43,19 @@ fn compared(command: &str, count: u64) -> String {
     said
 }
 
+// Two seeds, so that two processors share the cases.
 #[test]
-fn no_case_differs() {
-    let told = compared("compare", COUNT);
+fn no_case_of_seed_1_differs() {
+    none_differs(1);
+}
+
+#[test]
+fn no_case_of_seed_2_differs() {
+    none_differs(2);
+}
+
+fn none_differs(seed: u64) {
+    let told = compared("compare", seed, COUNT);
     let (judges, _) = told.split_once('\n').expect("a first line");
     assert!(JUDGES.contains(&judges), "{judges}");
     println!("{judges}");
@@ -74,7 +84,7 @@ fn no_case_differs() {
 #[test]
 fn no_large_case_differs() {
     let count = if cfg!(debug_assertions) { 1 } else { 20 };
-    let told = compared("compare-large", count);
+    let told = compared("compare-large", 1, count);
     let (whole, wrong) = (2 * count, 6 * count);
     let sum = format!("\nin all {whole} cases, {wrong} with wrong records, 0 differences\n");
     assert!(told.ends_with(&sum), "{told}");
