@@ -8,13 +8,13 @@ use Rattle.refusal.proofs.Law.{number-law}
 use Rattle.calls.specs.Packed.{resultOf}
 use Rattle.calls.specs.Law.{Unpacks, UnpackLaw}
 use Rattle.calls.proofs.Unpacked.{number-back, place-back}
-use Rattle.calls.proofs.Places.{Placed, addr-placed, cs-data-placed, build-placed, read-back-placed, trip-placed}
+use Rattle.calls.proofs.Places.{Placed, addr-placed, cs-data-placed, build-placed, read-back-placed}
 
 pub done-alone : (a : Answer) → resultOf a ≡ 0 → a ≡ Done
 done-alone Done e = refl
 done-alone (Refused why) e = absurd (omega (arith, number-back (refusalCode why), number-law why .some))
 
-unpacks : (a : Answer) → Placed a → Unpacks a
+pub unpacks : (a : Answer) → Placed a → Unpacks a
 unpacks a h = record { number = number-back (answerCode a); place = place-back (answerCode a) h; done = done-alone a }
 
 pub unpack-law : UnpackLaw
@@ -23,5 +23,4 @@ unpack-law = record {
   cs-data = λ description layout buffer. unpacks _ (cs-data-placed description layout buffer);
   build = λ description addr csData spans images table. unpacks _ (build-placed description addr csData spans images table);
   read-back = λ slot stored output marks. unpacks _ (read-back-placed slot stored output marks);
-  trip = λ description spans images table output marks. unpacks _ (trip-placed description spans images table output marks);
 }

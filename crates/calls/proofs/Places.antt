@@ -4,7 +4,7 @@ use mathlib.Core.List.{List, _++_}
 use Prim.Native.Nat.{ℕ, _^_, _<_}
 use native.Mathlib.Omega.{arith}
 use lib.Dec.{ltb}
-use lib.ListN.{length, take, drop}
+use lib.ListN.{length, drop}
 use Rattle.slot.specs.declared.description.Description.{Description}
 use Rattle.refusal.specs.Refusal.{answerCode}
 use Rattle.refusal.specs.declared.Answer.{Answer}
@@ -19,23 +19,17 @@ use Rattle.cs_data_layout.specs.Layout.{csDataCode}
 use Rattle.cs_data_layout.specs.Search.{csDataAnswer}
 use Rattle.cs_data_layout.specs.declared.layout.CsDataLayout.{CsDataLayout}
 use Rattle.cs_data_layout.specs.declared.layout.CsDataOutcome.{CsDataOutcome}
-use Rattle.cs_data_layout.specs.declared.layout.GivenLayout.{GivenLayout}
 use Rattle.cs_data_layout.proofs.Places.{cs-data-place}
 use Rattle.build_args.specs.Args.{argsOf}
-use Rattle.build_args.specs.Faults.{tableSize}
-use Rattle.build_args.specs.declared.BuildArgs.{BuildArgs}
-use Rattle.build_args.specs.declared.images.ImageSpan.{ImageSpan}
-use Rattle.rom_image.specs.Build.{Built, buildOf}
+use Rattle.rom_image.specs.Build.{Built}
 use Rattle.rom_image.proofs.Places.{build-place}
 use Rattle.stored_record.specs.StoredRecord.{storedAt, storedFormed}
 use Rattle.unscramble.specs.Recovered.{ReadBack, readRefused}
 use Rattle.unscramble.proofs.Places.{read-place}
-use Rattle.round_trip.specs.Chain.{Trip, stopped, afterBuild, afterSelect, afterAddress, roundTripOf}
-use Rattle.round_trip.specs.Stored.{storedOf}
 use Rattle.description_record.specs.Record.{wellFormed, described, decodedOf}
 use Rattle.addr_record.specs.AddrRecord.{addrSize, layoutBytes, layoutAt, givenAt, givenFormed}
 use Rattle.cs_data_record.specs.CsDataRecord.{csDataSize, csDataBytes, csDataAt}
-use Rattle.image_record.specs.ImageRecord.{spansAt, spansFormed}
+use Rattle.image_record.specs.ImageRecord.{spansAt}
 use Rattle.calls.specs.Calls.{
   Answered,
   answered,
@@ -55,8 +49,6 @@ use Rattle.calls.specs.Calls.{
   buildCall,
   readFrom,
   readBackCall,
-  tripFrom,
-  tripCall,
 }
 
 abbrev pub Placed : Answer → Type 0
@@ -64,11 +56,11 @@ Placed a = answerCode a .place < 2 ^ 48
 
 -- answers by a test, and by a description's record
 module _ {A : Type 0} (says : A → Answer) where
-  if-place : (t : Bool) (x y : A) → Placed (says x) → Placed (says y) → Placed (says (cond t x y))
+  pub if-place : (t : Bool) (x y : A) → Placed (says x) → Placed (says y) → Placed (says (cond t x y))
   if-place true x y p q = p
   if-place false x y p q = q
 
-  record-place : (f : Description → A) (refuse : Refusal → A) (b : List ℕ) → ((d : Description) → Placed (says (f d)))
+  pub record-place : (f : Description → A) (refuse : Refusal → A) (b : List ℕ) → ((d : Description) → Placed (says (f d)))
       → Placed (says (refuse OutOfDomain)) → Placed (says (ifRecord f refuse (decodedOf b)))
   record-place f refuse b h r = by (wellFormed b)
     where
@@ -91,30 +83,6 @@ addr-found (AddrOutcome.Refused why) l buffer h = h
 cs-data-found : (x : CsDataOutcome) (l : CsDataLayout) (buffer : List ℕ) → csDataCode x .place < 2 ^ 48 → Placed (csDataOutcome x l buffer .answer)
 cs-data-found CsDataOutcome.LaidOut l buffer h = written-place csDataSize (csDataBytes l) buffer
 cs-data-found (CsDataOutcome.Refused why) l buffer h = h
-
--- the round trip, the first of the four that refuses
-module _ (d : Description) (images : List ℕ) (spans : List ImageSpan) (table output marks : List ℕ) where
-  after-build : (b : BuildArgs) (x : Answer) (t : List ℕ) → Placed x → Placed (afterBuild b output marks x t .answer)
-  after-build b Answer.Done t h =
-      read-place (storedOf (b .description) (b .addr) (b .«cs_data»)) (take (tableSize (b .description) (b .addr)) t) output marks
-  after-build b (Answer.Refused why) t h = h
-
-  after-select : (a : AddrLayout) (x : CsDataOutcome) (c : CsDataLayout) → csDataCode x .place < 2 ^ 48
-      → Placed (afterSelect d a images spans table output marks x c .answer)
-  after-select a CsDataOutcome.LaidOut c h =
-      let b = argsOf d a c spans in
-      after-build b (buildOf b images table .answer) (buildOf b images table .table) (build-place b images table)
-  after-select a (CsDataOutcome.Refused why) c h = h
-
-  after-address : (x : AddrOutcome) (a : AddrLayout) → addrCode x .place < 2 ^ 48 → Placed (afterAddress d images spans table output marks x a .answer)
-  after-address AddrOutcome.LaidOut a h =
-      let g : GivenLayout = record { given = true; layout = a } in
-      after-select a (csDataAnswer d g .outcome) (csDataAnswer d g .layout) (cs-data-place d g)
-  after-address (AddrOutcome.Refused why) a h = h
-
-  trip-place : Placed (roundTripOf d images spans table output marks .answer)
-  unfolding roundTripOf
-  trip-place = after-address (addrAnswer d .outcome) (addrAnswer d .layout) (addr-place d)
 
 pub addr-placed : (description buffer : List ℕ) → Placed (addrCall description buffer .answer)
 unfolding addrCall
@@ -150,17 +118,3 @@ unfolding readBackCall
 read-back-placed slot stored output marks =
     if-place (λ (x : ReadBack). x .answer) (storedFormed slot) (readFrom slot stored output marks) (readRefused OutOfDomain output marks)
     (read-place (storedAt slot) stored output marks) (omega arith)
-
-module _ (description spans images table output marks : List ℕ) where
-  abbrev trips : Description → Trip
-  trips d = tripFrom d spans images table output marks
-
-  abbrev tripStops : Refusal → Trip
-  tripStops why = stopped why table output marks
-
-  pub trip-placed : Placed (tripCall description spans images table output marks .answer)
-  unfolding tripCall
-  trip-placed =
-      if-place (λ (x : Trip). x .answer) (spansFormed spans) (ifRecord trips tripStops (decodedOf description)) (tripStops OutOfDomain)
-      (record-place (λ (x : Trip). x .answer) trips tripStops description (λ d. trip-place d images (spansAt spans) table output marks) (omega arith))
-      (omega arith)

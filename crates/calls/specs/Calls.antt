@@ -1,7 +1,6 @@
 -- What each call answers, and what the buffers lent to it hold then; and what its caller gets of that. Assumes nothing.
 use Prim.Native.Nat.{ℕ}
-use mathlib.Core.Path.{_≡_}
-use mathlib.Core.Bool.{Bool, true, _&&_, cond}
+use mathlib.Core.Bool.{Bool, _&&_, cond}
 use mathlib.Core.List.{List, _++_}
 use lib.Dec.{ltb}
 use lib.ListN.{length, drop}
@@ -26,10 +25,6 @@ use Rattle.cs_data_record.specs.CsDataRecord.{csDataSize, csDataBytes, csDataAt
 use Rattle.image_record.specs.ImageRecord.{spansAt, spansFormed}
 use Rattle.stored_record.specs.StoredRecord.{storedAt, storedFormed}
 use Rattle.unscramble.specs.Recovered.{ReadBack, readRefused, unscrambled}
-use Rattle.premises.specs.WellWired.{WellWired}
-use Rattle.premises.specs.Room.{Room}
-use Rattle.round_trip.specs.RoundTrip.{Accepted, returnedWhole}
-use Rattle.round_trip.specs.Chain.{Trip, stopped, roundTripOf}
 use Rattle.calls.specs.Packed.{resultOf}
 
 -- a search's call is lent one buffer
@@ -115,17 +110,6 @@ readBackCall slot stored output marks =
     (readFrom slot stored output marks)
     (readRefused OutOfDomain output marks)
 
--- both searches, the build and read-back in turn, on three buffers
-abbrev pub tripFrom : Description → List ℕ → List ℕ → List ℕ → List ℕ → List ℕ → Trip
-tripFrom d spans images table output marks = roundTripOf d images (spansAt spans) table output marks
-
--- `onerom_round_trip` of the bytes of a description and of the spans, of the chips' bytes, and of the lent table, output and marks
-unfoldable pub tripCall : List ℕ → List ℕ → List ℕ → List ℕ → List ℕ → List ℕ → Trip
-tripCall description spans images table output marks =
-    cond (spansFormed spans)
-    (ifRecord (λ d. tripFrom d spans images table output marks) (λ why. stopped why table output marks) (decodedOf description))
-    (stopped OutOfDomain table output marks)
-
 -- what a caller gets: the answer as one number, and the buffers
 pub record Returned : Type 0 where
   pub result : ℕ
@@ -151,28 +135,3 @@ readReturned r o m = record { result = r; output = o; marks = m }
 
 abbrev pub readResult : ReadBack → ReadReturned
 readResult x = readReturned (resultOf (x .answer)) (x .output) (x .marks)
-
-pub record TripReturned : Type 0 where
-  pub result : ℕ
-  pub table : List ℕ
-  pub output : List ℕ
-  pub marks : List ℕ
-
-abbrev pub tripReturned : ℕ → List ℕ → List ℕ → List ℕ → TripReturned
-tripReturned r t o m = record { result = r; table = t; output = o; marks = m }
-
-abbrev pub tripResult : Trip → TripReturned
-tripResult x = tripReturned (resultOf (x .answer)) (x .table) (x .output) (x .marks)
-
--- of what a round trip returns and leaves in output and marks
--- 00 Demand 3: where searches and build accept a well wired slot and the buffers have room, it is done, and they hold the chips' words
-abbrev pub TripDemanded : Description → List ℕ → List ℕ → List ℕ → List ℕ → List ℕ → ReadReturned → Type 0
-TripDemanded d spans images table output marks r =
-    (a : AddrLayout) (c : CsDataLayout) → Accepted (argsOf d a c (spansAt spans)) images table → WellWired d a → Room d a output marks
-    → r ≡ readResult (returnedWhole (argsOf d a c (spansAt spans)) images output marks)
-
--- 00 Demand 3: the same over bytes, where description and spans are records
-abbrev pub CallDemanded : List ℕ → List ℕ → List ℕ → List ℕ → List ℕ → List ℕ → ReadReturned → Type 0
-CallDemanded description spans images table output marks r =
-    decodedOf description .answer ≡ Answer.Done → spansFormed spans ≡ true
-    → TripDemanded (decodedOf description .description) spans images table output marks r

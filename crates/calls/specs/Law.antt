@@ -6,7 +6,7 @@ use Rattle.refusal.specs.Refusal.{answerCode}
 use Rattle.refusal.specs.declared.Answer.{Answer}
 use Rattle.refusal.specs.declared.Answer.the-variants.{Done}
 use Rattle.calls.specs.Packed.{resultOf}
-use Rattle.calls.specs.Calls.{addrCall, csDataCall, buildCall, readBackCall, tripCall}
+use Rattle.calls.specs.Calls.{addrCall, csDataCall, buildCall, readBackCall}
 
 pub record Unpacks (a : Answer) : Type 0 where
   -- 01 Numbers 1: the number is what stands in a result above its low 48 bits
@@ -22,4 +22,3 @@ pub record UnpackLaw : Type 0 where
   pub cs-data : (description layout buffer : List ℕ) → Unpacks (csDataCall description layout buffer .answer)
   pub build : (description addr csData spans images table : List ℕ) → Unpacks (buildCall description addr csData spans images table .answer)
   pub read-back : (slot stored output marks : List ℕ) → Unpacks (readBackCall slot stored output marks .answer)
-  pub trip : (description spans images table output marks : List ℕ) → Unpacks (tripCall description spans images table output marks .answer)

@@ -14,8 +14,9 @@ use search_calls::cs_data;
 use table_calls::build;
 use table_calls::read_back;
 ghost use mathlib.Core.Path.{_≡_};
-ghost use Rattle.calls.specs.Calls.{addrCall, csDataCall, buildCall, readBackCall, tripCall, CallDemanded};
-ghost use Rattle.calls.specs.Calls.{returned, readReturned, tripReturned, searchResult, buildResult, readResult, tripResult};
+ghost use Rattle.calls.specs.Calls.{addrCall, csDataCall, buildCall, readBackCall};
+ghost use Rattle.calls.specs.Calls.{returned, readReturned, searchResult, buildResult, readResult};
+ghost use Rattle.onerom.specs.Trip.{tripCall, tripReturned, tripResult, CallDemanded};
 
 // Finds the address layout of the slot that the record describes, and writes it as a record.
 #[no_mangle]

@@ -3,7 +3,8 @@ use calls::refused::result;
 use round_trip::round_trip;
 use slot::description::Description;
 ghost use mathlib.Core.Path.{_≡_};
-ghost use Rattle.calls.specs.Calls.{tripReturned, tripResult, tripFrom, TripDemanded, readReturned};
+ghost use Rattle.calls.specs.Calls.{readReturned};
+ghost use Rattle.onerom.specs.Trip.{tripReturned, tripResult, tripFrom, TripDemanded};
 
 // Makes the round trip of the chips that the spans give, and answers as it did.
 pub fn hand_over(

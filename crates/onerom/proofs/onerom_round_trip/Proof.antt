@@ -9,7 +9,7 @@ use Rattle.slot.specs.declared.description.Description.{Description}
 use Rattle.refusal.specs.declared.Refusal.{Refusal}
 use Rattle.refusal.specs.declared.Refusal.the-variants.{OutOfDomain}
 use Rattle.round_trip.specs.Chain.{Trip, stopped}
-use Rattle.calls.specs.Calls.{TripReturned, tripReturned, tripFrom, tripCall, tripResult}
+use Rattle.onerom.specs.Trip.{TripReturned, tripReturned, tripFrom, tripCall, tripResult}
 use Rattle.onerom.proofs.Records.{taken, no-record, formed, not-formed}
 use borrow.Author.Needs.{needs}
 use Rattle.onerom.proofs.onerom_round_trip.Statement.{statement}

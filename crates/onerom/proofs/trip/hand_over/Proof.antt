@@ -3,7 +3,8 @@ use mathlib.Core.Path.{ap, _∙_}
 use mathlib.Core.List.{List}
 use Rattle.build_args.specs.declared.images.ImageSpan.{ImageSpan}
 use Rattle.round_trip.specs.Chain.{roundTripOf}
-use Rattle.calls.specs.Calls.{tripResult, readResult}
+use Rattle.calls.specs.Calls.{readResult}
+use Rattle.onerom.specs.Trip.{tripResult}
 use borrow.Author.Needs.{needs}
 use Rattle.onerom.proofs.trip.hand_over.Statement.{statement}
 use Rattle.onerom.proofs.trip.hand_over.Tie as tie
