@@ -4,4 +4,3 @@ pub mod Positions
 pub mod Picks
 pub mod Domain
 pub mod Faults
-pub mod design

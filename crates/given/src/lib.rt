@@ -1,6 +1,5 @@
-// Whether the other premises of the round trip's theorem hold: what read-back is given, and the room in the lent buffers. specs/ has
-// the tests, proofs/ that a premise passes its test just if it holds.
-pub mod room; // the room for the words
+// Whether the slot that read-back is given is one of which the round trip's theorem speaks. The tests stand in premises, with the law
+// that they pass just what the theorem asks for.
 pub mod forced; // overrides in the address window
 pub mod stored; // the slot that is read back
 mod same; // whether two values are the same

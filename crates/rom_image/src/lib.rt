@@ -4,8 +4,8 @@ mod sources; // where the words of the chips stand
 mod table; // the entries by them
 
 use build_args::BuildArgs;
-use build_args::faults::build_fault;
 use build_args::in_domain::in_domain;
+use build_faults::build_fault;
 use refusal::Answer;
 use refusal::Refusal;
 use refusal::first::FirstFault;

@@ -1,7 +1,7 @@
 // Where the words of the chips stand in the lent bytes.
-use build_args::faults::chip_size;
 use build_args::images::ImageSpan;
 use build_args::images::span_at;
+use build_faults::chip_size;
 use picks::Picked;
 use picks::picked_by;
 use slot::description::Description;

@@ -1,8 +1,8 @@
 // What read-back is given of a found layout.
 use addr_layout::layout::AddrLayout;
-use build_args::faults::chip_size;
-use build_args::faults::table_size;
 use build_args::lines::first_select;
+use build_faults::chip_size;
+use build_faults::table_size;
 use cs_data_layout::layout::CsDataLayout;
 use gpio::line::LineGpio;
 use lists::array::entry;

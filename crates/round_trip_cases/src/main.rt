@@ -5,12 +5,12 @@
 // JUNK before.
 use addr_layout::derive_addr_layout;
 use build_args::images::ImageSpan;
-use given::room::has_room;
 use gpio::candidates::Candidates;
 use gpio::candidates::Pin;
 use lists::array::entry;
 use refusal::Answer;
 use refusal::Refusal;
+use room::has_room;
 use round_trip::round_trip;
 use say::say;
 use say::say_number;

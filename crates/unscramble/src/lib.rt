@@ -12,7 +12,7 @@ use refusal::Refusal;
 use refusal::first::FirstFault;
 use refusal::first::answered;
 use slot::description::ChipSetType;
-use stored_slot::faults::roms_fault;
+use stored_faults::roms_fault;
 use stored_slot::in_domain::stored_in;
 use stored_slot::stored::SlotType;
 use stored_slot::stored::StoredSlot;
