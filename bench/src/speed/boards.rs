@@ -4,7 +4,7 @@ use onerom_bench::Description;
 use onerom_bench::description::{Candidates, Chip, Kind};
 use onerom_bench::text;
 
-use super::Input;
+use super::{Input, tables};
 
 const TWO_CANDIDATE_PINS: [usize; 9] = [0, 2, 4, 6, 8, 10, 12, 14, 16];
 
@@ -21,12 +21,14 @@ const SELECTS_APART: [u8; 18] = [1, 2, 3, 4, 5, 6, 7, 8, 9, 10, 11, 12, 13, 14, 
 
 pub fn of_address_search() -> Vec<Input> {
     let mut inputs = vec![input("2764, the sample", 2, sample())];
+    inputs.extend(common());
     inputs.extend(TWO_CANDIDATE_PINS.map(|pins| input("27C040", pins, board_27c040(pins))));
     inputs
 }
 
 pub fn of_select_search() -> Vec<Input> {
     let mut inputs = vec![input("2764, the sample", 0, sample())];
+    inputs.extend(common());
     let series = [
         ("16-bit chip", SELECTS_TOGETHER),
         ("16-bit chip, selects apart", SELECTS_APART),
@@ -35,6 +37,11 @@ pub fn of_select_search() -> Vec<Input> {
         inputs.extend(TWO_CANDIDATE_PINS.map(|pins| input(name, pins, board_16_bit(near, pins))));
     }
     inputs
+}
+
+fn common() -> impl Iterator<Item = Input> {
+    let boards = tables::common().into_iter();
+    boards.map(|(name, slot)| input(name, 0, slot))
 }
 
 fn input(name: &'static str, two_candidate_pins: usize, slot: Description) -> Input {

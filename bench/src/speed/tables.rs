@@ -55,11 +55,12 @@ fn chip_32(address: &'static [u8]) -> Pinout {
     }
 }
 
-fn chip_16_bit() -> Pinout {
+/// A 16-bit chip with this many address lines, beside the one that is not used.
+fn chip_16_bit(lines: usize) -> Pinout {
     Pinout {
         pins: 40,
-        size: 512 * 1024,
-        address: &ADDRESS_27C400,
+        size: 2 << lines,
+        address: &ADDRESS_27C400[..=lines],
         data: &DATA_27C400,
         ce: 10,
         oe: 12,
@@ -67,31 +68,79 @@ fn chip_16_bit() -> Pinout {
 }
 
 pub fn of_build() -> Vec<Input> {
-    let [plain, banked, multi, wide] = of_512_kib();
-    vec![
-        input("2764, the sample", sample()),
-        input("27C512", single(chip_28(16))),
-        plain,
-        input("27C080", single(chip_32(&ADDRESS_27C080))),
+    let mut inputs = of_chips();
+    inputs.push(input("27C080", single(chip_32(&ADDRESS_27C080))));
+    inputs.extend(of_sets());
+    inputs
+}
+
+pub fn of_read_back() -> Vec<Input> {
+    let mut inputs = of_chips();
+    inputs.extend(of_sets());
+    inputs
+}
+
+/// The boards that people have, for the searches: one chip, four as banks, three by their selects,
+/// and a 16-bit one. No pin of theirs has two candidates.
+pub fn common() -> [(&'static str, Description); 6] {
+    let [banked, multi, wide] = of_512_kib();
+    [
+        ("27C256", single(chip_28(15))),
+        ("27C512", single(chip_28(16))),
+        ("27C010", single(chip_32(&ADDRESS_27C040[..17]))),
         banked,
         multi,
         wide,
     ]
 }
 
-pub fn of_read_back() -> Vec<Input> {
-    of_512_kib().into()
+/// Single chips, from the smallest table to one of 512 KiB: made-up ones below the sample.
+fn of_chips() -> Vec<Input> {
+    let small = [
+        ("256 words", 8),
+        ("512 words", 9),
+        ("1024 words", 10),
+        ("2048 words", 11),
+        ("4096 words", 12),
+    ];
+    let large = [("27C128", 14), ("27C256", 15), ("27C512", 16)];
+    let chips = |list: &[(&'static str, usize)]| -> Vec<Input> {
+        let chip = |&(name, lines): &(&'static str, usize)| input(name, single(chip_28(lines)));
+        list.iter().map(chip).collect()
+    };
+    let mut inputs = chips(&small);
+    inputs.push(input("2764, the sample", sample()));
+    inputs.extend(chips(&large));
+    inputs.push(input("27C040", single(chip_32(&ADDRESS_27C040))));
+    inputs
 }
 
-/// The boards whose tables have 512 KiB.
-fn of_512_kib() -> [Input; 4] {
+/// Banked, Multi and 16-bit, small and of 512 KiB.
+fn of_sets() -> Vec<Input> {
+    let mut inputs = vec![
+        input(
+            "two of 256 words, Banked",
+            board(&chip_28(8), SetType::Banked, 2),
+        ),
+        input(
+            "two of 256 words, Multi",
+            board(&chip_28(8), SetType::Multi, 2),
+        ),
+        input("256 words, 16-bit", single(chip_16_bit(8))),
+        input("4096 words, 16-bit", single(chip_16_bit(12))),
+    ];
+    inputs.extend(of_512_kib().map(|(name, slot)| input(name, slot)));
+    inputs
+}
+
+/// The sets whose tables have 512 KiB.
+fn of_512_kib() -> [(&'static str, Description); 3] {
     let four = board(&chip_32(&ADDRESS_27C040[..17]), SetType::Banked, 4);
     let three = board(&chip_28(15), SetType::Multi, 3);
     [
-        input("27C040", single(chip_32(&ADDRESS_27C040))),
-        input("four 27C010, Banked", four),
-        input("three 27C256, Multi", three),
-        input("27C400, 16-bit", single(chip_16_bit())),
+        ("four 27C010, Banked", four),
+        ("three 27C256, Multi", three),
+        ("27C400, 16-bit", single(chip_16_bit(18))),
     ]
 }
 
