@@ -10,7 +10,7 @@ mod verify;
 use std::ffi::{OsStr, OsString};
 use std::process::ExitCode;
 
-use crate::ending::{Done, ended, say, unread};
+use crate::ending::{Done, Fault, ended, say, unread};
 
 /// A command of the program.
 pub struct Command {
@@ -21,9 +21,23 @@ pub struct Command {
     pub summary: &'static str,
     /// What it reads and writes, its exit codes and an example.
     pub help: &'static str,
-    /// Runs it on the words that follow its name.
-    pub run: fn(&[OsString]) -> Done,
+    /// The flags that it takes, anywhere among its words.
+    pub flags: &'static [&'static str],
+    /// Runs it on the words that follow its name, its flags aside.
+    pub run: fn(&[OsString], &Flags) -> Done,
 }
+
+/// The flags that were given.
+pub struct Flags(Vec<&'static str>);
+
+impl Flags {
+    pub fn has(&self, flag: &str) -> bool {
+        self.0.contains(&flag)
+    }
+}
+
+/// Behind this word no word is a flag.
+const NO_MORE_FLAGS: &str = "--";
 
 /// In the order in which the help has them.
 const COMMANDS: &[&Command] = &[
@@ -39,6 +53,8 @@ const COMMANDS: &[&Command] = &[
 ];
 
 const HELP: [&str; 2] = ["--help", "-h"];
+const VERSION: [&str; 2] = ["--version", "-V"];
+const VERSIONED: &str = concat!("bench ", env!("CARGO_PKG_VERSION"), "\n");
 
 const ABOUT: &str = "\
 Lays out the board of a One ROM, builds the table that it answers from and
@@ -65,7 +81,38 @@ impl Command {
         if words.iter().any(|word| is_one(word, &HELP)) {
             return helped(&self.whole_help());
         }
-        ended((self.run)(words), &self.expected(words))
+        let done = match self.flagged(words) {
+            Ok((words, flags)) => (self.run)(&words, &flags),
+            Err(fault) => Err(fault),
+        };
+        ended(done, &self.expected(words))
+    }
+
+    /// The words without the flags, and these.
+    fn flagged(&self, words: &[OsString]) -> Result<(Vec<OsString>, Flags), Fault> {
+        let mut plain = Vec::new();
+        let mut flags = Vec::new();
+        let mut words = words.iter();
+        while let Some(word) = words.next() {
+            if word == NO_MORE_FLAGS {
+                plain.extend(words.by_ref().cloned());
+            } else if !is_flag(word) {
+                plain.push(word.clone());
+            } else {
+                let own = self.flags.iter().copied().find(|flag| word == flag);
+                flags.push(own.ok_or_else(|| Fault::File(self.no_flag(word)))?);
+            }
+        }
+        Ok((plain, Flags(flags)))
+    }
+
+    fn no_flag(&self, word: &OsStr) -> String {
+        let (name, word) = (self.name, word.display());
+        let taken = match self.flags {
+            [] => "no flag".into(),
+            flags => flags.join(", "),
+        };
+        format!("bench {name}: expected {taken}, found `{word}`; `bench {name} --help` says more")
     }
 
     /// What is said of words that are not the command's.
@@ -89,6 +136,7 @@ pub fn run(words: &[OsString]) -> ExitCode {
     }
     match rest {
         _ if is_one(name, &HELP) => helped(&overview()),
+        _ if is_one(name, &VERSION) => helped(VERSIONED),
         [] if name == "help" => helped(&overview()),
         [topic, ..] if name == "help" => match find(topic) {
             Some(command) => helped(&command.whole_help()),
@@ -103,6 +151,12 @@ fn find(name: &OsStr) -> Option<&'static Command> {
         .iter()
         .copied()
         .find(|command| name == command.name)
+}
+
+/// A `-` alone is no flag: it stands for a file.
+fn is_flag(word: &OsStr) -> bool {
+    let bytes = word.as_encoded_bytes();
+    bytes.len() > 1 && bytes[0] == b'-'
 }
 
 fn is_one(word: &OsStr, words: &[&str]) -> bool {

@@ -35,8 +35,8 @@ impl From<Refusal> for Fault {
 /// What a command comes to.
 pub type Done = Result<ExitCode, Fault>;
 
-/// The exit code of a command whose words are these. A refusal and a difference are answers, and
-/// go to the standard output.
+/// The exit code of a command whose words are these. Why it did not do what was asked goes to the
+/// standard error.
 pub fn ended(done: Done, usage: &str) -> ExitCode {
     match done {
         Ok(code) => code,
@@ -49,15 +49,18 @@ pub fn ended(done: Done, usage: &str) -> ExitCode {
 
 /// Says why there is nothing to be done.
 pub fn unread(why: &str) -> ExitCode {
-    // With no one to read it the exit code says enough.
-    let _ = io::stderr().write_all(format!("{why}\n").as_bytes());
+    complain(&format!("{why}\n"));
     ExitCode::from(UNREAD)
 }
 
 fn failed(why: &str) -> ExitCode {
-    // Where it cannot be said the exit code is an error's all the same.
-    let _ = say(&format!("{why}\n"));
+    complain(&format!("{why}\n"));
     ExitCode::FAILURE
+}
+
+/// Writes to the standard error. With no one to read it the exit code says enough.
+pub fn complain(text: &str) {
+    let _ = io::stderr().write_all(text.as_bytes());
 }
 
 /// Writes to the standard output. A reader who has gone away is no fault.

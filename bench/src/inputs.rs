@@ -25,12 +25,20 @@ pub struct Inputs {
     images: Vec<Image>,
 }
 
+/// The flag by which a chip's file may have any length.
+pub const ANY_LENGTH: &str = "--any-length";
+
 impl Inputs {
-    /// From a description's file and one for each chip.
-    pub fn read(file: &Path, chips: &[OsString]) -> Result<Self, Fault> {
+    /// From a description's file and one for each chip, which has just the chip's bytes unless any
+    /// length will do.
+    pub fn read(file: &Path, chips: &[OsString], any_length: bool) -> Result<Self, Fault> {
         let slot = described(file)?;
         expect_files(file, "chips", slot.chips.len(), chips)?;
-        let images = chips.iter().map(image).collect::<Result<_, _>>()?;
+        let sizes = slot.chips.iter().map(|chip| chip.size as usize);
+        let expected = sizes.map(|size| (!any_length).then_some(size));
+        let images = chips.iter().zip(expected);
+        let images = images.map(|(chip, expected)| image(chip, expected));
+        let images = images.collect::<Result<_, _>>()?;
         Ok(Self { slot, images })
     }
 
@@ -70,12 +78,58 @@ pub fn expect_files(
     Ok(())
 }
 
-/// A chip's bytes, of which no chip has more.
-fn image(file: &OsString) -> Result<Image, Fault> {
+/// A chip's bytes, as many as expected where that is said; no chip has more than the largest.
+fn image(file: &OsString, expected: Option<usize>) -> Result<Image, Fault> {
     if file == NO_FILE {
         return Ok(None);
     }
-    bytes_up_to(Path::new(file), LARGEST_CHIP).map(Some)
+    let file = Path::new(file);
+    let Some(size) = expected else {
+        return bytes_up_to(file, LARGEST_CHIP).map(Some);
+    };
+    let bytes = bytes_up_to(file, LARGEST_CHIP + 1)?;
+    match not_a_dump(&bytes, size) {
+        None => Ok(Some(bytes)),
+        Some(why) => Err(Fault::of_file(
+            file,
+            format!("{why}; {ANY_LENGTH} takes it"),
+        )),
+    }
+}
+
+/// Why bytes are no dump of a chip of this size.
+fn not_a_dump(bytes: &[u8], size: usize) -> Option<String> {
+    let form = text_form(bytes);
+    if form.is_none() && bytes.len() == size {
+        return None;
+    }
+    let found = match bytes.len() {
+        length if length > LARGEST_CHIP => format!("more than {LARGEST_CHIP}"),
+        length => length.to_string(),
+    };
+    let form = form.map_or(String::new(), |form| {
+        format!(", and they begin like a text of {form}")
+    });
+    Some(format!(
+        "expected the chip's {size} bytes, found {found}{form}"
+    ))
+}
+
+/// The form of text in which dumps are exchanged that the first line has.
+fn text_form(bytes: &[u8]) -> Option<&'static str> {
+    let line = bytes.split(|&byte| byte == b'\n').next()?;
+    let line = line.strip_suffix(b"\r").unwrap_or(line);
+    let is_digits = |digits: &[u8], fewest: usize| {
+        let even = digits.len().is_multiple_of(2) && digits.len() >= fewest;
+        even && digits.iter().all(u8::is_ascii_hexdigit)
+    };
+    match line {
+        [b':', digits @ ..] if is_digits(digits, 10) => Some("Intel HEX"),
+        [b'S', kind, digits @ ..] if kind.is_ascii_digit() && is_digits(digits, 6) => {
+            Some("S-records")
+        }
+        _ => None,
+    }
 }
 
 /// A file's first bytes. The rest is left in the file, which may have no end.

@@ -8,6 +8,7 @@ mod inputs;
 mod outputs;
 mod plain;
 mod progress;
+mod reach;
 mod replay;
 mod speed;
 

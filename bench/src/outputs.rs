@@ -1,7 +1,9 @@
 //! The files that the commands write.
 
-use std::fs::{self, File};
+use std::fs::{self, File, Metadata, Permissions};
 use std::io::{self, ErrorKind, Write};
+use std::os::fd::AsFd;
+use std::os::unix::fs::MetadataExt;
 use std::path::{Path, PathBuf};
 use std::process;
 
@@ -11,8 +13,9 @@ use crate::ending::Fault;
 pub type Output<'a> = (&'a Path, &'a [u8]);
 
 /// Puts the bytes under the files' names once they are all written, so that no one finds a part of
-/// a file there, nor one of several alone where another cannot be written. What is no plain file,
-/// such as a device, is not replaced.
+/// a file there, nor one of several alone where another cannot be written. A link is followed; a
+/// file that is replaced keeps its mode. Not replaced are a read-only file, what is no plain file,
+/// such as a device, and the file that the program's own output goes to.
 pub fn write_whole(outputs: &[Output]) -> Result<(), Fault> {
     let part = |&(file, bytes): &Output<'_>| {
         let part = Part::write(file, bytes);
@@ -24,32 +27,83 @@ pub fn write_whole(outputs: &[Output]) -> Result<(), Fault> {
         .map(|output| Ok((part(output)?, output)))
         .collect::<Result<_, Fault>>()?;
     for (part, (file, _)) in &parts {
-        fs::rename(&part.0, file).map_err(|why| Fault::of_file(file, why))?;
+        part.put().map_err(|why| Fault::of_file(file, why))?;
     }
     Ok(())
 }
 
 /// A file under a name that it has only until it is whole.
-struct Part(PathBuf);
+struct Part {
+    name: PathBuf,
+    file: PathBuf,
+}
 
 impl Part {
     fn write(file: &Path, bytes: &[u8]) -> io::Result<Self> {
-        if file.exists() && !file.is_file() {
-            return Err(io::Error::other("is no plain file"));
-        }
-        let name = part_of(file);
+        let mode = replaceable(file)?;
+        let file = followed(file)?;
+        let name = part_of(&file);
         let mut new = File::create_new(&name)?;
-        let part = Self(name);
+        let part = Self { name, file };
         new.write_all(bytes)?;
+        if let Some(mode) = mode {
+            new.set_permissions(mode)?;
+        }
         Ok(part)
+    }
+
+    fn put(&self) -> io::Result<()> {
+        fs::rename(&self.name, &self.file)
     }
 }
 
 impl Drop for Part {
     /// One that was put in place is there no more.
     fn drop(&mut self) {
-        let _ = fs::remove_file(&self.0);
+        let _ = fs::remove_file(&self.name);
     }
+}
+
+/// Links that lead to links are followed so far, as the system does.
+const MOST_LINKS: usize = 40;
+
+/// Where a name's links lead to, whether a file is there or not.
+fn followed(file: &Path) -> io::Result<PathBuf> {
+    let mut place = file.to_path_buf();
+    for _ in 0..MOST_LINKS {
+        match fs::read_link(&place) {
+            Ok(next) => place = place.parent().unwrap_or(Path::new("")).join(next),
+            Err(_) => return Ok(place),
+        }
+    }
+    Err(io::Error::other("has too many links"))
+}
+
+/// The mode of a file that may be replaced; none where there is no file.
+fn replaceable(file: &Path) -> io::Result<Option<Permissions>> {
+    let old = match fs::metadata(file) {
+        Err(why) if why.kind() == ErrorKind::NotFound => return Ok(None),
+        old => old?,
+    };
+    if is_own_output(&old) {
+        let why =
+            "is where this program's own output goes; `-` writes there, if one file is written";
+        return Err(io::Error::other(why));
+    }
+    if !old.is_file() {
+        return Err(io::Error::other("is no plain file"));
+    }
+    if old.permissions().readonly() {
+        return Err(io::Error::other("is read-only, and is not replaced"));
+    }
+    Ok(Some(old.permissions()))
+}
+
+/// Whether the standard output goes to this file.
+fn is_own_output(file: &Metadata) -> bool {
+    let own = io::stdout().as_fd().try_clone_to_owned().map(File::from);
+    let own = own.and_then(|own| own.metadata());
+    own.is_ok_and(|own| (own.dev(), own.ino()) == (file.dev(), file.ino()))
 }
 
 /// A name beside the file's that no other run takes.
@@ -57,6 +111,14 @@ fn part_of(file: &Path) -> PathBuf {
     let mut name = file.as_os_str().to_owned();
     name.push(format!(".{}.part", process::id()));
     PathBuf::from(name)
+}
+
+/// Writes bytes to the standard output, and fails if they do not get there: what reads them needs
+/// them all.
+pub fn write_out(bytes: &[u8]) -> Result<(), Fault> {
+    let mut out = io::stdout();
+    let written = out.write_all(bytes).and_then(|()| out.flush());
+    written.map_err(|why| Fault::File(format!("standard output: {why}")))
 }
 
 /// Tells a file that would be lost: one that is read cannot be written too.
@@ -81,6 +143,7 @@ fn place(file: &Path) -> Option<PathBuf> {
     if let Ok(place) = fs::canonicalize(file) {
         return Some(place);
     }
+    let file = &followed(file).ok()?;
     let folder = match file.parent()? {
         folder if folder == Path::new("") => Path::new("."),
         folder => folder,

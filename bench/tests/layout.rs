@@ -55,8 +55,7 @@ fn a_refusal_writes_nothing() {
         slots::changed(&[("pin 11 gpio 0", "")]).as_bytes(),
     );
     let told = folder.refused(&["slot.txt", "stored.txt"]);
-    assert!(told.starts_with("base GPIO 9, "));
-    assert!(told.contains("\n\nselect search refused: 3 UnmappedPin, place 11 (chip pin 11): "));
+    assert!(told.starts_with("select search refused: 3 UnmappedPin, place 11 (chip pin 11): "));
     assert_eq!(folder.read("stored.txt"), b"old");
     assert_eq!(folder.names(), names);
 }

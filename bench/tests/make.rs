@@ -28,8 +28,7 @@ fn a_table_is_written() {
 fn a_table_takes_the_place_of_an_old_one() {
     let folder = folder("replaced");
     folder.write("table.bin", b"old");
-    folder.write("long.bin", &vec![0x5A; 10000]);
-    let told = folder.run(&["slot.txt", "table.bin", "long.bin"]);
+    let told = folder.run(&["slot.txt", "table.bin", "chip.bin"]);
     assert_eq!(told.status.code(), Some(0));
     assert_eq!(folder.read("table.bin"), [0x5A; 8192]);
 }
@@ -58,7 +57,7 @@ fn refusals_name_the_call() {
     let short = "build refused: 15 ShortImageData, place 0 (chip 0): \
         a chip has fewer bytes than its size\n";
     assert_eq!(
-        folder.refused(&["slot.txt", "table.bin", "short.bin"]),
+        folder.refused(&["--any-length", "slot.txt", "table.bin", "short.bin"]),
         short
     );
     let none = "build refused: 14 MissingImageData, place 0 (chip 0): a chip has no bytes\n";

@@ -133,7 +133,10 @@ fn a_refusal() {
     assert_eq!(told.status.code(), Some(1));
     let wanted = "address search refused: 3 UnmappedPin, place 5 (socket pin 5): \
         a needed pin has no GPIO\n";
-    assert_eq!(text(&told.stdout), wanted);
+    assert_eq!(
+        (text(&told.stdout), text(&told.stderr)),
+        (String::new(), wanted.into())
+    );
 }
 
 #[test]
@@ -141,11 +144,11 @@ fn a_refusal_of_the_select_search() {
     let slot = "socket 24\noffset 2\nchip size 2\naddress 1\ndata 2\npin 3 gpio 5\n";
     let told = on_file("unselected.txt", slot);
     assert_eq!(told.status.code(), Some(1));
-    let told = text(&told.stdout);
-    assert!(told.starts_with("base GPIO 5, 8 pins, table of 256 bytes\n"));
-    let wanted = "\n\nselect search refused: 3 UnmappedPin, place 2 (chip pin 2): \
+    // The address layout is of use without the other.
+    assert!(text(&told.stdout).starts_with("base GPIO 5, 8 pins, table of 256 bytes\n"));
+    let wanted = "select search refused: 3 UnmappedPin, place 2 (chip pin 2): \
         a needed pin is off the socket or has no GPIO\n";
-    assert!(told.ends_with(wanted));
+    assert_eq!(text(&told.stderr), wanted);
 }
 
 #[test]
@@ -195,12 +198,44 @@ fn words_that_are_too_many_are_told() {
     for words in [
         &["layout", "a", "b", "c"][..],
         &["sample", "a", "b"],
-        &["compare", "1", "-2"],
+        &["compare", "1", "x"],
     ] {
         let told = bench(words);
         assert_eq!(told.status.code(), Some(2));
         let found = format!("found `{}`;", words[1..].join(" "));
         assert!(text(&told.stderr).contains(&found));
+    }
+}
+
+#[test]
+fn flags_that_are_none_are_told() {
+    let said = |words: &[&str]| {
+        let told = bench(words);
+        assert_eq!(
+            (told.status.code(), text(&told.stdout)),
+            (Some(2), String::new())
+        );
+        text(&told.stderr)
+    };
+    let help = "`bench compare --help` says more";
+    let wanted = format!("bench compare: expected no flag, found `-2`; {help}\n");
+    assert_eq!(said(&["compare", "1", "-2"]), wanted);
+    let wanted = "bench build: expected --any-length, --part, found `--any`; \
+        `bench build --help` says more\n";
+    assert_eq!(said(&["build", "a", "--any", "b", "c"]), wanted);
+    // Behind `--` a word is a file's name.
+    assert!(said(&["layout", "--", "--part"]).starts_with("--part: "));
+}
+
+#[test]
+fn the_program_has_a_version() {
+    for flag in ["--version", "-V"] {
+        let told = bench(&[flag]);
+        let version = concat!("bench ", env!("CARGO_PKG_VERSION"), "\n");
+        assert_eq!(
+            (told.status.code(), text(&told.stdout)),
+            (Some(0), version.into())
+        );
     }
 }
 
@@ -256,7 +291,7 @@ fn the_program_has_help() {
         let row = format!("\n  bench {command} ");
         assert_eq!(said.matches(&row).count(), 1, "{command}");
     }
-    assert!(said.contains("\n  bench read-back FILE TABLE CHIP..  Reads a table back"));
+    assert!(said.contains("\n  bench read-back [--part] FILE TABLE CHIP..  Reads a table back"));
     assert!(said.contains("\nExit codes: 0 "));
     for same in ["help", "-h"] {
         assert_eq!(bench(&[same]).stdout, told.stdout);

@@ -75,6 +75,7 @@ fn a_file_for_each_rom() {
 fn words_of_two_bytes() {
     let folder = folder("wide");
     folder.write("wide.txt", wide([30, 31]).as_bytes());
+    folder.write("chip.bin", &random(1, 1024));
     built(&folder, "wide.txt", &["chip.bin"]);
     let said = folder.done(&["wide.txt", "table.bin", "back.bin"]);
     assert_eq!(said, "back.bin: ROM 0, 1024 bytes\n");
@@ -174,7 +175,8 @@ fn files_that_cannot_be_read_are_named() {
         format!("{count} 2\n")
     );
     for words in [&[][..], &["slot.txt"]] {
-        assert!(said(words).starts_with("bench read-back: expected FILE TABLE CHIP.., found "));
+        let expected = "bench read-back: expected [--part] FILE TABLE CHIP.., found ";
+        assert!(said(words).starts_with(expected));
     }
     assert_eq!(folder.names(), names);
 

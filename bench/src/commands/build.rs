@@ -4,37 +4,43 @@ use std::ffi::OsString;
 use std::path::Path;
 use std::process::ExitCode;
 
-use onerom_bench::{Refusal, build_rom_image};
+use onerom_bench::build_rom_image;
 
-use super::Command;
-use crate::ending::{Done, Fault, say};
-use crate::inputs::Inputs;
+use super::{Command, Flags};
+use crate::ending::{Done, Fault, complain, say};
+use crate::inputs::{ANY_LENGTH, Inputs, NO_FILE};
 use crate::laid_out;
-use crate::outputs::{keep, write_whole};
+use crate::outputs::{keep, write_out, write_whole};
+use crate::reach::{PART, parts_served};
 
 pub const BUILD: Command = Command {
     name: "build",
-    words: "FILE TABLE CHIP..",
+    words: "[FLAG..] FILE TABLE CHIP..",
     summary: "Builds the slot's table from a file for each chip",
     help: "\
 Reads FILE, a description, and a CHIP file for each of its chips, in order; `-`
-is a chip without bytes. A chip's file may be longer than the chip; a shorter
-one is refused. Writes the table's bytes, and nothing else, to TABLE: when the
-table is built, whole or not at all. TABLE may replace a file that is there, but
-none that is read.
+is a chip without bytes. A chip's file has just the chip's bytes; with
+--any-length it may be longer, and of a shorter one the build is refused.
+Writes the table's bytes, and nothing else, to TABLE: when the
+table is built, whole or not at all; `-` is the standard output. TABLE may
+replace a file that is there, but none that is read and none that is read-only.
 
-Exit codes: 0 built; 1 a search or the build refuses; 2 other words, or a file
-that cannot be used.
+Where the address lines in use do not reach all words of a chip, and no excess
+line explains it, nothing is written; --part accepts it.
+
+Exit codes: 0 built; 1 a search or the build refuses, or words of a chip are not
+reached; 2 other words, or a file that cannot be used.
 
 Example:
     bench build 2764.txt table.bin 2764.bin
 ",
+    flags: &[ANY_LENGTH, PART],
     run,
 };
 
 /// Builds the table of the slot that the first file describes, by the layouts that are found and
 /// the chips' files, and writes it to the second.
-fn run(words: &[OsString]) -> Done {
+fn run(words: &[OsString], flags: &Flags) -> Done {
     let [file, table, chips @ ..] = words else {
         return Err(Fault::Words);
     };
@@ -42,23 +48,32 @@ fn run(words: &[OsString]) -> Done {
         return Err(Fault::Words);
     }
     let (file, table) = (Path::new(file), Path::new(table));
-    let inputs = Inputs::read(file, chips)?;
+    let inputs = Inputs::read(file, chips, flags.has(ANY_LENGTH))?;
+    if table == Path::new(NO_FILE) {
+        let (bytes, parts) = built(&inputs, flags)?;
+        complain(&parts);
+        write_out(&bytes)?;
+        return Ok(ExitCode::SUCCESS);
+    }
     let read: Vec<&Path> = chips.iter().map(Path::new).chain([file]).collect();
     keep(&read, "table", table)?;
-    let bytes = built(&inputs)?;
+    let (bytes, parts) = built(&inputs, flags)?;
     write_whole(&[(table, &bytes)])?;
     let (name, length) = (table.display(), bytes.len());
-    say(&format!("{name}: table of {length} bytes\n"))?;
+    say(&format!("{name}: table of {length} bytes\n{parts}"))?;
     Ok(ExitCode::SUCCESS)
 }
 
-fn built(inputs: &Inputs) -> Result<Vec<u8>, Refusal> {
+/// The table, and what is to be said of chips that it serves in part.
+fn built(inputs: &Inputs, flags: &Flags) -> Result<(Vec<u8>, String), Fault> {
     let record = inputs.slot.to_bytes();
     let (addr, cs_data) = laid_out(&record)?;
-    build_rom_image(
+    let parts = parts_served(&inputs.slot, &addr, flags.has(PART))?;
+    let table = build_rom_image(
         &record,
         &addr.to_bytes(),
         &cs_data.to_bytes(),
         &inputs.images(),
-    )
+    )?;
+    Ok((table, parts))
 }

@@ -26,7 +26,8 @@ words.
 Example, some three minutes:
     bench compare 1 100000
 ",
-    run: |words| on_cases(words, compare),
+    flags: &[],
+    run: |words, _| on_cases(words, compare),
 };
 
 pub const COMPARE_LARGE: Command = Command {
@@ -42,7 +43,8 @@ words.
 Example, a dozen seconds:
     bench compare-large 1 100
 ",
-    run: |words| on_cases(words, compare_large),
+    flags: &[],
+    run: |words, _| on_cases(words, compare_large),
 };
 
 pub const REPLAY: Command = Command {
@@ -61,7 +63,8 @@ other words, or a file that cannot be used.
 Example:
     bench replay crates/replay/stdin
 ",
-    run: |words| match words {
+    flags: &[],
+    run: |words, _| match words {
         [file] => replay(Path::new(file)),
         _ => Err(Fault::Words),
     },
@@ -82,7 +85,8 @@ or a file that cannot be used.
 Example, a minute or two:
     bench speed docs/PERFORMANCE.md
 ",
-    run: |words| match words {
+    flags: &[],
+    run: |words, _| match words {
         [] => speed(None),
         [file] => speed(Some(Path::new(file))),
         _ => Err(Fault::Words),

@@ -10,14 +10,15 @@ use onerom_bench::{
     show, socket, text,
 };
 
-use super::Command;
+use super::{Command, Flags};
 use crate::ending::{Done, Fault, say};
-use crate::inputs::described;
+use crate::inputs::{NO_FILE, described};
 use crate::outputs::{keep, write_whole};
+use crate::reach::{PART, parts_served};
 
 pub const LAYOUT: Command = Command {
     name: "layout",
-    words: "FILE [SLOT]",
+    words: "[--part] FILE [SLOT]",
     summary: "Lays out the slot that a file describes, and draws its socket",
     help: "\
 Reads FILE, a description. Writes the GPIOs of the address lines, those of the
@@ -26,28 +27,50 @@ SLOT, if it is given, the slot that stores the table, for `bench read-back`.
 SLOT is written when both layouts are found, whole or not at all, and may
 replace a file that is there, but not FILE.
 
-Exit codes: 0 laid out; 1 a search refuses; 2 other words, or a file that cannot
-be used.
+Where the address lines in use do not reach all words of a chip, and no excess
+line explains it, that is told and SLOT is not written; --part accepts it.
+
+Exit codes: 0 laid out; 1 a search refuses, or words of a chip are not reached;
+2 other words, or a file that cannot be used.
 
 Example:
     bench layout 2764.txt slot.txt
 ",
+    flags: &[PART],
     run,
 };
 
-fn run(words: &[OsString]) -> Done {
+fn run(words: &[OsString], flags: &Flags) -> Done {
+    let part = flags.has(PART);
     match words {
-        [file] => print_layouts(&described(Path::new(file))?).map(drop)?,
-        [file, stored] => lay_out_to(Path::new(file), Path::new(stored))?,
+        [file] => {
+            let slot = described(Path::new(file))?;
+            let (addr, _) = print_layouts(&slot)?;
+            say_parts(&slot, &addr, part)?;
+        }
+        [file, stored] => lay_out_to(Path::new(file), Path::new(stored), part)?,
         _ => return Err(Fault::Words),
     }
     Ok(ExitCode::SUCCESS)
 }
 
-fn lay_out_to(file: &Path, stored: &Path) -> Result<(), Fault> {
+fn say_parts(slot: &Description, addr: &AddrLayout, part: bool) -> Result<(), Fault> {
+    let parts = parts_served(slot, addr, part)?;
+    if parts.is_empty() {
+        return Ok(());
+    }
+    say(&format!("\n{parts}"))
+}
+
+fn lay_out_to(file: &Path, stored: &Path, part: bool) -> Result<(), Fault> {
+    if stored == Path::new(NO_FILE) {
+        let why = "expected a file's name: the layouts go to the standard output";
+        return Err(Fault::of_file(stored, why));
+    }
     let slot = described(file)?;
     keep(&[file], "slot", stored)?;
     let (addr, cs_data) = print_layouts(&slot)?;
+    say_parts(&slot, &addr, part)?;
     let text = text::write_slot(&StoredSlot::of_layouts(&slot, &addr, &cs_data));
     write_whole(&[(stored, text.as_bytes())])?;
     say(&format!("\n{}: stored slot\n", stored.display()))

@@ -5,17 +5,18 @@ use std::path::Path;
 use std::process::ExitCode;
 
 use onerom_bench::text::{self, TextError};
-use onerom_bench::{Description, Refusal, StoredSlot, unscramble_slot};
+use onerom_bench::{Description, StoredSlot, unscramble_slot};
 
-use super::Command;
+use super::{Command, Flags};
 use crate::ending::{Done, Fault, say};
 use crate::inputs::{NO_FILE, bytes_up_to, expect_files, text_of};
 use crate::laid_out;
 use crate::outputs::{Output, is_same, keep, write_whole};
+use crate::reach::{PART, parts_served};
 
 pub const READ_BACK: Command = Command {
     name: "read-back",
-    words: "FILE TABLE CHIP..",
+    words: "[--part] FILE TABLE CHIP..",
     summary: "Reads a table back into a file for each ROM",
     help: "\
 Reads FILE, a description or a stored slot of `bench layout`, and TABLE, the
@@ -25,12 +26,16 @@ in order, a plugin's to the only one; `-` is a ROM that is not written. The
 files are written when all ROMs are read, each whole or not at all. They may
 replace files that are there, but none that is read.
 
-Exit codes: 0 read back; 1 a search or the read-back refuses; 2 other words, or
-a file that cannot be used.
+Where a ROM has more words than its address lines reach, and no excess line of
+the description explains it, nothing is written; --part accepts it.
+
+Exit codes: 0 read back; 1 a search or the read-back refuses, or a ROM comes
+back in part; 2 other words, or a file that cannot be used.
 
 Example:
     bench read-back slot.txt table.bin rom.bin
 ",
+    flags: &[PART],
     run,
 };
 
@@ -38,19 +43,46 @@ Example:
 /// stores need not be held in memory.
 const LARGEST_STORED: usize = 1 << 26;
 
-fn run(words: &[OsString]) -> Done {
+fn run(words: &[OsString], flags: &Flags) -> Done {
     let [file, table, chips @ ..] = words else {
         return Err(Fault::Words);
     };
     let (file, table) = (Path::new(file), Path::new(table));
-    let slot = stored_slot(file)?;
+    let (slot, parts) = stored_slot(file, flags.has(PART))?;
     let wanted = slot.lengths(0).len();
     expect_files(file, "ROMs", wanted, chips)?;
     let chips: Vec<&Path> = chips.iter().map(Path::new).collect();
     keep_apart(&[file, table], &chips)?;
     let roms = unscramble_slot(&slot, &stored_bytes(table, &slot)?)?;
+    if !flags.has(PART) && parts.is_none() {
+        expect_whole(&slot, &roms)?;
+    }
     write(&slot, &chips, &roms)?;
+    say(&parts.unwrap_or_default())?;
     Ok(ExitCode::SUCCESS)
+}
+
+/// A stored slot has no excess lines that would explain why a ROM comes back in part.
+fn expect_whole(slot: &StoredSlot, roms: &[Vec<u8>]) -> Result<(), Fault> {
+    if slot.kind.is_plugin() {
+        return Ok(());
+    }
+    let word_bytes = slot.word_bytes();
+    let mut parts = Vec::new();
+    for (number, (rom, read)) in slot.roms.iter().zip(roms).enumerate() {
+        let has = rom.size as usize / word_bytes;
+        let stored = read.len() / word_bytes;
+        if stored < has {
+            parts.push(format!(
+                "ROM {number}: {stored} of {has} words are stored\n"
+            ));
+        }
+    }
+    if parts.is_empty() {
+        return Ok(());
+    }
+    let parts = parts.concat();
+    Err(Fault::Different(format!("{parts}{PART} accepts it")))
 }
 
 /// A file's text: the slot itself, or what it is found from.
@@ -66,16 +98,17 @@ fn told(text: &str) -> Result<Told, TextError> {
     text::read(text).map(Box::new).map(Told::Described)
 }
 
-fn stored_slot(file: &Path) -> Result<StoredSlot, Fault> {
+/// The slot and, where it is found from a description, what is to be said of chips that it serves
+/// in part.
+fn stored_slot(file: &Path, part: bool) -> Result<(StoredSlot, Option<String>), Fault> {
     Ok(match text_of(file, told)? {
-        Told::Slot(slot) => slot,
-        Told::Described(slot) => found_slot(&slot)?,
+        Told::Slot(slot) => (slot, None),
+        Told::Described(slot) => {
+            let (addr, cs_data) = laid_out(&slot.to_bytes())?;
+            let parts = parts_served(&slot, &addr, part)?;
+            (StoredSlot::of_layouts(&slot, &addr, &cs_data), Some(parts))
+        }
     })
-}
-
-fn found_slot(slot: &Description) -> Result<StoredSlot, Refusal> {
-    let (addr, cs_data) = laid_out(&slot.to_bytes())?;
-    Ok(StoredSlot::of_layouts(slot, &addr, &cs_data))
 }
 
 /// The bytes that are stored: one more than declared at most, by which the library can tell that

@@ -7,9 +7,9 @@ use std::process::ExitCode;
 
 use onerom_bench::{Description, text};
 
-use super::Command;
 use super::layout::print_layouts;
 use super::verify::verified;
+use super::{Command, Flags};
 use crate::SAMPLE;
 use crate::ending::{Done, Fault, say};
 use crate::outputs::{make_folder, write_new};
@@ -33,6 +33,7 @@ Exit codes: 0 written; 2 other words, or a file that cannot be written.
 Example:
     bench sample
 ",
+    flags: &[],
     run,
 };
 
@@ -64,7 +65,7 @@ pub fn run_through() -> Done {
     Ok(ExitCode::SUCCESS)
 }
 
-fn run(words: &[OsString]) -> Done {
+fn run(words: &[OsString], _: &Flags) -> Done {
     let folder = match words {
         [] => Path::new(""),
         [folder] => Path::new(folder),

@@ -11,42 +11,51 @@ use onerom_bench::{
     table_length, unscramble_slot,
 };
 
-use super::Command;
+use super::{Command, Flags};
 use crate::ending::{Done, Fault, counted, say};
-use crate::inputs::Inputs;
+use crate::inputs::{ANY_LENGTH, Inputs};
 use crate::laid_out;
+use crate::reach::{PART, parts_served};
 
 pub const VERIFY: Command = Command {
     name: "verify",
-    words: "FILE CHIP..",
+    words: "[FLAG..] FILE CHIP..",
     summary: "Tries whether the slot's table reads back as the chips",
     help: "\
 Reads FILE, a description, and a CHIP file for each of its chips, in order; `-`
-is a chip without bytes. Builds the table and reads it back, and holds what
-comes back against the files. Writes no file, and the answer to the standard
-output.
+is a chip without bytes. A chip's file has just the chip's bytes; with
+--any-length it may be longer. Builds the table and reads it back, and holds
+what comes back against the files. Writes no file, and the answer to the
+standard output.
 
-Exit codes: 0 it reads back; 1 one of the four calls refuses, or a word comes
-back as another; 2 other words, or a file that cannot be used.
+Where the address lines in use do not reach all words of a chip, and no excess
+line explains it, that is told; --part accepts it.
+
+Exit codes: 0 it reads back; 1 one of the four calls refuses, a word comes back
+as another, or words of a chip are not reached; 2 other words, or a file that
+cannot be used.
 
 Example:
     bench verify 2764.txt 2764.bin
 ",
+    flags: &[ANY_LENGTH, PART],
     run,
 };
 
 /// Builds the table of the slot that the file describes, reads it back, and holds what comes back
 /// against the chips' files.
-fn run(words: &[OsString]) -> Done {
+fn run(words: &[OsString], flags: &Flags) -> Done {
     let [file, chips @ ..] = words else {
         return Err(Fault::Words);
     };
     if chips.is_empty() {
         return Err(Fault::Words);
     }
-    let inputs = Inputs::read(Path::new(file), chips)?;
+    let inputs = Inputs::read(Path::new(file), chips, flags.has(ANY_LENGTH))?;
     let verified = verified(&inputs.slot, &inputs.images())?;
-    say(&format!("{verified}\n"))?;
+    let addr = derive_addr_layout(&inputs.slot.to_bytes())?;
+    let parts = parts_served(&inputs.slot, &addr, flags.has(PART))?;
+    say(&format!("{verified}\n{parts}"))?;
     Ok(ExitCode::SUCCESS)
 }
 

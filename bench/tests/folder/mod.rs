@@ -72,7 +72,7 @@ impl Folder {
     pub fn refused(&self, words: &[&str]) -> String {
         let told = self.run(words);
         assert_eq!(told.status.code(), Some(1));
-        text(&told.stdout)
+        text(&told.stderr)
     }
 
     pub fn unread(&self, words: &[&str]) -> String {
