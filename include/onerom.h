@@ -16,9 +16,10 @@
 extern "C" {
 #endif
 
-/* A call returns one number of 64 bits: 0 if it succeeded, else the refusal's number times 2^48 plus its place. So
-   the number is the result shifted right by 48, and the place its low 48 bits (onerom_number and onerom_place in
-   C, Refusal in Rust). A refusal that names no place has place 0. */
+/* A call returns one number of 64 bits: 0 if it succeeded, else the refusal's number times 2^48 plus its place.
+   (onerom_well_wired returns 1, which is no refusal's, where the answer is no.) So the number is the result
+   shifted right by 48, and the place its low 48 bits (onerom_number and onerom_place in C, Refusal in Rust). A
+   refusal that names no place has place 0. */
 enum {
     /* A record of another length, or a number in it that no board or chip can have. */
     ONEROM_OUT_OF_DOMAIN = 1,
@@ -610,12 +611,31 @@ uint64_t onerom_unscramble_slot(const uint8_t *slot, size_t slot_len, const uint
  * Number 3 names a socket pin if the address search refuses and a chip pin if the select search does; the single
  * calls tell which.
  *
- * If the slot is well wired, as document 01 says it, and the four succeed, each chip's words are the first of its
- * bytes in images, byte for byte. Where it is not, words can come back as others.
+ * If the slot is well wired, which onerom_well_wired tests, and the four succeed, each chip's words are the first
+ * of its bytes in images, byte for byte. Where it is not, words can come back as others.
  */
 uint64_t onerom_round_trip(const uint8_t *description, size_t description_len, const uint8_t *spans, size_t spans_len,
                            const uint8_t *images, size_t images_len, uint8_t *table, size_t table_len, uint8_t *output,
                            size_t output_len, uint8_t *marks, size_t marks_len);
+
+/*
+ * Tests whether a slot is well wired with the address layout that was found for it: no GPIO is a candidate of two
+ * pins of the board; the address lines in use, and in Multi the select, lie on different chip pins, and so do the
+ * data lines, 8 for each byte of a word; in Multi the select's pin has no second candidate, and there are no
+ * qualifiers; X1 in Banked and Multi, and X2 with three chips or more, has just one candidate among the GPIOs
+ * that the address layout reads. What is then laid out, built and read back is proved to be the chips' words.
+ *
+ *   description: read, description record
+ *   addr_layout: read, address layout record
+ *
+ * The number of the result:
+ *
+ *   0, place 0: the slot is well wired.
+ *   0, place 1: the slot is not: the result is 1.
+ *   ONEROM_OUT_OF_DOMAIN: the bytes are no description record, or no address layout record.
+ */
+uint64_t onerom_well_wired(const uint8_t *description, size_t description_len, const uint8_t *addr_layout,
+                           size_t addr_layout_len);
 
 #ifdef __cplusplus
 }

@@ -4,7 +4,7 @@ use crate::images;
 use crate::interface::{
     addr_layout as layout_at, description as described, onerom_build_rom_image,
     onerom_derive_addr_layout, onerom_derive_cs_data_layout, onerom_round_trip,
-    onerom_unscramble_slot,
+    onerom_unscramble_slot, onerom_well_wired,
 };
 use crate::layout::addr::{self, AddrLayout};
 use crate::layout::cs_data::{self, CsDataLayout};
@@ -190,3 +190,32 @@ pub fn round_trip_into(
         )
     }
 }
+
+/// The test of the wiring as the library makes it: 0 if the slot is well wired, 1 if not, or a
+/// refusal's number times 2^48.
+pub fn well_wired_result(description: &[u8], addr_layout: &[u8]) -> u64 {
+    // SAFETY: as above. Nothing is lent.
+    unsafe {
+        onerom_well_wired(
+            description.as_ptr(),
+            description.len(),
+            addr_layout.as_ptr(),
+            addr_layout.len(),
+        )
+    }
+}
+
+/// Whether the slot that a record describes is well wired with an address layout's record. What
+/// both searches and the build accept of such a slot is proved to read back.
+pub fn well_wired(description: &[u8], addr_layout: &[u8]) -> Result<bool, Refusal> {
+    match well_wired_result(description, addr_layout) {
+        NOT_WELL_WIRED => Ok(false),
+        result => match Refusal::of(Call::WellWired, result) {
+            None => Ok(true),
+            Some(refusal) => Err(refusal),
+        },
+    }
+}
+
+/// The result where the answer is no.
+const NOT_WELL_WIRED: u64 = 1;

@@ -498,4 +498,17 @@ unsafe extern "C" {
         marks: *mut u8,
         marks_len: usize,
     ) -> u64;
+
+    /// Tests whether a slot is well wired with the address layout that was found for it: no GPIO is
+    /// a candidate of two pins of the board; the address lines in use, and in Multi the select, lie
+    /// on different chip pins, and so do the data lines, 8 for each byte of a word; in Multi the
+    /// select's pin has no second candidate, and there are no qualifiers; X1 in Banked and Multi,
+    /// and X2 with three chips or more, has just one candidate among the GPIOs that the address
+    /// layout reads. What is then laid out, built and read back is proved to be the chips' words.
+    pub(crate) fn onerom_well_wired(
+        description: *const u8,
+        description_len: usize,
+        addr_layout: *const u8,
+        addr_layout_len: usize,
+    ) -> u64;
 }

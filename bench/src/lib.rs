@@ -27,7 +27,7 @@ pub mod text;
 pub use call::{
     build_rom_image, build_rom_image_into, derive_addr_layout, derive_addr_layout_into,
     derive_cs_data_layout, derive_cs_data_layout_into, round_trip_into, table_length,
-    unscramble_slot_into,
+    unscramble_slot_into, well_wired, well_wired_result,
 };
 pub use description::Description;
 pub use layout::addr::AddrLayout;

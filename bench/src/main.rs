@@ -11,6 +11,7 @@ mod progress;
 mod reach;
 mod replay;
 mod speed;
+mod wiring;
 
 use std::ffi::OsString;
 use std::process::ExitCode;

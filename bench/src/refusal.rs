@@ -15,6 +15,8 @@ pub enum Call {
     ReadBack,
     /// The four above in turn.
     RoundTrip,
+    /// `well_wired`.
+    WellWired,
 }
 
 impl fmt::Display for Call {
@@ -25,6 +27,7 @@ impl fmt::Display for Call {
             Self::Build => "build",
             Self::ReadBack => "read-back",
             Self::RoundTrip => "round trip",
+            Self::WellWired => "test of the wiring",
         })
     }
 }

@@ -10,11 +10,13 @@ use onerom_bench::slot::{Map, SlotKind};
 use onerom_bench::{
     Description, StoredSlot, build_rom_image_into, derive_addr_layout, derive_addr_layout_into,
     derive_cs_data_layout, derive_cs_data_layout_into, images, round_trip_into, table_length, text,
-    unscramble_slot_into,
+    unscramble_slot_into, well_wired_result,
 };
 use slots::{SAMPLE, changed, wide};
 
 const SUCCESS: u64 = 0;
+/// Of a slot that is not well wired.
+const NO: u64 = 1;
 const OUT_OF_DOMAIN: u64 = 1 << 48;
 const SHORT_IMAGES: u64 = 15 << 48;
 const SHORT_BUFFER: u64 = 16 << 48;
@@ -179,6 +181,10 @@ fn round_trip(read: &[&[u8]], lent: &mut [&mut [u8]]) -> u64 {
     round_trip_into(read[0], read[1], read[2], table, output, marks)
 }
 
+fn wiring(read: &[&[u8]], _: &mut [&mut [u8]]) -> u64 {
+    well_wired_result(read[0], read[1])
+}
+
 impl<'a> Function<'a> {
     fn of(
         good: &'a Good,
@@ -196,7 +202,7 @@ impl<'a> Function<'a> {
         }
     }
 
-    fn all(good: &'a Good) -> [Self; 5] {
+    fn all(good: &'a Good) -> [Self; 6] {
         let description = (Read::Record, &good.description[..]);
         let addr = (Read::Record, &good.addr_layout[..]);
         let addr_or_none = (Read::LayoutOrNone, &good.addr_layout[..]);
@@ -232,6 +238,7 @@ impl<'a> Function<'a> {
                 &trip,
                 &[table, output, marks],
             ),
+            of(("wiring", wiring, 0), &[description, addr], &[]),
         ]
     }
 
@@ -443,9 +450,15 @@ fn unserved() -> Good {
 #[test]
 fn a_round_trip_without_an_entry_keeps_its_table() {
     let good = unserved();
-    let [.., function] = Function::all(&good);
+    let [.., function, wiring] = Function::all(&good);
     let read = function.read();
     let told = UNSERVED << 48 | 1024;
+    wiring.check(
+        (&wiring.read(), &[]),
+        Side::Upper,
+        (NO, &[]),
+        "lines joined",
+    );
     for side in Side::BOTH {
         for more in [0, 1, 5000] {
             let lent: Vec<usize> = (function.lengths().iter())

@@ -220,7 +220,7 @@ fn flags_that_are_none_are_told() {
     let help = "`bench compare --help` says more";
     let wanted = format!("bench compare: expected no flag, found `-2`; {help}\n");
     assert_eq!(said(&["compare", "1", "-2"]), wanted);
-    let wanted = "bench build: expected --any-length, --part, found `--any`; \
+    let wanted = "bench build: expected --any-length, --part, --unverified, found `--any`; \
         `bench build --help` says more\n";
     assert_eq!(said(&["build", "a", "--any", "b", "c"]), wanted);
     // Behind `--` a word is a file's name.

@@ -8,7 +8,7 @@ use std::os::unix::fs::{PermissionsExt, symlink};
 use std::process::{Command, Stdio};
 
 use folder::{Folder, text};
-use slots::{changed, random, wired};
+use slots::{banked, changed, multi, random, wired};
 
 /// The sample without A12.
 fn without_a12() -> String {
@@ -180,4 +180,82 @@ fn a_table_on_the_standard_output() {
         (Some(2), said.into())
     );
     assert_eq!(folder.names(), names);
+}
+
+#[test]
+fn bad_wiring_is_told() {
+    // A6 and A7 on one GPIO.
+    let shared = changed(&[("pin 3 gpio 14", "pin 3 gpio 15")]);
+    let why = "not well wired: GPIO 15 is a candidate of socket pin 3 and socket pin 4\n";
+    let layout = Folder::new("layout", "wiring");
+    layout.write("slot.txt", shared.as_bytes());
+    assert!(layout.done(&["slot.txt"]).ends_with(&format!("\n\n{why}")));
+
+    let build = Folder::new("build", "wiring");
+    build.write("slot.txt", shared.as_bytes());
+    build.write("chip.bin", &random(6, 8192));
+    let words = ["slot.txt", "table.bin", "chip.bin"];
+    assert!(
+        build
+            .refused(&words)
+            .starts_with("read-back refused: 24 Unserved")
+    );
+    assert_eq!(build.names(), ["chip.bin", "slot.txt"]);
+    let words = ["--unverified", "slot.txt", "table.bin", "chip.bin"];
+    assert_eq!(build.done(&words), "table.bin: table of 8192 bytes\n");
+
+    // Ce on the GPIO of A0: the table reads back, and the board answers for half of it.
+    let enable = changed(&[("pin 20 gpio 22", "pin 20 gpio 21")]);
+    let verify = Folder::new("verify", "wiring");
+    verify.write("slot.txt", enable.as_bytes());
+    let said = verify.done(&["slot.txt", "chip.bin"]);
+    let why = "not well wired: GPIO 21 is a candidate of socket pin 10 and socket pin 20\n";
+    assert_eq!(said, format!("reads back: 8192 words of 1 chip\n{why}"));
+}
+
+#[test]
+fn each_fault_of_the_wiring_is_named() {
+    let folder = Folder::new("layout", "reasons");
+    let told = |name: &str, slot: String| {
+        folder.write(name, slot.as_bytes());
+        let said = text(&folder.run(&[name]).stdout);
+        let wrong = said
+            .lines()
+            .filter(|line| line.starts_with("not well wired"));
+        wrong.map(|line| format!("{line}\n")).collect::<String>()
+    };
+    let two = changed(&[("25 24 21 23 2 ", "25 24 21 2 2 ")]);
+    assert_eq!(
+        told("lines.txt", two),
+        "not well wired: A11 and A12 lie on chip pin 2\n"
+    );
+    let data = changed(&[(
+        "data 11 12 13 15 16 17 18 19",
+        "data 11 12 13 15 16 17 18 18",
+    )]);
+    assert_eq!(
+        told("data.txt", data),
+        "not well wired: D6 and D7 lie on chip pin 18\n"
+    );
+    let seven = changed(&[("data 11 12 13 15 16 17 18 19", "data 11 12 13 15 16 17 18")]);
+    assert_eq!(
+        told("seven.txt", seven),
+        "not well wired: a word has 8 bits, and there are 7 data lines\n"
+    );
+    // X1 has both its candidates among the GPIOs of the address lines, which are other pins' too.
+    let x1 = banked().replace("x1 gpio 8", "x1 gpio 9 12");
+    let said = told("x1.txt", x1);
+    assert!(said.contains("not well wired: GPIO 9 is a candidate of socket pin 21 and X1\n"));
+    assert!(
+        said.contains("not well wired: X1 has 2 candidates among GPIOs 9 to 22"),
+        "{said}"
+    );
+    let select = multi().replace("pin 20 gpio 22", "pin 20 gpio 22 40");
+    let said = told("select.txt", select);
+    assert_eq!(
+        said,
+        "not well wired: socket pin 20, the select's, has two GPIOs\n"
+    );
+    assert_eq!(told("good.txt", banked()), "");
+    assert_eq!(told("multi.txt", multi()), "");
 }

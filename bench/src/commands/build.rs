@@ -6,12 +6,16 @@ use std::process::ExitCode;
 
 use onerom_bench::build_rom_image;
 
+use super::verify::verified;
 use super::{Command, Flags};
 use crate::ending::{Done, Fault, complain, say};
 use crate::inputs::{ANY_LENGTH, Inputs, NO_FILE};
 use crate::laid_out;
 use crate::outputs::{keep, write_out, write_whole};
 use crate::reach::{PART, parts_served};
+
+/// The flag by which a table is written that does not read back.
+const UNVERIFIED: &str = "--unverified";
 
 pub const BUILD: Command = Command {
     name: "build",
@@ -25,16 +29,19 @@ Writes the table's bytes, and nothing else, to TABLE: when the
 table is built, whole or not at all; `-` is the standard output. TABLE may
 replace a file that is there, but none that is read and none that is read-only.
 
-Where the address lines in use do not reach all words of a chip, and no excess
-line explains it, nothing is written; --part accepts it.
+A table that does not read back as the chips, which can only be if the slot is
+not well wired, is not written unless --unverified is given. Where the address
+lines in use do not reach all words of a chip, and no excess line explains it,
+nothing is written; --part accepts it.
 
-Exit codes: 0 built; 1 a search or the build refuses, or words of a chip are not
-reached; 2 other words, or a file that cannot be used.
+Exit codes: 0 built; 1 a search or the build refuses, the table does not read
+back, or words of a chip are not reached; 2 other words, or a file that cannot
+be used.
 
 Example:
     bench build 2764.txt table.bin 2764.bin
 ",
-    flags: &[ANY_LENGTH, PART],
+    flags: &[ANY_LENGTH, PART, UNVERIFIED],
     run,
 };
 
@@ -69,6 +76,9 @@ fn built(inputs: &Inputs, flags: &Flags) -> Result<(Vec<u8>, String), Fault> {
     let record = inputs.slot.to_bytes();
     let (addr, cs_data) = laid_out(&record)?;
     let parts = parts_served(&inputs.slot, &addr, flags.has(PART))?;
+    if !flags.has(UNVERIFIED) {
+        verified(&inputs.slot, &inputs.images())?;
+    }
     let table = build_rom_image(
         &record,
         &addr.to_bytes(),

@@ -15,6 +15,7 @@ use crate::ending::{Done, Fault, say};
 use crate::inputs::{NO_FILE, described};
 use crate::outputs::{keep, write_whole};
 use crate::reach::{PART, parts_served};
+use crate::wiring::complaints;
 
 pub const LAYOUT: Command = Command {
     name: "layout",
@@ -27,6 +28,7 @@ SLOT, if it is given, the slot that stores the table, for `bench read-back`.
 SLOT is written when both layouts are found, whole or not at all, and may
 replace a file that is there, but not FILE.
 
+Where the slot is not well wired it says why: what is built may not read back.
 Where the address lines in use do not reach all words of a chip, and no excess
 line explains it, that is told and SLOT is not written; --part accepts it.
 
@@ -46,7 +48,7 @@ fn run(words: &[OsString], flags: &Flags) -> Done {
         [file] => {
             let slot = described(Path::new(file))?;
             let (addr, _) = print_layouts(&slot)?;
-            say_parts(&slot, &addr, part)?;
+            say_slips(&slot, &addr, part)?;
         }
         [file, stored] => lay_out_to(Path::new(file), Path::new(stored), part)?,
         _ => return Err(Fault::Words),
@@ -54,12 +56,17 @@ fn run(words: &[OsString], flags: &Flags) -> Done {
     Ok(ExitCode::SUCCESS)
 }
 
-fn say_parts(slot: &Description, addr: &AddrLayout, part: bool) -> Result<(), Fault> {
-    let parts = parts_served(slot, addr, part)?;
-    if parts.is_empty() {
-        return Ok(());
+/// What is wrong with the wiring, and which parts of the chips are served.
+fn say_slips(slot: &Description, addr: &AddrLayout, part: bool) -> Result<(), Fault> {
+    let wrong = complaints(slot, addr)?;
+    if !wrong.is_empty() {
+        say(&format!("\n{wrong}"))?;
     }
-    say(&format!("\n{parts}"))
+    let parts = parts_served(slot, addr, part)?;
+    if !parts.is_empty() {
+        say(&format!("\n{parts}"))?;
+    }
+    Ok(())
 }
 
 fn lay_out_to(file: &Path, stored: &Path, part: bool) -> Result<(), Fault> {
@@ -70,7 +77,7 @@ fn lay_out_to(file: &Path, stored: &Path, part: bool) -> Result<(), Fault> {
     let slot = described(file)?;
     keep(&[file], "slot", stored)?;
     let (addr, cs_data) = print_layouts(&slot)?;
-    say_parts(&slot, &addr, part)?;
+    say_slips(&slot, &addr, part)?;
     let text = text::write_slot(&StoredSlot::of_layouts(&slot, &addr, &cs_data));
     write_whole(&[(stored, text.as_bytes())])?;
     say(&format!("\n{}: stored slot\n", stored.display()))

@@ -16,6 +16,7 @@ use crate::ending::{Done, Fault, counted, say};
 use crate::inputs::{ANY_LENGTH, Inputs};
 use crate::laid_out;
 use crate::reach::{PART, parts_served};
+use crate::wiring::complaints;
 
 pub const VERIFY: Command = Command {
     name: "verify",
@@ -28,8 +29,10 @@ is a chip without bytes. A chip's file has just the chip's bytes; with
 what comes back against the files. Writes no file, and the answer to the
 standard output.
 
-Where the address lines in use do not reach all words of a chip, and no excess
-line explains it, that is told; --part accepts it.
+Where the slot is not well wired it says why: with other bytes it may not read
+back, or the board may answer when it should not. Where the address lines in
+use do not reach all words of a chip, and no excess line explains it, that is
+told; --part accepts it.
 
 Exit codes: 0 it reads back; 1 one of the four calls refuses, a word comes back
 as another, or words of a chip are not reached; 2 other words, or a file that
@@ -54,8 +57,9 @@ fn run(words: &[OsString], flags: &Flags) -> Done {
     let inputs = Inputs::read(Path::new(file), chips, flags.has(ANY_LENGTH))?;
     let verified = verified(&inputs.slot, &inputs.images())?;
     let addr = derive_addr_layout(&inputs.slot.to_bytes())?;
+    let wrong = complaints(&inputs.slot, &addr)?;
     let parts = parts_served(&inputs.slot, &addr, flags.has(PART))?;
-    say(&format!("{verified}\n{parts}"))?;
+    say(&format!("{verified}\n{wrong}{parts}"))?;
     Ok(ExitCode::SUCCESS)
 }
 

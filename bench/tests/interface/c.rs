@@ -131,9 +131,11 @@ fn call(page: &Page, call: &Call) -> String {
         paragraphs.push(format!(" {}: {used}, {about}", parameter.name));
     }
     let buffers = plain(&call.buffers);
-    paragraphs.push(format!(
-        "The number of the result; {buffers} as before the call where no more is said:"
-    ));
+    paragraphs.push(if call.parameters.iter().any(|parameter| parameter.lent) {
+        format!("The number of the result; {buffers} as before the call where no more is said:")
+    } else {
+        "The number of the result:".into()
+    });
     paragraphs.extend(call.answers.iter().map(|it| answer(page, it)));
     paragraphs.extend(call.after.iter().map(|text| plain(text)));
     format!("\n{}{}", comment(&paragraphs), prototype(call))

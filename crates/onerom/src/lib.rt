@@ -1,6 +1,7 @@
 // The C interface: calls on numbers and byte slices. docs/INTERFACE.md has the records byte by byte and each call's answers;
 // include/onerom.h declares the calls for C.
 mod trip; // the round trip's answer, handed over
+mod wiring; // the wiring's test
 
 use addr_layout::derive_addr_layout;
 use addr_record::given_at;
@@ -17,6 +18,7 @@ ghost use mathlib.Core.Path.{_≡_};
 ghost use Rattle.calls.specs.Calls.{addrCall, csDataCall, buildCall, readBackCall};
 ghost use Rattle.calls.specs.Calls.{returned, readReturned, searchResult, buildResult, readResult};
 ghost use Rattle.onerom.specs.Trip.{tripCall, tripReturned, tripResult, CallDemanded};
+ghost use Rattle.onerom.specs.Wired.{wiredCall};
 
 // Finds the address layout of the slot that the record describes, and writes it as a record.
 #[no_mangle]
@@ -135,6 +137,22 @@ pub extern "C" fn onerom_round_trip(
         Answer::Done => {
             trip::hand_over(decoded.description, spans, images, table, output, marks)
         }
+        Answer::Refused(why) => packed(why),
+    }
+}
+
+// Tests whether the slot that the record describes is well wired, with the address layout that was found: 0 if it is, 1 if not.
+#[no_mangle]
+pub extern "C" fn onerom_well_wired(description: &[u8], addr_layout: &[u8]) -> u64
+    ensures { λ r. ⌜ r ≡ wiredCall (now (description .entry)) (now («addr_layout» .entry)) ⌝ }
+{
+    if !addr_record::formed(addr_layout) {
+        return packed(Refusal::OutOfDomain);
+    }
+    let decoded = description_record::decode(description);
+    let outcome = decoded.answer;
+    match outcome {
+        Answer::Done => wiring::tested(decoded.description, addr_layout),
         Answer::Refused(why) => packed(why),
     }
 }

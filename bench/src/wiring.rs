@@ -1,0 +1,145 @@
+//! Why a slot is not well wired, by a look at its description: the library's proved test says only
+//! that it is not.
+
+use std::collections::BTreeSet;
+
+use onerom_bench::description::{Candidates, Chip, Kind, SetType};
+use onerom_bench::{AddrLayout, Description, well_wired};
+
+use crate::ending::Fault;
+
+/// What is wrong with the wiring, a line each; nothing of a slot that is well wired.
+pub fn complaints(slot: &Description, addr: &AddrLayout) -> Result<String, Fault> {
+    if well_wired(&slot.to_bytes(), &addr.to_bytes())? {
+        return Ok(String::new());
+    }
+    let mut reasons = shared_gpios(slot);
+    if let Some(chip) = slot.chips.first() {
+        reasons.extend(shared_pins(slot, addr, chip));
+        reasons.extend(of_multi(slot, chip));
+    }
+    reasons.extend(x_pins(slot, addr));
+    if reasons.is_empty() {
+        reasons.push("a rule of docs/INTERFACE.md, `onerom_well_wired`, is not kept".into());
+    }
+    let lines = reasons.iter().map(|why| format!("not well wired: {why}\n"));
+    Ok(lines.collect())
+}
+
+fn gpios(candidates: Candidates) -> Vec<u8> {
+    match candidates {
+        Candidates::Absent => vec![],
+        Candidates::One(gpio) => vec![gpio],
+        Candidates::Two(one, other) => vec![one, other],
+    }
+}
+
+/// GPIOs that are candidates of two pins of the board.
+fn shared_gpios(slot: &Description) -> Vec<String> {
+    let socket = (1..).zip(&slot.socket).take(slot.board_pins.into());
+    let socket = socket.map(|(pin, &own)| (format!("socket pin {pin}"), gpios(own)));
+    let x = (1..).zip(slot.x);
+    let x = x.map(|(number, own)| (format!("X{number}"), gpios(own)));
+    let pins: Vec<(String, Vec<u8>)> = socket.chain(x).collect();
+    let mut reasons = Vec::new();
+    for (place, (name, own)) in pins.iter().enumerate() {
+        for (other, others) in &pins[place + 1..] {
+            let own: BTreeSet<u8> = own.iter().copied().collect();
+            let both = own.iter().filter(|gpio| others.contains(gpio));
+            reasons.extend(
+                both.map(|gpio| format!("GPIO {gpio} is a candidate of {name} and {other}")),
+            );
+        }
+    }
+    reasons
+}
+
+/// Lines that lie on one chip pin, and a number of data lines that makes no word.
+fn shared_pins(slot: &Description, addr: &AddrLayout, chip: &Chip) -> Vec<String> {
+    // In 16-bit mode the first address pin is no line.
+    let first = usize::from(slot.word_bytes == 2);
+    let lines = chip.address_pins.iter().skip(first).take(addr.lines.len());
+    let mut address: Vec<(String, u8)> = numbered("A", lines);
+    if let Some(select) = select_pin(slot, chip) {
+        address.push(("the select line".into(), select));
+    }
+    let data = numbered("D", chip.data_pins.iter());
+    let mut reasons = on_one_pin(&address);
+    reasons.extend(on_one_pin(&data));
+    let wanted = 8 * usize::from(slot.word_bytes);
+    if data.len() != wanted {
+        let has = data.len();
+        reasons.push(format!(
+            "a word has {wanted} bits, and there are {has} data lines"
+        ));
+    }
+    reasons
+}
+
+fn numbered<'a>(letter: &str, pins: impl Iterator<Item = &'a u8>) -> Vec<(String, u8)> {
+    let line = |(number, &pin): (usize, &u8)| (format!("{letter}{number}"), pin);
+    pins.enumerate().map(line).collect()
+}
+
+fn on_one_pin(lines: &[(String, u8)]) -> Vec<String> {
+    let mut reasons = Vec::new();
+    for (place, (name, pin)) in lines.iter().enumerate() {
+        let others = lines[place + 1..].iter().filter(|(_, other)| other == pin);
+        reasons
+            .extend(others.map(|(other, _)| format!("{name} and {other} lie on chip pin {pin}")));
+    }
+    reasons
+}
+
+/// The chip pin of the line that tells a Multi set's chips apart.
+fn select_pin(slot: &Description, chip: &Chip) -> Option<u8> {
+    let select: Kind = slot.multi.as_ref()?.select;
+    let own = chip.control.iter().rev().find(|(kind, _)| *kind == select);
+    own.map(|&(_, pin)| pin)
+        .filter(|_| slot.set_type == SetType::Multi)
+}
+
+fn of_multi(slot: &Description, chip: &Chip) -> Vec<String> {
+    let mut reasons = Vec::new();
+    if slot.set_type != SetType::Multi {
+        return reasons;
+    }
+    if let Some(pin) = select_pin(slot, chip) {
+        let socket_pin = i32::from(pin) + i32::from(slot.pin_offset);
+        let place = usize::try_from(socket_pin - 1).ok();
+        let own = place.and_then(|place| slot.socket.get(place));
+        if matches!(own, Some(Candidates::Two(..))) {
+            reasons.push(format!(
+                "socket pin {socket_pin}, the select's, has two GPIOs"
+            ));
+        }
+    }
+    if !slot.qualifiers.is_empty() {
+        reasons.push("a Multi set has qualifiers".into());
+    }
+    reasons
+}
+
+/// X pins that pick a bank or a chip, and have no candidate or two among the GPIOs that are read.
+fn x_pins(slot: &Description, addr: &AddrLayout) -> Vec<String> {
+    let needed = match (slot.set_type, slot.chips.len()) {
+        (SetType::Single, _) => 0,
+        (_, 3..) => 2,
+        _ => 1,
+    };
+    let (from, to) = (
+        addr.base,
+        addr.base.saturating_add(addr.pins.saturating_sub(1)),
+    );
+    let mut reasons = Vec::new();
+    for (number, x) in (1..).zip(slot.x).take(needed) {
+        let own: BTreeSet<u8> = gpios(x).into_iter().collect();
+        let inside = own.iter().filter(|gpio| (from..=to).contains(gpio)).count();
+        if inside != 1 {
+            reasons.push(format!(
+                "X{number} has {inside} candidates among GPIOs {from} to {to}, which are read, and should have one"
+            ));
+        }
+    }
+    reasons
+}
