@@ -105,7 +105,6 @@ fn part_span(l: Listing, every: Spanning, low: bool, split: u32, choice: u32) ->
     requires { ⌜ l .count ≤ 30 ⌝ }
     ensures { λ r. ⌜ r ≡ partSpan (listOf l) every low split choice ⌝ }
 {
-    let pins = l.pins;
     let count = l.count;
     let in_range = every.in_range;
     let lines = every.lines;
@@ -114,7 +113,7 @@ fn part_span(l: Listing, every: Spanning, low: bool, split: u32, choice: u32) ->
     let mut bit: u32 = 0;
     let mut k: usize = 0;
     while k < count {
-        let pin = pins[k];
+        let pin = l.pins[k];
         let gpios = pin.gpios;
         let picked = pick(gpios, rest);
         let counts = (k < in_range) | (lines <= k);

@@ -3,9 +3,9 @@
 use mathlib.Core.Path.{_≡_, sym, ap}
 use mathlib.Core.Bool.{cond}
 use mathlib.Core.List.{List}
-use Prim.Native.Nat.{ℕ, _+_, _<_}
+use Prim.Native.Nat.{ℕ, _+_, _≤_, _<_}
 use native.Mathlib.Numerals.{add-one}
-use lib.ListN.{take, getD}
+use lib.ListN.{length, take, getD, List·getD-eq-default}
 use lib.Seq.{getD-take}
 use Rattle.gpio.specs.Candidates.{two}
 use Rattle.gpio.specs.declared.candidates.Candidates.{Candidates}
@@ -19,6 +19,11 @@ use Rattle.listing.specs.declared.choice.Picked.{Picked}
 
 pub pin-taken : (ps : List Listed) (n k : ℕ) → k < n → getD ps k (listed Absent OutOfDomain) .gpios ≡ pinAt (take n ps) k
 pin-taken ps n k h = ap (λ (l : Listed). l .gpios) (sym (getD-take n ps k (listed Absent OutOfDomain) h))
+
+-- past the list a pin has no candidate
+pub gpio-past : (ls : List Listed) (c k : ℕ) → length ls ≤ k → gpioAt ls c k ≡ 0
+unfolding gpioAt
+gpio-past ls c k h = ap (λ (x : Listed). chosen (x .gpios) (restAt ls c k)) (List·getD-eq-default ls (listed Absent OutOfDomain) h)
 
 module _ (ls : List Listed) (c k r : ℕ) (g : Candidates) (p : Picked) (e : r ≡ restAt ls c k) (h : g ≡ pinAt ls k)
     (i : p ≡ record { gpio = chosen g r; rest = leftBy g r }) where

@@ -4,9 +4,10 @@ use crate::Listing;
 use gpio::candidates::Candidates;
 ghost use mathlib.Core.Path.{_≡_};
 ghost use mathlib.Core.Bool.{cond};
+ghost use Prim.Native.Nat.{_≤_};
 ghost use Rattle.lists.specs.Tab.{tab};
 ghost use Rattle.listing.specs.Listing.{listOf};
-ghost use Rattle.listing.specs.Choice.{chosen, leftBy, pinAt, gpioAt};
+ghost use Rattle.listing.specs.Choice.{chosen, leftBy, gpioAt};
 ghost use Rattle.listing.specs.design.Parts.{inPart};
 
 // A pin's GPIO under a choice, and what is left of the choice for the pins after it.
@@ -46,30 +47,19 @@ pub fn in_part(low: bool, split: u32, bit: u32) -> bool
     if low { below } else { !below }
 }
 
-// The candidates of the `k`-th pin.
-pub fn pin_at(l: Listing, k: usize) -> Candidates
-    ensures { λ r. ⌜ r ≡ pinAt (listOf l) k ⌝ }
-{
-    if l.count <= k {
-        return Candidates::Absent;
-    }
-    if 30 <= k {
-        return Candidates::Absent;
-    }
-    let pins = l.pins;
-    let pin = pins[k];
-    pin.gpios
-}
-
 // The GPIO of each pin under a choice; 0 past the list's end.
 pub fn resolve(l: Listing, choice: u32) -> [u8; 30]
+    requires { ⌜ l .count ≤ 30 ⌝ }
     ensures { λ r. ⌜ r ≡ tab 30 (λ k. gpioAt (listOf l) choice k) ⌝ }
 {
+    let count = l.count;
     let mut out = [0u8; 30];
     let mut rest = choice;
     let mut k: usize = 0;
-    while k < 30 {
-        let picked = pick(pin_at(l, k), rest);
+    while k < count {
+        let pin = l.pins[k];
+        let gpios = pin.gpios;
+        let picked = pick(gpios, rest);
         out[k] = picked.gpio;
         rest = picked.rest;
         k += 1;

@@ -112,12 +112,11 @@ pub fn choice_bits(l: Listing) -> u32
     ensures { λ r. ⌜ r ≡ twos (listOf l) ⌝ }
     ensures { λ r. ⌜ r ≤ 30 ⌝ }
 {
-    let pins = l.pins;
     let n = l.count;
     let mut sum: u32 = 0;
     let mut k: usize = 0;
     while k < n {
-        let pin = pins[k];
+        let pin = l.pins[k];
         sum += bits(pin);
         k += 1;
     }
@@ -147,12 +146,11 @@ pub fn first_fault(l: Listing) -> FirstFault
     requires { ⌜ l .count ≤ 30 ⌝ }
     ensures { λ r. ⌜ r ≡ firstFault (listOf l) ⌝ }
 {
-    let pins = l.pins;
     let n = l.count;
     let mut fault = FirstFault::None;
     let mut k: usize = 0;
     while k < n {
-        let pin = pins[k];
+        let pin = l.pins[k];
         fault = keep_fault(fault, pin);
         k += 1;
     }

@@ -1,13 +1,16 @@
 -- What a loop that fills an array entry by entry needs of `tab`, and when a list is a `tab`. Assumes nothing.
 use mathlib.Core.Path.{_≡_, refl, sym, _∙_, ap}
+use mathlib.Core.Bool.{Bool, true, false}
 use mathlib.Core.List.{List, [], _∷_}
 use mathlib.Core.Logic.{inl, inr}
 use Prim.Native.Nat.{ℕ, zero, suc, _+_, _≤_, _<_}
 use native.Mathlib.Numerals.{add-one}
 use native.Mathlib.Omega.{arith}
 use native.Mathlib.Nat.{le-of-suc-le-suc, eq-or-lt-of-le}
-use lib.ListN.{length, take, getD, set, length-set, length-append, List·getD-append}
-use lib.Seq.{take-suc-set, take-all, take-suc, getD-at, getD-take}
+use lib.Dec.{ltb}
+use lib.ListN.{length, take, getD, set, replicate, length-set, length-append, length-replicate, List·getD-append}
+use lib.Seq.{take-suc-set, take-all, take-suc, getD-at, getD-take, getD-set-other}
+use borrow.Author.Tests.{ltb-true, ltb-false}
 use Rattle.lists.specs.Tab.{tab}
 
 -- the loop's invariant: the first k of n entries are in place
@@ -71,3 +74,31 @@ tab-cong f g (suc n) h = rw (tab-cong f g n (λ k l. h k (omega arith)), h n (om
 -- an entry of a list that begins with a filling
 pub getD-begins : {A : Type 0} (f : ℕ → A) (l : List A) (n k : ℕ) (z : A) → take n l ≡ tab n f → k < n → getD l k z ≡ f k
 getD-begins {A} f l n k z e h = sym (getD-take n l k z h) ∙ ap (λ (x : List A). getD x k z) e ∙ getD-tab f n k z h
+
+-- the invariant of a loop that ends before the array is full: past the first k entries each is z
+pub record Begun {A : Type 0} (n : ℕ) (f : ℕ → A) (z : A) (out : List A) (k : ℕ) : Type 0 where
+  pub begun : Filled n f out k
+  pub blank : (j : ℕ) → k ≤ j → getD out j z ≡ z
+
+module _ {A : Type 0} {n : ℕ} {f : ℕ → A} {z : A} where
+  pub begun-none : Begun n f z (replicate n z) 0
+  begun-none = record { begun = filled-none (length-replicate n z); blank = λ j h. all-blank n j }
+    where
+      all-blank : (n j : ℕ) → getD (replicate n z) j z ≡ z
+      all-blank zero j = refl
+      all-blank (suc n) zero = refl
+      all-blank (suc n) (suc j) = all-blank n j
+
+  pub begun-turn : {out : List A} {k : ℕ} {v : A} → Begun n f z out k → k < n → v ≡ f k → Begun n f z (set out k v) (k + 1)
+  begun-turn {out} {k} {v} i h e = record {
+    begun = filled-turn (i .begun) h e;
+    blank = λ j l. getD-set-other out k j v z (λ q. absurd (omega arith)) ∙ i .blank j (omega arith);
+  }
+
+  -- f is z from k on
+  pub begun-all : {out : List A} {k : ℕ} → Begun n f z out k → ((j : ℕ) → k ≤ j → f j ≡ z) → out ≡ tab n f
+  begun-all {out} {k} i past = sym (tab-is f out z n (i .begun .long) (λ j h. by j (ltb j k) refl))
+    where
+      by : (j : ℕ) (t : Bool) → ltb j k ≡ t → f j ≡ getD out j z
+      by j true e = sym (getD-begins f out k j z (i .begun .first) (ltb-true j k e))
+      by j false e = past j (ltb-false j k e) ∙ sym (i .blank j (ltb-false j k e))

@@ -5,7 +5,7 @@ use mathlib.Core.List.{List}
 use Prim.Native.Nat.{ℕ, _+_, _≤_, _<_, _-_}
 use native.Mathlib.Numerals.{add-one}
 use native.Mathlib.Omega.{arith}
-use lib.ListN.{length, take, length-take}
+use lib.ListN.{length, length-take}
 use Rattle.gpio.specs.Span.{widened}
 use Rattle.gpio.specs.declared.candidates.Candidates.{Candidates}
 use Rattle.gpio.specs.declared.span.Span.{Span}
@@ -32,39 +32,40 @@ unfolding spanPartAt gpioAt
 wider ls f split c k r t low s s' g p b e y h i j m o = rw (o, j, i, h, e, y, m, add-one)
 
 abbrev Inv-loop : tie.InvT-loop
-Inv-loop low split choice pins count in-range lines s₀ rest₀ bit₀ k₀ s rest bit k =
-    (k ≤ count) × (count ≤ 30) × (bit ≤ k) × (length pins ≡ 30) × (rest ≡ restAt (take count pins) choice k)
-    × (bit ≡ bitOf (take count pins) k) × (s ≡ spanPartAt (take count pins) (record { «in_range» = in-range; lines = lines; fixed = s₀ }) low split choice k)
+Inv-loop low split choice l count in-range lines s₀ rest₀ bit₀ k₀ s rest bit k =
+    (k ≤ count) × (count ≤ 30) × (count ≡ l .count) × (bit ≤ k) × (length (l .pins) ≡ 30) × (rest ≡ restAt (listOf l) choice k)
+    × (bit ≡ bitOf (listOf l) k) × (s ≡ spanPartAt (listOf l) (record { «in_range» = in-range; lines = lines; fixed = s₀ }) low split choice k)
 
 abbrev μ-loop : tie.MeasureT-loop
-μ-loop low split choice pins count in-range lines s₀ rest₀ bit₀ k₀ s rest bit k = count - k
+μ-loop low split choice l count in-range lines s₀ rest₀ bit₀ k₀ s rest bit k = count - k
 
 loop-holds : tie.Need-loop-holds Inv-loop μ-loop
 unfolding restAt spanPartAt
-loop-holds c = (omega arith, omega arith, omega arith, search (mapped-length, needs), refl, tally-none _, refl)
+loop-holds c = (omega arith, omega arith, refl, omega arith, search (mapped-length, needs), refl, tally-none _, refl)
 
 loop-again : tie.Need-loop-again Inv-loop μ-loop
 loop-again c =
-    let a = c .before .before .before .before .before .before .before .before .before .args in
+    let l = c .before .before .before .before .before .before .before .before .args .t1 in
     let v = c .before .before .before .before .before .before .loop in
     let pick = c .before .before .before .pick .ensures in
-    let h : v .k < a .l .count = omega arith in
-    let g = pin-taken (a .l .pins) (a .l .count) (v .k) h in (
+    let h : v .k < l .count = omega arith in
+    let g = pin-taken (l .pins) (l .count) (v .k) h in (
       omega arith,
       omega arith,
+      v .inv .2,
       omega arith,
-      v .inv .3,
-      rest-left _ _ _ _ _ _ (v .inv .4) g pick,
-      bit-served (listOf (a .l)) (v .k) _ _ _ (v .inv .5) g (c .bits .ensures .0),
-      wider _ _ _ _ _ _ _ _ _ _ _ _ _ (v .inv .4) (v .inv .5) g pick (c .before .before .in-part .ensures) (v .inv .6) (c .before .widen-if .ensures),
+      v .inv .4,
+      rest-left _ _ _ _ _ _ (v .inv .5) g pick,
+      bit-served (listOf l) (v .k) _ _ _ (v .inv .6) g (c .bits .ensures .0),
+      wider _ _ _ _ _ _ _ _ _ _ _ _ _ (v .inv .5) (v .inv .6) g pick (c .before .before .in-part .ensures) (v .inv .7) (c .before .widen-if .ensures),
     )
 
 returns : tie.Need-returns Inv-loop μ-loop
 returns c =
-    let a = c .before .before .before .before .args in
+    let a = c .before .before .before .args in
     let v = c .before .loop in
-    let e : v .k ≡ length (listOf (a .l)) = simp length-take (omega arith) in
-    at-count (spanPartAt (listOf (a .l)) (a .every) (a .low) (a .split) (a .choice)) (v .k) _ (v .s) e (v .inv .6)
+    let e : v .k ≡ length (listOf (a .t1)) = simp length-take (omega arith) in
+    at-count (spanPartAt (listOf (a .t1)) (a .every) (a .low) (a .split) (a .choice)) (v .k) _ (v .s) e (v .inv .7)
 
 pub part-span-spec : {M : Type 1} → statement M
 part-span-spec = tie.close (tie.spec Inv-loop μ-loop loop-holds (λ c. search needs) (λ c. search needs) (λ c κs. search needs) (λ c κs. search needs) (λ c κs. search needs) (λ c κs. search needs) (λ c. search needs) (λ c. search needs) (λ c. search needs) loop-again returns)

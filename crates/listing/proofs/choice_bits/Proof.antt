@@ -21,10 +21,10 @@ done : (ps : List Listed) (k m n : ℕ) → k ≡ m → n ≡ twos (take k ps) �
 done ps k m n e h = rw e at h
 
 abbrev Inv-loop : tie.InvT-loop
-Inv-loop pins n sum₀ k₀ sum k = (k ≤ n) × (n ≤ 30) × (sum ≤ k) × (length pins ≡ 30) × (sum ≡ twos (take k pins))
+Inv-loop l n sum₀ k₀ sum k = (k ≤ n) × (n ≤ 30) × (sum ≤ k) × (length (l .pins) ≡ 30) × (sum ≡ twos (take k (l .pins)))
 
 abbrev μ-loop : tie.MeasureT-loop
-μ-loop pins n sum₀ k₀ sum k = n - k
+μ-loop l n sum₀ k₀ sum k = n - k
 
 loop-holds : tie.Need-loop-holds Inv-loop μ-loop
 unfolding twos
@@ -38,7 +38,7 @@ loop-again c =
 returns : tie.Need-returns Inv-loop μ-loop
 returns c =
     let v = c .before .loop in
-    (done _ (v .k) (c .before .before .before .args .l .count) _ (omega arith) (v .inv .4), omega arith)
+    (done _ (v .k) (c .before .before .args .t1 .count) _ (omega arith) (v .inv .4), omega arith)
 
 pub choice-bits-spec : {M : Type 1} → statement M
 choice-bits-spec = tie.close (tie.spec Inv-loop μ-loop loop-holds (λ c. search needs) (λ c. search needs) (λ c κs. search needs) (λ c. search needs) (λ c. search needs) (λ c. search needs) loop-again returns)

@@ -23,10 +23,10 @@ done : (ps : List Listed) (k m : ℕ) (f : FirstFault) → k ≡ m → f ≡ fir
 done ps k m f e h = rw e at h
 
 abbrev Inv-loop : tie.InvT-loop
-Inv-loop pins n fault₀ k₀ fault k = (k ≤ n) × (n ≤ 30) × (length pins ≡ 30) × (fault ≡ firstFault (take k pins))
+Inv-loop l n fault₀ k₀ fault k = (k ≤ n) × (n ≤ 30) × (length (l .pins) ≡ 30) × (fault ≡ firstFault (take k (l .pins)))
 
 abbrev μ-loop : tie.MeasureT-loop
-μ-loop pins n fault₀ k₀ fault k = n - k
+μ-loop l n fault₀ k₀ fault k = n - k
 
 loop-holds : tie.Need-loop-holds Inv-loop μ-loop
 unfolding faultFrom
@@ -38,7 +38,7 @@ loop-again c =
     (omega arith, omega arith, v .inv .2, turn _ (v .k) _ _ _ (omega arith) (v .inv .3) (c .keep-fault .ensures))
 
 returns : tie.Need-returns Inv-loop μ-loop
-returns c = done _ (c .before .loop .k) (c .before .before .before .args .l .count) _ (omega arith) (c .before .loop .inv .3)
+returns c = done _ (c .before .loop .k) (c .before .before .args .t1 .count) _ (omega arith) (c .before .loop .inv .3)
 
 pub first-fault-spec : {M : Type 1} → statement M
 first-fault-spec = tie.close (tie.spec Inv-loop μ-loop loop-holds (λ c. search needs) (λ c. search needs) (λ c κs. search needs) (λ c. search needs) (λ c. search needs) loop-again returns)

@@ -8,12 +8,11 @@ use lib.Dec.{ltb}
 use lib.ListN.{length, getD, length-take, List·getD-eq-default}
 use borrow.Author.Tests.{ltb-true, ltb-false}
 use Rattle.lists.specs.Tab.{tab}
-use Rattle.gpio.specs.declared.candidates.Candidates.the-variants.{Absent}
 use Rattle.lists.proofs.Tab.{tab-length, getD-tab, tab-cong}
 use Rattle.slot.specs.declared.description.Description.{Description}
-use Rattle.refusal.specs.declared.Refusal.the-variants.{OutOfDomain}
-use Rattle.listing.specs.Choice.{chosen, restAt, gpioAt}
-use Rattle.listing.specs.Listing.{listed, listOf}
+use Rattle.listing.specs.Choice.{gpioAt}
+use Rattle.listing.specs.Listing.{listOf}
+use Rattle.listing.proofs.Walked.{gpio-past}
 use Rattle.listing.specs.declared.Listed.{Listed}
 use Rattle.addr_layout.specs.declared.layout.AddrLayout.{AddrLayout}
 use Rattle.cs_roles.specs.Roles.{selectRoles}
@@ -28,17 +27,12 @@ use Rattle.cs_data_layout.proofs.layouts.laid_out.Statement.{statement}
 use Rattle.cs_data_layout.proofs.layouts.laid_out.Tie as tie
 
 module _ (ls : List Listed) (c : ℕ) where
-  -- past the list a pin has no candidate
-  gpio-past : (k : ℕ) → length ls ≤ k → gpioAt ls c k ≡ 0
-  unfolding gpioAt
-  gpio-past k h = ap (λ (x : Listed). chosen (x .gpios) (restAt ls c k)) (List·getD-eq-default ls (listed Absent OutOfDomain) h)
-
   -- the resolved pins read as those of the list, past the array's end too
   gpio-read : (k : ℕ) (t : Bool) → ltb k 30 ≡ t → length ls ≤ 30 → getD (tab 30 (λ j. gpioAt ls c j)) k 0 ≡ gpioAt ls c k
   gpio-read k true t h = getD-tab (λ j. gpioAt ls c j) 30 k 0 (ltb-true k 30 t)
   gpio-read k false t h =
       let l = ltb-false k 30 t in
-      List·getD-eq-default (tab 30 (λ j. gpioAt ls c j)) 0 (rw (tab-length (λ j. gpioAt ls c j) 30) l) ∙ sym (gpio-past k (omega arith))
+      List·getD-eq-default (tab 30 (λ j. gpioAt ls c j)) 0 (rw (tab-length (λ j. gpioAt ls c j) 30) l) ∙ sym (gpio-past ls c k (omega arith))
 
 -- equal GPIOs make equal layouts
 layouts-agree : (d : Description) (h : AddrLayout) (f g : ℕ → ℕ) (x y base : ℕ) → ((k : ℕ) → f k ≡ g k)
