@@ -129,13 +129,14 @@ fn list_lines(d: Description) -> Listing
     ensures { λ r. ⌜ (listOf r ≡ tab (lines d) (λ n. lineListed d n)) × (r .count ≡ lines d) ⌝ }
 {
     let count = num_lines(d) as usize;
-    let mut l = listing::none();
+    let none = listing::none();
+    let mut pins = none.pins;
     let mut n: usize = 0;
     while n < count {
-        l = listing::push(l, line_listed(d, n));
+        pins[n] = line_listed(d, n);
         n += 1;
     }
-    l
+    Listing { pins, count }
 }
 
 // All the pins that the search lists.

@@ -25,13 +25,17 @@ fn push_ignored(d: Description, before: Listing) -> Listing
     let multi = d.multi;
     let kinds = multi.ignored;
     let count = multi.num_ignored as usize;
-    let mut l = before;
+    let at = before.count;
+    let mut pins = before.pins;
     let mut k: usize = 0;
     while k < count {
-        l = listing::push(l, kind_listed(d, entry(&kinds, k)));
+        pins[at + k] = kind_listed(d, entry(&kinds, k));
         k += 1;
     }
-    l
+    Listing {
+        pins,
+        count: at + count,
+    }
 }
 
 // What a Multi set asks for: select, commoned and ignored lines, X1 and X2.

@@ -11,6 +11,7 @@ use listing::lines::commoned_kind;
 use listing::lines::kind_pin;
 use listing::lines::pin_candidates;
 use lists::array::entry;
+use lists::array::one_if;
 use refusal::Refusal;
 use slot::description::Description;
 use slot::kinds::CS4;
@@ -20,7 +21,7 @@ ghost use Prim.Native.Nat.{_+_, _≤_};
 ghost use lib.ListN.{getD};
 ghost use Rattle.slot.specs.Description.{chip0};
 ghost use Rattle.listing.specs.Listing.{listOf};
-ghost use Rattle.cs_pins.specs.Pins.{pinListed, dataListed, active, ifActive, activeListed, kindListed, selectListed, multiCommoned, numbered, csSearchIn};
+ghost use Rattle.cs_pins.specs.Pins.{pinListed, dataListed, active, activeListed, kindListed, selectListed, multiCommoned, numbered, csSearchIn};
 ghost use Rattle.cs_pins.specs.design.Numbered.{NumberedIn};
 
 // A chip pin; one without GPIO or off the socket is a fault.
@@ -49,13 +50,14 @@ pub fn list_data(d: Description) -> Listing
 {
     let chip = d.chip0();
     let count = chip.num_data_pins as usize;
-    let mut l = listing::none();
+    let none = listing::none();
+    let mut pins = none.pins;
     let mut k: usize = 0;
     while k < count {
-        l = listing::push(l, pin_listed(d, data_pin(d, k)));
+        pins[k] = pin_listed(d, data_pin(d, k));
         k += 1;
     }
-    l
+    Listing { pins, count }
 }
 
 // Whether a control line selects the chip: a named line that its setting does not ignore.
@@ -68,19 +70,6 @@ pub fn line_active(d: Description, k: usize) -> bool
     (kind <= CS4) & !line_ignored(kind, config)
 }
 
-// The list, with the `k`-th control line where it selects the chip.
-fn push_active(d: Description, l: Listing, k: usize) -> Listing
-    requires { ⌜ l .count ≤ 29 ⌝ }
-    ensures { λ r. ⌜ (listOf r ≡ listOf l ++ ifActive d k) × (r .count ≤ l .count + 1) ⌝ }
-{
-    if line_active(d, k) {
-        let chip = d.chip0();
-        let line = control_line(chip.control, k);
-        return listing::push(l, pin_listed(d, line.pin));
-    }
-    l
-}
-
 // The list, with the lines that select the chip in Single and Banked.
 pub fn list_active(d: Description, before: Listing) -> Listing
     requires { ⌜ (before .count ≤ 16) × (chip0 d .control .count ≤ 8) ⌝ }
@@ -89,13 +78,17 @@ pub fn list_active(d: Description, before: Listing) -> Listing
     let chip = d.chip0();
     let lines = chip.control;
     let count = lines.count as usize;
-    let mut l = before;
+    let mut pins = before.pins;
+    let mut n = before.count;
     let mut k: usize = 0;
     while k < count {
-        l = push_active(d, l, k);
+        let line = control_line(lines, k);
+        pins[n] = pin_listed(d, line.pin);
+        // The next line takes the place of one that does not select.
+        n += one_if(line_active(d, k)) as usize;
         k += 1;
     }
-    l
+    Listing { pins, count: n }
 }
 
 // Chip 0's line of a kind; one that is not on the chip is a fault.
@@ -134,13 +127,17 @@ pub fn push_commoned(d: Description, selects: Listing) -> Listing
 {
     let multi = d.multi;
     let count = multi.num_commoned as usize;
-    let mut l = selects;
+    let at = selects.count;
+    let mut pins = selects.pins;
     let mut k: usize = 0;
     while k < count {
-        l = listing::push(l, kind_listed(d, commoned_kind(d, k)));
+        pins[at + k] = kind_listed(d, commoned_kind(d, k));
         k += 1;
     }
-    l
+    Listing {
+        pins,
+        count: at + count,
+    }
 }
 
 // All the pins that the search numbers.

@@ -1,22 +1,44 @@
--- What pushing behind a list needs: of `tab`, in a loop that lists one pin a turn, and of what is pushed under a test. Assumes nothing.
+-- What listing a pin behind others needs: of `tab`, in a loop that lists one pin a turn, and of what is listed under a test. Assumes nothing.
 use mathlib.Core.Path.{_≡_}
 use mathlib.Core.Bool.{Bool, true, false, cond}
 use mathlib.Core.List.{List, [], _∷_, _++_, append-nil, append-assoc}
-use Prim.Native.Nat.{ℕ, _+_}
+use Prim.Native.Nat.{ℕ, suc, _+_, _<_}
+use native.Mathlib.Nat.{add-zero}
 use native.Mathlib.Numerals.{add-one}
+use native.Mathlib.Omega.{arith}
+use lib.ListN.{length, take, set, length-set}
+use lib.Seq.{take-suc-set, take-set-le}
 use Rattle.lists.specs.Tab.{tab}
 use Rattle.listing.specs.declared.Listed.{Listed}
 
-module _ (f : ℕ → Listed) (base : List Listed) where
-  -- before the first turn
-  pub pushed-none : (ls : List Listed) → ls ≡ base → ls ≡ base ++ tab 0 f
-  unfolding tab
-  pushed-none ls e = rw (append-nil, e)
+-- the invariant of a loop that lists pins behind n others: the first k of them are in place
+pub record Behind (base : List Listed) (n : ℕ) (f : ℕ → Listed) (ps : List Listed) (k : ℕ) : Type 0 where
+  pub long : length ps ≡ 30
+  pub first : take (n + k) ps ≡ base ++ tab k f
 
-  -- one turn: the pin k is listed
-  pub pushed-turn : (k : ℕ) (p : Listed) (ls ms : List Listed) → ls ≡ base ++ tab k f → p ≡ f k → ms ≡ ls ++ (p ∷ []) → ms ≡ base ++ tab (k + 1) f
+module _ {base : List Listed} {n : ℕ} {f : ℕ → Listed} {ps : List Listed} where
+  -- before the first turn
+  pub behind-none : length ps ≡ 30 → take n ps ≡ base → Behind base n f ps 0
   unfolding tab
-  pushed-turn k p ls ms e h i = rw (add-one, i, e, h, append-assoc)
+  behind-none l e = record { long = l; first = rw (add-zero, append-nil) e }
+
+  -- one turn: the pin k is stored
+  pub behind-turn : {k : ℕ} {p : Listed} → Behind base n f ps k → n + k < 30 → p ≡ f k → Behind base n f (set ps (n + k) p) (k + 1)
+  unfolding tab
+  behind-turn {k} {p} i h e =
+      let l : n + k < length ps = omega arith in
+      let next : n + (k + 1) ≡ suc (n + k) = omega arith in
+      record { long = simp length-set (i .long); first = rw (next, take-suc-set ps (n + k) p l, i .first, e, add-one, append-assoc) }
+
+  -- the loop has counted to m
+  pub behind-to : {k m : ℕ} → Behind base n f ps k → k ≡ m → take (n + m) ps ≡ base ++ tab m f
+  behind-to i e = rw (← e) (i .first)
+
+-- a pin that is stored counts where the test holds; where it fails the next one takes its place
+pub stored-if : {A : Type 0} (t : Bool) (n c : ℕ) (p q : A) (ps : List A) → n < length ps → c ≡ cond t 1 0 → p ≡ q
+    → take (n + c) (set ps n p) ≡ take n ps ++ cond t (q ∷ []) []
+stored-if true n c p q ps l e h = rw (e, add-one, take-suc-set ps n p l, h)
+stored-if false n c p q ps l e h = rw (e, add-zero, take-set-le n ps n p (omega arith), append-nil)
 
 -- where the test fails nothing is pushed
 pub pushed-not : {A : Type 0} (t : Bool) (xs ls : List A) → t ≡ false → ls ≡ ls ++ cond t xs []

@@ -1,15 +1,20 @@
 -- `list_active` meets its contract. The loop's invariant: the active ones of the lines passed are listed. Assumes nothing.
-use mathlib.Core.Path.{_≡_, ap}
+use mathlib.Core.Path.{_≡_, ap, _∙_}
 use mathlib.Core.List.{List, _++_, append-nil, append-assoc}
 use Prim.Native.Nat.{ℕ, _+_, _≤_, _-_}
 use native.Mathlib.Numerals.{add-one}
 use native.Mathlib.Omega.{arith}
-use Rattle.slot.specs.Description.{chip0}
+use lib.ListN.{length, take, length-set}
+use Rattle.lists.proofs.Lists.{mapped-length}
+use Rattle.slot.specs.Description.{chip0, lineAt}
 use Rattle.slot.specs.declared.description.Chip.{Chip}
+use Rattle.slot.specs.declared.description.ControlLine.{ControlLine}
+use Rattle.slot.specs.declared.description.ControlLines.{ControlLines}
 use Rattle.slot.specs.declared.description.Description.{Description}
 use Rattle.listing.specs.Listing.{listOf}
+use Rattle.listing.proofs.Pushed.{stored-if}
 use Rattle.listing.specs.declared.Listed.{Listed}
-use Rattle.cs_pins.specs.Pins.{ifActive, activeListed}
+use Rattle.cs_pins.specs.Pins.{pinListed, active, ifActive, activeListed}
 use borrow.Author.Needs.{needs}
 use Rattle.cs_pins.proofs.list_active.Statement.{statement}
 use Rattle.cs_pins.proofs.list_active.Tie as tie
@@ -27,35 +32,43 @@ done : (d : Description) (k n : ℕ) (before ls : List Listed) → k ≡ n → l
 done d k n before ls e h = rw e at h
 
 abbrev Inv-loop : tie.InvT-loop
-Inv-loop d count l₀ k₀ l k =
-    (k ≤ count) × (count ≤ 8) × (count ≡ chip0 d .control .count) × (l₀ .count ≤ 16) × (l .count ≤ l₀ .count + k)
-    × (listOf l ≡ listOf l₀ ++ activeListed d k)
+Inv-loop d lines count pins₀ n₀ k₀ pins n k =
+    (k ≤ count) × (count ≤ 8) × (count ≡ chip0 d .control .count) × (lines ≡ chip0 d .control) × (n₀ ≤ 16) × (n ≤ n₀ + k)
+    × (length pins ≡ 30) × (take n pins ≡ take n₀ pins₀ ++ activeListed d k)
 
 abbrev μ-loop : tie.MeasureT-loop
-μ-loop d count l₀ k₀ l k = count - k
+μ-loop d lines count pins₀ n₀ k₀ pins n k = count - k
 
 loop-holds : tie.Need-loop-holds Inv-loop μ-loop
 loop-holds c =
-    let e = ap (λ (x : Chip). x .control .count) (c .before .before .chip0 .ensures) in
-    (omega arith, omega (arith, e), e, omega arith, omega arith, first _ _)
+    let e = ap (λ (x : Chip). x .control) (c .before .before .before .chip0 .ensures) in
+    let n = ap (λ (x : ControlLines). x .count) e in
+    (omega arith, omega (arith, n), n, e, omega arith, omega arith, search (mapped-length, needs), first _ _)
 
 loop-again : tie.Need-loop-again Inv-loop μ-loop
 loop-again c =
-    let v = c .before .before .loop in (
+    let v = c .before .before .before .before .before .loop in
+    let d = c .before .before .before .before .before .before .before .before .before .before .args .d in
+    let before = c .before .before .before .before .before .before .before .before .before .before .args .before in
+    let line = c .before .before .before .control-line .ensures ∙ ap (λ (x : ControlLines). lineAt x (v .k)) (v .inv .3) in
+    let pin = c .before .before .pin-listed .ensures ∙ ap (λ (x : ControlLine). pinListed d (x .pin)) line in (
       omega arith,
       v .inv .1,
       v .inv .2,
       v .inv .3,
-      omega (arith, c .push-active .ensures .1),
-      turn _ _ (listOf (c .before .before .before .before .before .before .args .before)) _ _ (v .inv .5) (c .push-active .ensures .0),
+      v .inv .4,
+      omega (arith, c .one-if .ensures .1),
+      simp length-set (v .inv .6),
+      turn d _ (listOf before) _ _ (v .inv .7) (stored-if (active d (v .k)) _ _ _ _ _ (omega arith) (c .one-if .ensures .0 ∙ rw (c .before .line-active .ensures)) pin),
     )
 
 returns : tie.Need-returns Inv-loop μ-loop
 returns c =
     let v = c .before .loop in
-    let a = c .before .before .before .before .before .args in
-    let e : v .k ≡ chip0 (a .d) .control .count = omega (arith, v .inv .2) in
-    (done (a .d) _ _ (listOf (a .before)) _ e (v .inv .5), omega arith)
+    let d = c .before .before .before .before .before .before .args .d in
+    let before = c .before .before .before .before .before .before .args .before in
+    let e : v .k ≡ chip0 d .control .count = omega (arith, v .inv .2) in
+    (done d _ _ (listOf before) _ e (v .inv .7), omega arith)
 
 pub list-active-spec : {M : Type 1} → statement M
-list-active-spec = tie.close (tie.spec Inv-loop μ-loop (λ c κs. search needs) (λ c. search needs) loop-holds (λ c κs. search needs) (λ c. search needs) (λ c. search needs) loop-again returns)
+list-active-spec = tie.close (tie.spec Inv-loop μ-loop (λ c κs. search needs) (λ c. search needs) loop-holds (λ c κs. search needs) (λ c κs. search needs) (λ c. search needs) (λ c. search needs) (λ c κs. search needs) (λ c κs. search needs) (λ c. search needs) (λ c. search needs) (λ c. search needs) (λ c. search needs) loop-again returns)
