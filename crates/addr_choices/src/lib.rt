@@ -113,7 +113,8 @@ fn part_span(l: Listing, every: Spanning, low: bool, split: u32, choice: u32) ->
     let mut bit: u32 = 0;
     let mut k: usize = 0;
     while k < count {
-        let pin = l.pins[k];
+        let packed = l.pins[k];
+        let pin = packed.listed();
         let gpios = pin.gpios;
         let picked = pick(gpios, rest);
         let counts = (k < in_range) | (lines <= k);

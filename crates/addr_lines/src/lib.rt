@@ -3,17 +3,19 @@
 pub mod range; // the lines that the table has an index for
 
 use gpio::candidates::Candidates;
-use listing::Listed;
 use listing::Listing;
+use listing::packed::NO_VALID_LAYOUT;
+use listing::packed::Packed;
+use listing::packed::UNMAPPED_PIN;
+use listing::packed::pack;
 use lists::array::entry;
-use refusal::Refusal;
 use slot::description::Board;
 use slot::description::Description;
 use slot::slot_context::Socket;
 ghost use mathlib.Core.Path.{_≡_};
 ghost use Prim.Native.Nat.{_≤_};
 ghost use Rattle.lists.specs.Tab.{tab};
-ghost use Rattle.listing.specs.Listing.{listOf, count};
+ghost use Rattle.listing.specs.Listing.{listedBy, listOf, count};
 ghost use Rattle.addr_lines.specs.Lines.{firstPin, lines, lineSocket, isOff, offBefore, flyLead, overhanging, lineListed, addrListed};
 
 // The address pin of line 0: in 16-bit mode the data side serves address pin 0.
@@ -74,8 +76,8 @@ fn off_before(d: Description, n: usize) -> u32
 }
 
 // The X pin of an overhanging line: X1 for the first, X2 for the second.
-fn fly_lead(b: Board, before: u32) -> Listed
-    ensures { λ r. ⌜ r ≡ flyLead b before ⌝ }
+fn fly_lead(b: Board, before: u32) -> Packed
+    ensures { λ r. ⌜ listedBy r ≡ flyLead b before ⌝ }
 {
     if before == 0 {
         return listing::x_listed(b, 1);
@@ -83,42 +85,33 @@ fn fly_lead(b: Board, before: u32) -> Listed
     if before == 1 {
         return listing::x_listed(b, 2);
     }
-    Listed {
-        gpios: Candidates::Absent,
-        fault: Refusal::NoValidLayout,
-    }
+    pack(Candidates::Absent, NO_VALID_LAYOUT, 0)
 }
 
 // A line off the socket.
-fn overhanging(d: Description, n: usize) -> Listed
+fn overhanging(d: Description, n: usize) -> Packed
     requires { ⌜ n ≤ 24 ⌝ }
-    ensures { λ r. ⌜ r ≡ overhanging d n ⌝ }
+    ensures { λ r. ⌜ listedBy r ≡ overhanging d n ⌝ }
 {
     let board = d.board;
     let set_type = d.set_type;
     if set_type.is_single() {
         return fly_lead(board, off_before(d, n));
     }
-    Listed {
-        gpios: Candidates::Absent,
-        fault: Refusal::NoValidLayout,
-    }
+    pack(Candidates::Absent, NO_VALID_LAYOUT, 0)
 }
 
 // The `n`-th address line.
-fn line_listed(d: Description, n: usize) -> Listed
+fn line_listed(d: Description, n: usize) -> Packed
     requires { ⌜ n ≤ 24 ⌝ }
-    ensures { λ r. ⌜ r ≡ lineListed d n ⌝ }
+    ensures { λ r. ⌜ listedBy r ≡ lineListed d n ⌝ }
 {
     let board = d.board;
     let s = line_socket(d, n);
     match s {
         Socket::On(pin) => {
             let gpios = listing::candidates_at(board, pin);
-            Listed {
-                gpios,
-                fault: Refusal::UnmappedPin(pin),
-            }
+            pack(gpios, UNMAPPED_PIN, pin)
         }
         Socket::Off => overhanging(d, n),
     }

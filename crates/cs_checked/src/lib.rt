@@ -1,21 +1,25 @@
-// The select pins of the select and data search in the order in which their faults answer; the data pins come before them.
+// The first fault of the pins that the select and data search needs: of the data pins, then of the select pins in the order in
+// which theirs answer.
 use cs_pins::kind_listed;
-use cs_pins::list_active;
+use cs_pins::list_data;
 use cs_pins::push_commoned;
-use gpio::candidates::Candidates;
-use listing::Listed;
 use listing::Listing;
+use listing::first_fault;
 use lists::array::entry;
 use refusal::Refusal;
+use refusal::first::FirstFault;
+use refusal::first::fault_if;
+use refusal::first::or_else;
 use slot::description::Description;
 ghost use mathlib.Core.Path.{_≡_};
+ghost use mathlib.Core.Bool.{false};
 ghost use mathlib.Core.List.{_++_};
 ghost use Prim.Native.Nat.{_≤_};
-ghost use Rattle.slot.specs.Description.{chip0};
+ghost use Rattle.slot.specs.Description.{isMulti};
 ghost use Rattle.listing.specs.Listing.{listOf};
-ghost use Rattle.cs_pins.specs.Pins.{activeListed};
-ghost use Rattle.cs_checked.specs.Checked.{ignoredListed, multiChecked, orNoActive, checked};
-ghost use Rattle.cs_checked.specs.design.Selects.{MultiLinesIn, SelectsIn};
+ghost use Rattle.cs_pins.specs.Pins.{numbered};
+ghost use Rattle.cs_checked.specs.Checked.{ignoredListed, multiChecked};
+ghost use Rattle.cs_checked.specs.design.Selects.{MultiLinesIn, CheckedIn, pinsFault};
 
 // The list, with the ignored lines.
 fn push_ignored(d: Description, before: Listing) -> Listing
@@ -49,32 +53,25 @@ fn check_multi(d: Description) -> Listing
     listing::push_x(lines, d.board, 2 <= d.num_chips, 3 <= d.num_chips)
 }
 
-// The lines that select the chip in Single and Banked, or the lack of any.
-fn check_active(d: Description) -> Listing
-    requires { ⌜ chip0 d .control .count ≤ 8 ⌝ }
-    ensures { λ r. ⌜ (listOf r ≡ orNoActive (activeListed d (chip0 d .control .count))) × (r .count ≤ 30) ⌝ }
+// The first fault in Single and Banked: the numbered pins stand in the order in which they answer. That no line selects is the
+// last fault of all.
+fn active_fault(d: Description, l: Listing) -> FirstFault
+    requires { ⌜ (l .count ≤ 30) × (listOf l ≡ numbered d) × (isMulti (d .«set_type») ≡ false) ⌝ }
+    ensures { λ r. ⌜ r ≡ pinsFault d ⌝ }
 {
-    let active = list_active(d, listing::none());
-    if active.count == 0 {
-        return listing::push(
-            active,
-            Listed {
-                gpios: Candidates::Absent,
-                fault: Refusal::NoSelectLine,
-            },
-        );
-    }
-    active
+    let chip = d.chip0();
+    let no_line = l.count <= chip.num_data_pins as usize;
+    or_else(first_fault(l), fault_if(no_line, Refusal::NoSelectLine))
 }
 
-// The select pins in the order in which their faults answer.
-pub fn checked(d: Description) -> Listing
-    requires { ⌜ SelectsIn d ⌝ }
-    ensures { λ r. ⌜ (listOf r ≡ checked d) × (r .count ≤ 30) ⌝ }
+// The first fault of the pins that are checked; `l` has those that are numbered.
+pub fn pins_fault(d: Description, l: Listing) -> FirstFault
+    requires { ⌜ CheckedIn d l ⌝ }
+    ensures { λ r. ⌜ r ≡ pinsFault d ⌝ }
 {
     let set_type = d.set_type;
     if set_type.is_multi() {
-        return check_multi(d);
+        return or_else(first_fault(list_data(d)), first_fault(check_multi(d)));
     }
-    check_active(d)
+    active_fault(d, l)
 }

@@ -4,7 +4,7 @@ use mathlib.Core.Bool.{true, false}
 use mathlib.Core.List.{List}
 use Prim.Native.Nat.{ℕ, _+_, _*_, _%_, _^_, _≤_, _<_, _-_}
 use native.Mathlib.Omega.{arith}
-use lib.ListN.{length, getD, take, length-take}
+use lib.ListN.{length, getD, take, length-take, length-map}
 use Rattle.lists.specs.Tab.{tab}
 use Rattle.lists.proofs.Shifts.{shifted-one}
 use Rattle.lists.proofs.Tab.{getD-begins}
@@ -35,7 +35,7 @@ module _ {l : Listing} {f : Fixed} {bits split : ℕ} {lows : List Sets} where
   pub rows-begun : length (l .pins) ≡ 30 → BitsIn l (f .«num_data») bits 16 → (split ≤ bits) × (split ≤ 6) → Lows l f split lows
       → AtRow l f bits split lows ((1 * 2 ^ (bits - split)) % 2 ^ 32) 0
   rows-begun long p s t =
-      let e : l .count ≡ length (listOf l) = simp length-take (omega arith) in
+      let e : l .count ≡ length (listOf l) = simp (length-take, length-map) (omega arith) in
       record { within = omega arith; all = shifted-one _ 32 (omega arith); split-bits = s .0; split-six = s .1; few = p .few-bits; lines = omega (arith, e); table = t }
 
   module _ {rows row : ℕ} (i : AtRow l f bits split lows rows row) (t : row < rows) where

@@ -54,7 +54,8 @@ fn part(l: Listing, from: usize, to: usize, low: bool, split: u32, choice: u32) 
     let mut bit: u32 = 0;
     let mut k: usize = 0;
     while k < to {
-        let pin = l.pins[k];
+        let packed = l.pins[k];
+        let pin = packed.listed();
         let gpios = pin.gpios;
         let picked = pick(gpios, rest);
         s = with_if(s, (from <= k) & in_part(low, split, bit), picked.gpio);

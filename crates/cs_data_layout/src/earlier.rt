@@ -4,10 +4,9 @@ use crate::layout::handed;
 use addr_layout::layout::AddrLayout;
 use addr_layout::layout::layout_in;
 use control::cs_config::line_ignored;
-use cs_checked::checked;
-use cs_pins::list_data;
+use cs_checked::pins_fault;
+use cs_pins::Numbering;
 use domain::qualifiers::qualifiers_in;
-use listing::first_fault;
 use refusal::Refusal;
 use refusal::first::FirstFault;
 use refusal::first::or_else;
@@ -15,6 +14,7 @@ use slot::description::Description;
 ghost use mathlib.Core.Path.{_≡_};
 ghost use mathlib.Core.Bool.{true};
 ghost use Rattle.cs_pins.specs.Pins.{csSearchIn};
+ghost use Rattle.cs_pins.specs.design.Numbered.{NumberedBy};
 ghost use Rattle.cs_data_layout.specs.Search.{givenIn, missingLayout, romTooLarge, earlier};
 
 // Whether the layout that is handed in keeps to the domain, and the qualifiers beside it.
@@ -48,14 +48,13 @@ fn too_large(d: Description, h: AddrLayout) -> FirstFault
     FirstFault::None
 }
 
-// The first refusal of all.
-pub fn earlier(d: Description, a: GivenLayout) -> FirstFault
-    requires { ⌜ csSearchIn d ≡ true ⌝ }
+// The first refusal of all; `pins` are those that are numbered.
+pub fn earlier(d: Description, a: GivenLayout, pins: Numbering) -> FirstFault
+    requires { ⌜ (csSearchIn d ≡ true) × NumberedBy d pins ⌝ }
     ensures { λ r. ⌜ r ≡ earlier d a ⌝ }
 {
-    let pins_fault = or_else(first_fault(list_data(d)), first_fault(checked(d)));
     or_else(
         missing_layout(d, a),
-        or_else(too_large(d, handed(a)), pins_fault),
+        or_else(too_large(d, handed(a)), pins_fault(d, pins.list)),
     )
 }

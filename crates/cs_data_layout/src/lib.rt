@@ -9,6 +9,8 @@ use addr_layout::layout::AddrLayout;
 use cs_choices::choices::Fixed;
 use cs_choices::choices::best;
 use cs_choices::nothing;
+use cs_pins::Numbering;
+use cs_pins::number_pins;
 use layout::CsDataAnswer;
 use layout::GivenLayout;
 use layout::handed;
@@ -31,14 +33,14 @@ fn none_fits(why: FirstFault) -> CsDataAnswer
 }
 
 // The search over all choices.
-fn search(d: Description, h: AddrLayout) -> CsDataAnswer
-    requires { ⌜ SearchIn d h ⌝ }
+fn search(d: Description, h: AddrLayout, pins: Numbering) -> CsDataAnswer
+    requires { ⌜ SearchIn d h pins ⌝ }
     ensures { λ r. ⌜ r ≡ csDataAnswerOf d h (csBest d h) ⌝ }
 {
     let chip = d.chip0();
     let set_type = d.set_type;
-    let l = cs_pins::list(d);
-    let bits = listing::choice_bits(l);
+    let l = pins.list;
+    let bits = pins.bits;
     let fixed = Fixed {
         multi: set_type.is_multi(),
         num_data: chip.num_data_pins as usize,
@@ -55,11 +57,12 @@ fn search(d: Description, h: AddrLayout) -> CsDataAnswer
 pub fn derive_cs_data_layout(d: Description, addr_layout: GivenLayout) -> CsDataAnswer
     ensures { λ r. ⌜ r ≡ csDataAnswer d «addr_layout» ⌝ }
 {
-    if !(cs_pins::in_domain(d) & earlier::given_in(d, addr_layout)) {
+    let pins = number_pins(d);
+    if !(pins.in_domain & earlier::given_in(d, addr_layout)) {
         return refused(Refusal::OutOfDomain);
     }
-    match earlier::earlier(d, addr_layout) {
+    match earlier::earlier(d, addr_layout, pins) {
         FirstFault::Of(why) => refused(why),
-        FirstFault::None => search(d, handed(addr_layout)),
+        FirstFault::None => search(d, handed(addr_layout), pins),
     }
 }

@@ -87,7 +87,8 @@ fn ignored_lines(d: Description) -> u64
     let mut s: u64 = 0;
     let mut k: usize = 0;
     while k < count {
-        let pin = kind_listed(d, ignored_kind(d, k));
+        let packed = kind_listed(d, ignored_kind(d, k));
+        let pin = packed.listed();
         let gpios = pin.gpios;
         s = with_candidates(s, gpios);
         k += 1;

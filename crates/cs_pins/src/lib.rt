@@ -5,14 +5,16 @@ use domain::chip::control_line;
 use domain::chip::kind_at;
 use domain::description::description_in;
 use gpio::candidates::Candidates;
-use listing::Listed;
 use listing::Listing;
 use listing::lines::commoned_kind;
 use listing::lines::kind_pin;
 use listing::lines::pin_candidates;
+use listing::packed::NO_SELECT_LINE;
+use listing::packed::Packed;
+use listing::packed::UNMAPPED_PIN;
+use listing::packed::pack;
 use lists::array::entry;
 use lists::array::one_if;
-use refusal::Refusal;
 use slot::description::Description;
 use slot::kinds::CS4;
 ghost use mathlib.Core.Path.{_≡_};
@@ -20,19 +22,16 @@ ghost use mathlib.Core.List.{_++_};
 ghost use Prim.Native.Nat.{_+_, _≤_};
 ghost use lib.ListN.{getD};
 ghost use Rattle.slot.specs.Description.{chip0};
-ghost use Rattle.listing.specs.Listing.{listOf};
+ghost use Rattle.listing.specs.Listing.{listedBy, listOf};
 ghost use Rattle.cs_pins.specs.Pins.{pinListed, dataListed, active, activeListed, kindListed, selectListed, multiCommoned, numbered, csSearchIn};
-ghost use Rattle.cs_pins.specs.design.Numbered.{NumberedIn};
+ghost use Rattle.cs_pins.specs.design.Numbered.{NumberedIn, NumberedBy};
 
 // A chip pin; one without GPIO or off the socket is a fault.
-fn pin_listed(d: Description, pin: u8) -> Listed
-    ensures { λ r. ⌜ r ≡ pinListed d pin ⌝ }
+fn pin_listed(d: Description, pin: u8) -> Packed
+    ensures { λ r. ⌜ listedBy r ≡ pinListed d pin ⌝ }
 {
     let gpios = pin_candidates(d, pin);
-    Listed {
-        gpios,
-        fault: Refusal::UnmappedPin(pin),
-    }
+    pack(gpios, UNMAPPED_PIN, pin)
 }
 
 fn data_pin(d: Description, k: usize) -> u8
@@ -71,7 +70,7 @@ pub fn line_active(d: Description, k: usize) -> bool
 }
 
 // The list, with the lines that select the chip in Single and Banked.
-pub fn list_active(d: Description, before: Listing) -> Listing
+fn list_active(d: Description, before: Listing) -> Listing
     requires { ⌜ (before .count ≤ 16) × (chip0 d .control .count ≤ 8) ⌝ }
     ensures { λ r. ⌜ (listOf r ≡ listOf before ++ activeListed d (chip0 d .control .count)) × (r .count ≤ 24) ⌝ }
 {
@@ -92,15 +91,12 @@ pub fn list_active(d: Description, before: Listing) -> Listing
 }
 
 // Chip 0's line of a kind; one that is not on the chip is a fault.
-pub fn kind_listed(d: Description, kind: u8) -> Listed
-    ensures { λ r. ⌜ r ≡ kindListed d kind ⌝ }
+pub fn kind_listed(d: Description, kind: u8) -> Packed
+    ensures { λ r. ⌜ listedBy r ≡ kindListed d kind ⌝ }
 {
     let pin = kind_pin(d, kind);
     if pin == 0 {
-        return Listed {
-            gpios: Candidates::Absent,
-            fault: Refusal::NoSelectLine,
-        };
+        return pack(Candidates::Absent, NO_SELECT_LINE, 0);
     }
     pin_listed(d, pin)
 }
@@ -141,7 +137,7 @@ pub fn push_commoned(d: Description, selects: Listing) -> Listing
 }
 
 // All the pins that the search numbers.
-pub fn list(d: Description) -> Listing
+fn list(d: Description) -> Listing
     requires { ⌜ NumberedIn d ⌝ }
     ensures { λ r. ⌜ (listOf r ≡ numbered d) × (r .count ≤ 30) ⌝ }
 {
@@ -154,12 +150,38 @@ pub fn list(d: Description) -> Listing
     selects
 }
 
+// Whether the select search takes the description, the layout handed in aside; if so the pins that it numbers, and how many
+// bits their choice number has.
+pub struct Numbering {
+    pub in_domain: bool,
+    pub list: Listing,
+    pub bits: u32,
+}
+
+// The pins of a description in the domain, numbered once for all that the search does with them.
+pub fn number_pins(d: Description) -> Numbering
+    ensures { λ r. ⌜ NumberedBy d r ⌝ }
+{
+    if !description_in(d) {
+        return Numbering {
+            in_domain: false,
+            list: listing::none(),
+            bits: 0,
+        };
+    }
+    let list = list(d);
+    let bits = listing::choice_bits(list);
+    Numbering {
+        in_domain: bits <= 16,
+        list,
+        bits,
+    }
+}
+
 // Whether the select search takes the description, the layout handed in aside.
 pub fn in_domain(d: Description) -> bool
     ensures { λ r. ⌜ r ≡ csSearchIn d ⌝ }
 {
-    if description_in(d) {
-        return listing::choice_bits(list(d)) <= 16;
-    }
-    false
+    let numbering = number_pins(d);
+    numbering.in_domain
 }

@@ -76,3 +76,7 @@ from-first f (l ∷ ls) =
 
 pub first-fault-is : (ls : List Listed) → FirstFaultLaw ls
 first-fault-is ls = from-first None ls
+
+-- the first fault of lists put together
+pub fault-joined : (a b : List Listed) → firstFault (a ++ b) ≡ orElse (firstFault a) (firstFault b)
+fault-joined a b = fault-append None a b ∙ from-first (firstFault a) b ∙ ap (orElse (firstFault a)) (sym (first-fault-is b))

@@ -1,24 +1,28 @@
 -- What a loop over the listed pins needs: one turn takes the next pin's candidates, gives it a GPIO, leaves the rest of the
 -- choice number to the pins after it, and counts its bit. Assumes nothing.
-use mathlib.Core.Path.{_≡_, sym, ap}
+use mathlib.Core.Path.{_≡_, sym, _∙_, ap}
 use mathlib.Core.Bool.{cond}
-use mathlib.Core.List.{List}
+use mathlib.Core.List.{List, map}
 use Prim.Native.Nat.{ℕ, _+_, _≤_, _<_}
 use native.Mathlib.Numerals.{add-one}
-use lib.ListN.{length, take, getD, List·getD-eq-default}
+use lib.ListN.{length, take, getD, List·getD-eq-default, List·getD-map}
 use lib.Seq.{getD-take}
 use Rattle.gpio.specs.Candidates.{two}
 use Rattle.gpio.specs.declared.candidates.Candidates.{Candidates}
 use Rattle.gpio.specs.declared.candidates.Candidates.the-variants.{Absent}
 use Rattle.lists.proofs.Each.{tally-turn}
 use Rattle.refusal.specs.declared.Refusal.the-variants.{OutOfDomain}
-use Rattle.listing.specs.Listing.{listed}
+use Rattle.listing.specs.Listing.{listed, blank, listedBy}
 use Rattle.listing.specs.Choice.{chosen, leftBy, pinAt, restAt, gpioAt, bitOf}
 use Rattle.listing.specs.declared.Listed.{Listed}
 use Rattle.listing.specs.declared.choice.Picked.{Picked}
+use Rattle.listing.specs.declared.packed.Packed.{Packed}
 
-pub pin-taken : (ps : List Listed) (n k : ℕ) → k < n → getD ps k (listed Absent OutOfDomain) .gpios ≡ pinAt (take n ps) k
-pin-taken ps n k h = ap (λ (l : Listed). l .gpios) (sym (getD-take n ps k (listed Absent OutOfDomain) h))
+-- a pin that is read and unpacked
+pub pin-taken : (ps : List Packed) (n k : ℕ) (l : Listed) → k < n → l ≡ listedBy (getD ps k blank) → l .gpios ≡ pinAt (take n (map listedBy ps)) k
+pin-taken ps n k l h e =
+    ap (λ (x : Listed). x .gpios)
+    (e ∙ sym (List·getD-map listedBy ps k blank) ∙ sym (getD-take n (map listedBy ps) k (listed Absent OutOfDomain) h))
 
 -- past the list a pin has no candidate
 pub gpio-past : (ls : List Listed) (c k : ℕ) → length ls ≤ k → gpioAt ls c k ≡ 0

@@ -57,7 +57,8 @@ pub fn resolve(l: Listing, choice: u32) -> [u8; 30]
     let mut rest = choice;
     let mut k: usize = 0;
     while k < count {
-        let pin = l.pins[k];
+        let packed = l.pins[k];
+        let pin = packed.listed();
         let gpios = pin.gpios;
         let picked = pick(gpios, rest);
         out[k] = picked.gpio;

@@ -1,15 +1,19 @@
 // The pins that a search lists, in order: each with its candidate GPIOs and the refusal that answers where it has none.
 pub mod choice; // what a choice number makes of them
 pub mod lines; // a chip's pins in the socket, and its control lines by kind
+pub mod packed; // a listed pin in numbers
 
 use gpio::candidates::Candidates;
+use packed::MISSING_X_PIN;
+use packed::Packed;
+use packed::pack;
 use refusal::Refusal;
 use refusal::first::FirstFault;
 use slot::description::Board;
 ghost use mathlib.Core.Path.{_≡_};
 ghost use mathlib.Core.List.{[], _∷_, _++_};
 ghost use Prim.Native.Nat.{_+_, _≤_, _<_};
-ghost use Rattle.listing.specs.Listing.{candidatesAt, xListed, xPins, twoListed, count, twos, listOf, keepFault, firstFault};
+ghost use Rattle.listing.specs.Listing.{candidatesAt, xListed, xPins, twoListed, count, twos, listedBy, listOf, keepFault, firstFault};
 
 // A listed pin.
 pub struct Listed {
@@ -19,7 +23,7 @@ pub struct Listed {
 
 // The listed pins: at most 26 of an address search, 30 of a select search.
 pub struct Listing {
-    pub pins: [Listed; 30],
+    pub pins: [Packed; 30],
     pub count: usize,
 }
 
@@ -40,30 +44,27 @@ pub fn candidates_at(b: Board, socket_pin: u8) -> Candidates
 }
 
 // X1, or any other number for X2.
-pub fn x_listed(b: Board, x: u8) -> Listed
-    ensures { λ r. ⌜ r ≡ xListed b x ⌝ }
+pub fn x_listed(b: Board, x: u8) -> Packed
+    ensures { λ r. ⌜ listedBy r ≡ xListed b x ⌝ }
 {
     let x1 = b.x1;
     let x2 = b.x2;
     if x == 1 {
-        return Listed {
-            gpios: x1,
-            fault: Refusal::MissingXPin(1),
-        };
+        return pack(x1, MISSING_X_PIN, 1);
     }
-    Listed {
-        gpios: x2,
-        fault: Refusal::MissingXPin(2),
-    }
+    pack(x2, MISSING_X_PIN, 2)
 }
 
 // Nothing listed yet.
 pub fn none() -> Listing
     ensures { λ r. ⌜ (listOf r ≡ []) × (r .count ≡ 0) ⌝ }
 {
-    let blank = Listed {
-        gpios: Candidates::Absent,
-        fault: Refusal::OutOfDomain,
+    let blank = Packed {
+        candidates: 0,
+        first: 0,
+        second: 0,
+        fault: 0,
+        place: 0,
     };
     Listing {
         pins: [blank; 30],
@@ -72,9 +73,9 @@ pub fn none() -> Listing
 }
 
 // The list, with one pin more.
-pub fn push(l: Listing, pin: Listed) -> Listing
+pub fn push(l: Listing, pin: Packed) -> Listing
     requires { ⌜ l .count < 30 ⌝ }
-    ensures { λ r. ⌜ (listOf r ≡ listOf l ++ (pin ∷ [])) × (r .count ≡ l .count + 1) ⌝ }
+    ensures { λ r. ⌜ (listOf r ≡ listOf l ++ (listedBy pin ∷ [])) × (r .count ≡ l .count + 1) ⌝ }
 {
     let mut pins = l.pins;
     let k = l.count;
@@ -117,7 +118,7 @@ pub fn choice_bits(l: Listing) -> u32
     let mut k: usize = 0;
     while k < n {
         let pin = l.pins[k];
-        sum += bits(pin);
+        sum += bits(pin.listed());
         k += 1;
     }
     sum
@@ -151,7 +152,7 @@ pub fn first_fault(l: Listing) -> FirstFault
     let mut k: usize = 0;
     while k < n {
         let pin = l.pins[k];
-        fault = keep_fault(fault, pin);
+        fault = keep_fault(fault, pin.listed());
         k += 1;
     }
     fault

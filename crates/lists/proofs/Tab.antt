@@ -39,10 +39,6 @@ module _ {A : Type 0} {n : ℕ} {f : ℕ → A} {out : List A} where
       let l : length out ≤ n = omega arith in
       rw (e, take-all n out l) at (i .first)
 
-  -- the loop ends at m, short of the array's end
-  pub filled-to : {k m c : ℕ} → Filled n f out k → k ≡ m → m ≡ c → take m out ≡ tab c f
-  filled-to i e h = rw (← h, ← e) (i .first)
-
 module _ {A : Type 0} (f : ℕ → A) (l : List A) (z : A) where
   tab-take : (k : ℕ) → k ≤ length l → ((j : ℕ) → j < k → f j ≡ getD l j z) → tab k f ≡ take k l
   unfolding tab

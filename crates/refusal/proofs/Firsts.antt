@@ -52,7 +52,7 @@ pub or-assoc : (f g h : FirstFault) → orElse (orElse f g) h ≡ orElse f (orEl
 or-assoc None g h = refl
 or-assoc (Of r) g h = refl
 
-or-end : (f : FirstFault) → f ≡ orElse f None
+pub or-end : (f : FirstFault) → f ≡ orElse f None
 or-end None = refl
 or-end (Of r) = refl
 

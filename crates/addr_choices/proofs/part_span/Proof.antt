@@ -5,7 +5,7 @@ use mathlib.Core.List.{List}
 use Prim.Native.Nat.{ℕ, _+_, _≤_, _<_, _-_}
 use native.Mathlib.Numerals.{add-one}
 use native.Mathlib.Omega.{arith}
-use lib.ListN.{length, length-take}
+use lib.ListN.{length, length-take, length-map}
 use Rattle.gpio.specs.Span.{widened}
 use Rattle.gpio.specs.declared.candidates.Candidates.{Candidates}
 use Rattle.gpio.specs.declared.span.Span.{Span}
@@ -45,11 +45,11 @@ loop-holds c = (omega arith, omega arith, refl, omega arith, search (mapped-leng
 
 loop-again : tie.Need-loop-again Inv-loop μ-loop
 loop-again c =
-    let l = c .before .before .before .before .before .before .before .before .args .t1 in
-    let v = c .before .before .before .before .before .before .loop in
+    let l = c .before .before .before .before .before .before .before .before .before .args .t1 in
+    let v = c .before .before .before .before .before .before .before .loop in
     let pick = c .before .before .before .pick .ensures in
     let h : v .k < l .count = omega arith in
-    let g = pin-taken (l .pins) (l .count) (v .k) h in (
+    let g = pin-taken (l .pins) (l .count) (v .k) _ h (c .before .before .before .before .listed .ensures) in (
       omega arith,
       omega arith,
       v .inv .2,
@@ -64,8 +64,8 @@ returns : tie.Need-returns Inv-loop μ-loop
 returns c =
     let a = c .before .before .before .args in
     let v = c .before .loop in
-    let e : v .k ≡ length (listOf (a .t1)) = simp length-take (omega arith) in
+    let e : v .k ≡ length (listOf (a .t1)) = simp (length-take, length-map) (omega arith) in
     at-count (spanPartAt (listOf (a .t1)) (a .every) (a .low) (a .split) (a .choice)) (v .k) _ (v .s) e (v .inv .7)
 
 pub part-span-spec : {M : Type 1} → statement M
-part-span-spec = tie.close (tie.spec Inv-loop μ-loop loop-holds (λ c. search needs) (λ c. search needs) (λ c κs. search needs) (λ c κs. search needs) (λ c κs. search needs) (λ c κs. search needs) (λ c. search needs) (λ c. search needs) (λ c. search needs) loop-again returns)
+part-span-spec = tie.close (tie.spec Inv-loop μ-loop loop-holds (λ c. search needs) (λ c. search needs) (λ c κs. search needs) (λ c κs. search needs) (λ c κs. search needs) (λ c κs. search needs) (λ c κs. search needs) (λ c. search needs) (λ c. search needs) (λ c. search needs) loop-again returns)

@@ -13,10 +13,10 @@ use borrow.Author.Needs.{needs}
 use Rattle.addr_lines.proofs.line_listed.Statement.{statement}
 use Rattle.addr_lines.proofs.line_listed.Tie as tie
 
-on : (d : Description) (n p : ℕ) (s : Socket) (g : Candidates) → s ≡ lineSocket d n → s ≡ On p → g ≡ candidatesAt (d .board) p
-    → listed g (UnmappedPin p) ≡ lineListed d n
+on : (d : Description) (n p : ℕ) (s : Socket) (g : Candidates) (l : Listed) → s ≡ lineSocket d n → s ≡ On p → g ≡ candidatesAt (d .board) p
+    → l ≡ listed g (UnmappedPin p) → l ≡ lineListed d n
 unfolding lineListed
-on d n p s g e f h = rw (← e, f, h)
+on d n p s g l e f h i = rw (← e, f, ← h) i
 
 off : (d : Description) (n : ℕ) (s : Socket) (l : Listed) → s ≡ lineSocket d n → s ≡ Off → l ≡ overhanging d n → l ≡ lineListed d n
 unfolding lineListed
@@ -24,8 +24,8 @@ off d n s l e f h = rw (← e, f) h
 
 returns : tie.Need-returns
 returns c =
-    let a = c .before .before .before .before .before .before .args in
-    on (a .d) (a .n) _ _ _ (c .before .before .before .before .line-socket .ensures) (c .before .before .s .given .1) (c .candidates-at .ensures)
+    let a = c .before .before .before .before .before .before .before .args in
+    on (a .d) (a .n) _ _ _ _ (c .before .before .before .before .before .line-socket .ensures) (c .before .before .before .s .given .1) (c .before .candidates-at .ensures) (c .pack .ensures)
 
 returns-2 : tie.Need-returns-2
 returns-2 c =
@@ -33,4 +33,4 @@ returns-2 c =
     off (a .d) (a .n) _ _ (c .before .before .before .line-socket .ensures) (c .before .enum-told .given .1) (c .overhanging .ensures)
 
 pub line-listed-spec : {M : Type 1} → statement M
-line-listed-spec = tie.close (tie.spec (λ c κs. search needs) (λ c. search needs) (λ c κs. search needs) (λ c. search needs) (λ c κs. search needs) returns returns-2)
+line-listed-spec = tie.close (tie.spec (λ c κs. search needs) (λ c. search needs) (λ c κs. search needs) (λ c κs. search needs) (λ c. search needs) (λ c κs. search needs) returns returns-2)

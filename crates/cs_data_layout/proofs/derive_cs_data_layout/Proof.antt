@@ -35,38 +35,38 @@ module _ (d : Description) (a : GivenLayout) (p q : Bool) (ep : p ≡ csSearchIn
 
 returns : tie.Need-returns
 returns c =
-    let given = c .before .before in
+    let given = c .before .before .before in
     let a = given .before .before .args in
-    c .refused .ensures ∙ outside (a .d) (a .addr-layout) _ _ (given .before .in-domain .ensures) (given .given-in .ensures) (not-true _ (c .before .if1 .taken))
+    c .refused .ensures ∙ outside (a .d) (a .addr-layout) _ _ (given .before .number-pins .ensures .verdict) (given .given-in .ensures) (not-true _ (c .before .if1 .taken))
 
 earlier-requires : tie.Need-earlier-requires
 earlier-requires c κs =
-    let given = c .before in
-    sym (given .before .in-domain .ensures) ∙ and-left _ _ (not-false _ (c .if1 .left))
+    let n = c .before .before .before .number-pins .ensures in
+    (sym (n .verdict) ∙ and-left _ _ (not-false _ (c .if1 .left)), n)
 
 search-requires : tie.Need-search-requires
 search-requires c κs =
     let early = c .before .before .before in
-    let given = early .before .before in
+    let given = early .before .before .before in
     let a = given .before .before .args in
-    let w = within (a .d) (a .addr-layout) _ _ (given .before .in-domain .ensures) (given .given-in .ensures) (not-false _ (early .before .if1 .left)) _ (early .earlier .ensures) in
+    let w = within (a .d) (a .addr-layout) _ _ (given .before .number-pins .ensures .verdict) (given .given-in .ensures) (not-false _ (early .before .if1 .left)) _ (early .earlier .ensures) in
     let none = sym (early .earlier .ensures) ∙ c .before .enum-told .given .1 in
-    rw (c .handed .ensures) (record { description = w .0; handed = record { layout = handed-in (a .d) (a .addr-layout) (w .1); qualifiers = qualifiers-in (a .d) (a .addr-layout) (w .1) none } })
+    rw (c .handed .ensures) (record { description = w .0; pins = given .before .number-pins .ensures; handed = record { layout = handed-in (a .d) (a .addr-layout) (w .1); qualifiers = qualifiers-in (a .d) (a .addr-layout) (w .1) none } })
 
 returns-2 : tie.Need-returns-2
 returns-2 c =
     let early = c .before .before .before .before in
-    let given = early .before .before in
+    let given = early .before .before .before in
     let a = given .before .before .args in
     c .refused2 .ensures
-    ∙ refused-early (a .d) (a .addr-layout) _ _ (given .before .in-domain .ensures) (given .given-in .ensures) (not-false _ (early .before .if1 .left)) _ (early .earlier .ensures) _ (c .before .before .why .given .1)
+    ∙ refused-early (a .d) (a .addr-layout) _ _ (given .before .number-pins .ensures .verdict) (given .given-in .ensures) (not-false _ (early .before .if1 .left)) _ (early .earlier .ensures) _ (c .before .before .why .given .1)
 
 returns-3 : tie.Need-returns-3
 returns-3 c =
     let early = c .before .before .before .before in
-    let given = early .before .before in
+    let given = early .before .before .before in
     let a = given .before .before .args in
-    searched (a .d) (a .addr-layout) _ _ (given .before .in-domain .ensures) (given .given-in .ensures) (not-false _ (early .before .if1 .left)) _ (early .earlier .ensures) _ _ (c .before .before .enum-told .given .1) (c .before .handed .ensures) (c .search .ensures)
+    searched (a .d) (a .addr-layout) _ _ (given .before .number-pins .ensures .verdict) (given .given-in .ensures) (not-false _ (early .before .if1 .left)) _ (early .earlier .ensures) _ _ (c .before .before .enum-told .given .1) (c .before .handed .ensures) (c .search .ensures)
 
 pub derive-cs-data-layout-spec : {M : Type 1} → statement M
 derive-cs-data-layout-spec = tie.close (tie.spec (λ c κs. search needs) (λ c κs. search needs) (λ c κs. search needs) returns earlier-requires (λ c. search needs) (λ c κs. search needs) (λ c. search needs) (λ c κs. search needs) search-requires returns-2 returns-3)

@@ -10,6 +10,8 @@ use Rattle.listing.specs.declared.Listing.{Listing}
 use Rattle.addr_layout.specs.Layout.{layoutIn}
 use Rattle.addr_layout.specs.declared.layout.AddrLayout.{AddrLayout}
 use Rattle.cs_pins.specs.Pins.{csSearchIn}
+use Rattle.cs_pins.specs.declared.Numbering.{Numbering}
+use Rattle.cs_pins.specs.design.Numbered.{NumberedBy}
 use Rattle.cs_choices.specs.design.Parts.{PinsIn}
 use Rattle.cs_choices.specs.declared.choices.Fixed.{Fixed}
 use Rattle.cs_data_layout.specs.Choices.{numData, excessSet, qualifierSet}
@@ -19,10 +21,11 @@ pub record HandedIn (d : Description) (h : AddrLayout) : Type 0 where
   pub layout : layoutIn h ≡ true
   pub qualifiers : qualifiersIn (d .qualifiers) (d .«num_qualifiers») (h .gpios) (h .«num_lines») ≡ true
 
--- the description is in the domain as well, and has few enough choices
-pub record SearchIn (d : Description) (h : AddrLayout) : Type 0 where
+-- the description is in the domain as well, and has few enough choices; its pins are numbered
+pub record SearchIn (d : Description) (h : AddrLayout) (n : Numbering) : Type 0 where
   pub description : csSearchIn d ≡ true
   pub handed : HandedIn d h
+  pub pins : NumberedBy d n
 
 -- no more lines than a layout has room for, and the GPIOs of the qualifiers
 pub record LinesIn (d : Description) (h : AddrLayout) (q : ℕ) : Type 0 where

@@ -1,6 +1,6 @@
 -- `list_active` meets its contract. The loop's invariant: the active ones of the lines passed are listed. Assumes nothing.
 use mathlib.Core.Path.{_≡_, ap, _∙_}
-use mathlib.Core.List.{List, _++_, append-nil, append-assoc}
+use mathlib.Core.List.{List, _++_, map, append-nil, append-assoc}
 use Prim.Native.Nat.{ℕ, _+_, _≤_, _-_}
 use native.Mathlib.Numerals.{add-one}
 use native.Mathlib.Omega.{arith}
@@ -11,7 +11,7 @@ use Rattle.slot.specs.declared.description.Chip.{Chip}
 use Rattle.slot.specs.declared.description.ControlLine.{ControlLine}
 use Rattle.slot.specs.declared.description.ControlLines.{ControlLines}
 use Rattle.slot.specs.declared.description.Description.{Description}
-use Rattle.listing.specs.Listing.{listOf}
+use Rattle.listing.specs.Listing.{listedBy, listOf}
 use Rattle.listing.proofs.Pushed.{stored-if}
 use Rattle.listing.specs.declared.Listed.{Listed}
 use Rattle.cs_pins.specs.Pins.{pinListed, active, ifActive, activeListed}
@@ -34,7 +34,7 @@ done d k n before ls e h = rw e at h
 abbrev Inv-loop : tie.InvT-loop
 Inv-loop d lines count pins₀ n₀ k₀ pins n k =
     (k ≤ count) × (count ≤ 8) × (count ≡ chip0 d .control .count) × (lines ≡ chip0 d .control) × (n₀ ≤ 16) × (n ≤ n₀ + k)
-    × (length pins ≡ 30) × (take n pins ≡ take n₀ pins₀ ++ activeListed d k)
+    × (length pins ≡ 30) × (take n (map listedBy pins) ≡ take n₀ (map listedBy pins₀) ++ activeListed d k)
 
 abbrev μ-loop : tie.MeasureT-loop
 μ-loop d lines count pins₀ n₀ k₀ pins n k = count - k
@@ -59,7 +59,7 @@ loop-again c =
       v .inv .4,
       omega (arith, c .one-if .ensures .1),
       simp length-set (v .inv .6),
-      turn d _ (listOf before) _ _ (v .inv .7) (stored-if (active d (v .k)) _ _ _ _ _ (omega arith) (c .one-if .ensures .0 ∙ rw (c .before .line-active .ensures)) pin),
+      turn d _ (listOf before) _ _ (v .inv .7) (stored-if (active d (v .k)) (v .n) _ _ _ (v .pins) (omega arith) (c .one-if .ensures .0 ∙ rw (c .before .line-active .ensures)) pin),
     )
 
 returns : tie.Need-returns Inv-loop μ-loop

@@ -1,27 +1,28 @@
 -- `choice_bits` meets its contract. The loop's invariant: `sum` counts the two-candidate pins passed. Assumes nothing.
 use mathlib.Core.Path.{_≡_, refl}
-use mathlib.Core.List.{List}
+use mathlib.Core.List.{List, map}
 use Prim.Native.Nat.{ℕ, _+_, _≤_, _<_, _-_}
-use native.Mathlib.Numerals.{add-one}
 use native.Mathlib.Omega.{arith}
 use lib.ListN.{length, take, getD}
-use lib.Seq.{take-suc}
 use Rattle.lists.proofs.Lists.{mapped-length}
 use Rattle.listing.specs.declared.Listed.{Listed}
-use Rattle.listing.specs.Listing.{twos, twoListed, count}
+use Rattle.listing.specs.Listing.{blank, listedBy, twos, twoListed, count}
+use Rattle.listing.specs.declared.packed.Packed.{Packed}
+use Rattle.listing.proofs.Pushed.{taken}
 use Rattle.listing.proofs.Twos.{twos-append, twos-one}
 use borrow.Author.Needs.{needs}
 use Rattle.listing.proofs.choice_bits.Statement.{statement}
 use Rattle.listing.proofs.choice_bits.Tie as tie
 
-turn : (ps : List Listed) (k n m : ℕ) (d : Listed) → k < length ps → n ≡ twos (take k ps) → m ≡ count (twoListed (getD ps k d)) → n + m ≡ twos (take (k + 1) ps)
-turn ps k n m d h e f = rw (add-one, take-suc ps k d h, twos-append, twos-one, e, f)
+turn : (ps : List Packed) (k n m : ℕ) (l : Listed) → k < length ps → n ≡ twos (take k (map listedBy ps)) → l ≡ listedBy (getD ps k blank) → m ≡ count (twoListed l)
+    → n + m ≡ twos (take (k + 1) (map listedBy ps))
+turn ps k n m l h e g f = rw (taken ps k l h g, twos-append, twos-one, e, f)
 
 done : (ps : List Listed) (k m n : ℕ) → k ≡ m → n ≡ twos (take k ps) → n ≡ twos (take m ps)
 done ps k m n e h = rw e at h
 
 abbrev Inv-loop : tie.InvT-loop
-Inv-loop l n sum₀ k₀ sum k = (k ≤ n) × (n ≤ 30) × (sum ≤ k) × (length (l .pins) ≡ 30) × (sum ≡ twos (take k (l .pins)))
+Inv-loop l n sum₀ k₀ sum k = (k ≤ n) × (n ≤ 30) × (sum ≤ k) × (length (l .pins) ≡ 30) × (sum ≡ twos (take k (map listedBy (l .pins))))
 
 abbrev μ-loop : tie.MeasureT-loop
 μ-loop l n sum₀ k₀ sum k = n - k
@@ -32,8 +33,8 @@ loop-holds c = (omega arith, omega arith, omega arith, search (mapped-length, ne
 
 loop-again : tie.Need-loop-again Inv-loop μ-loop
 loop-again c =
-    let v = c .before .before .before .loop in
-    (omega arith, omega arith, omega arith, v .inv .3, turn _ (v .k) _ _ _ (omega arith) (v .inv .4) (c .bits .ensures .0))
+    let v = c .before .before .before .before .loop in
+    (omega arith, omega arith, omega arith, v .inv .3, turn (c .before .before .before .before .before .args .t1 .pins) (v .k) _ _ _ (omega arith) (v .inv .4) (c .before .listed .ensures) (c .bits .ensures .0))
 
 returns : tie.Need-returns Inv-loop μ-loop
 returns c =
@@ -41,4 +42,4 @@ returns c =
     (done _ (v .k) (c .before .before .args .t1 .count) _ (omega arith) (v .inv .4), omega arith)
 
 pub choice-bits-spec : {M : Type 1} → statement M
-choice-bits-spec = tie.close (tie.spec Inv-loop μ-loop loop-holds (λ c. search needs) (λ c. search needs) (λ c κs. search needs) (λ c. search needs) (λ c. search needs) (λ c. search needs) loop-again returns)
+choice-bits-spec = tie.close (tie.spec Inv-loop μ-loop loop-holds (λ c. search needs) (λ c. search needs) (λ c κs. search needs) (λ c κs. search needs) (λ c. search needs) (λ c. search needs) (λ c. search needs) loop-again returns)

@@ -47,18 +47,18 @@ loop-holds c = (omega arith, c .pre, omega arith, search (mapped-length, needs),
 
 with-if-requires : tie.Need-with-if-requires Inv-loop μ-loop
 with-if-requires c κs =
-    let v = c .before .before .before .before .loop in
-    let l = c .before .before .before .before .before .args .t1 in
+    let v = c .before .before .before .before .before .loop in
+    let l = c .before .before .before .before .before .before .args .t1 in
     let h : v .k < l .count = omega arith in
-    gpio-small _ (v .inv .1 .gpios) _ _ _ (gpio-taken _ _ _ _ _ _ (v .inv .4) (pin-taken (l .pins) (l .count) (v .k) h) (c .before .pick .ensures))
+    gpio-small _ (v .inv .1 .gpios) _ _ _ (gpio-taken _ _ _ _ _ _ (v .inv .4) (pin-taken (l .pins) (l .count) (v .k) _ h (c .before .before .listed .ensures)) (c .before .pick .ensures))
 
 loop-again : tie.Need-loop-again Inv-loop μ-loop
 loop-again c =
-    let v = c .before .before .before .before .before .before .loop in
-    let l = c .before .before .before .before .before .before .before .args .t1 in
+    let v = c .before .before .before .before .before .before .before .loop in
+    let l = c .before .before .before .before .before .before .before .before .args .t1 in
     let h : v .k < l .count = omega arith in
     let pick = c .before .before .before .pick .ensures in
-    let g = pin-taken (l .pins) (l .count) (v .k) h in (
+    let g = pin-taken (l .pins) (l .count) (v .k) _ h (c .before .before .before .before .listed .ensures) in (
       omega arith,
       v .inv .1,
       omega arith,
@@ -72,4 +72,4 @@ returns : tie.Need-returns Inv-loop μ-loop
 returns c = let v = c .before .loop in done _ _ _ _ _ _ _ _ (omega arith) (v .inv .6)
 
 pub part-spec : {M : Type 1} → statement M
-part-spec = tie.close (tie.spec Inv-loop μ-loop loop-holds (λ c. search needs) (λ c. search needs) (λ c κs. search needs) (λ c κs. search needs) with-if-requires (λ c κs. search needs) (λ c. search needs) (λ c. search needs) (λ c. search needs) loop-again returns)
+part-spec = tie.close (tie.spec Inv-loop μ-loop loop-holds (λ c. search needs) (λ c. search needs) (λ c κs. search needs) (λ c κs. search needs) (λ c κs. search needs) with-if-requires (λ c κs. search needs) (λ c. search needs) (λ c. search needs) (λ c. search needs) loop-again returns)

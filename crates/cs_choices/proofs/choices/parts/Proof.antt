@@ -4,7 +4,7 @@ use mathlib.Core.Bool.{Bool}
 use mathlib.Core.List.{List}
 use Prim.Native.Nat.{ℕ}
 use native.Mathlib.Omega.{arith}
-use lib.ListN.{length, length-take}
+use lib.ListN.{length, length-take, length-map}
 use Rattle.lists.proofs.Lists.{mapped-length}
 use Rattle.listing.specs.Listing.{listOf}
 use Rattle.listing.specs.declared.Listed.{Listed}
@@ -24,7 +24,7 @@ returns : tie.Need-returns
 returns c =
     let l = c .before .before .args .l in
     let long : length (l .pins) ≡ 30 = search (mapped-length, needs) in
-    let e : l .count ≡ length (listOf l) = simp length-take (omega arith) in
+    let e : l .count ≡ length (listOf l) = simp (length-take, length-map) (omega arith) in
     both (listOf l) _ (l .count) _ _ _ _ _ e (c .before .part .ensures) (c .part2 .ensures)
 
 pub parts-spec : {M : Type 1} → statement M

@@ -4,7 +4,7 @@ use mathlib.Core.List.{List}
 use Prim.Native.Nat.{ℕ, _≤_}
 use native.Mathlib.Omega.{arith}
 use lib.Bits.{bitOr}
-use lib.ListN.{length, length-take}
+use lib.ListN.{length, length-take, length-map}
 use mathlib.Core.Bool.{false}
 use Rattle.lists.proofs.Lists.{mapped-length}
 use Rattle.listing.specs.Listing.{listOf}
@@ -24,7 +24,7 @@ returns : tie.Need-returns
 returns c =
     let l = c .before .before .before .args .l in
     let long : length (l .pins) ≡ 30 = search (mapped-length, needs) in
-    let e : l .count ≡ length (listOf l) = simp length-take (omega arith) in
+    let e : l .count ≡ length (listOf l) = simp (length-take, length-map) (omega arith) in
     sets-are _ _ _ _ _ (omega (arith, e)) (c .before .before .parts .ensures)
 
 pub whole-spec : {M : Type 1} → statement M

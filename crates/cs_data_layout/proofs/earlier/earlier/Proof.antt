@@ -6,32 +6,30 @@ use borrow.Author.Needs.{needs}
 use Rattle.cs_data_layout.proofs.earlier.earlier.Statement.{statement}
 use Rattle.cs_data_layout.proofs.earlier.earlier.Tie as tie
 
-list-data-requires : tie.Need-list-data-requires
-list-data-requires c κs =
-    let d = c .args .d in
-    chip0-in d (described d (c .pre)) .data-pins .1
-
-checked-requires : tie.Need-checked-requires
-checked-requires c κs =
-    let d = c .before .before .args .d in
-    let e = described d (c .before .before .pre) in
-    record { control-lines = chip0-in d e .control-lines; multi-lines = λ m. record { commoned = config-in d e m .commoned-lines; ignored = config-in d e m .ignored-lines } }
+pins-fault-requires : tie.Need-pins-fault-requires
+pins-fault-requires c κs =
+    let start = c .before .before .before in
+    let d = start .args .d in
+    let e = described d (start .pre .0) in
+    let n = start .pre .1 in
+    record {
+      data-pins = chip0-in d e .data-pins .1;
+      multi-lines = λ m. record { commoned = config-in d e m .commoned-lines; ignored = config-in d e m .ignored-lines };
+      few = n .few;
+      pins = n .list (start .pre .0);
+    }
 
 returns : tie.Need-returns
 unfolding earlier
 returns c =
     rw (
-      c .or-else3 .ensures,
-      c .before .or-else2 .ensures,
-      c .before .before .too-large .ensures,
-      c .before .before .before .handed .ensures,
-      c .before .before .before .before .missing-layout .ensures,
-      c .before .before .before .before .before .or-else .ensures,
-      c .before .before .before .before .before .before .first-fault2 .ensures,
-      c .before .before .before .before .before .before .before .checked .ensures .0,
-      c .before .before .before .before .before .before .before .before .first-fault .ensures,
-      c .before .before .before .before .before .before .before .before .before .list-data .ensures .0,
+      c .or-else2 .ensures,
+      c .before .or-else .ensures,
+      c .before .before .pins-fault .ensures,
+      c .before .before .before .too-large .ensures,
+      c .before .before .before .before .handed .ensures,
+      c .before .before .before .before .before .missing-layout .ensures,
     )
 
 pub earlier-spec : {M : Type 1} → statement M
-earlier-spec = tie.close (tie.spec list-data-requires (λ c κs. search needs) checked-requires (λ c κs. search needs) (λ c κs. search needs) (λ c κs. search needs) (λ c κs. search needs) (λ c κs. search needs) (λ c κs. search needs) (λ c κs. search needs) returns)
+earlier-spec = tie.close (tie.spec (λ c κs. search needs) (λ c κs. search needs) (λ c κs. search needs) pins-fault-requires (λ c κs. search needs) (λ c κs. search needs) returns)

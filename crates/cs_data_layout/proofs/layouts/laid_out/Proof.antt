@@ -5,7 +5,7 @@ use mathlib.Core.List.{List}
 use Prim.Native.Nat.{ℕ, _+_, _≤_}
 use native.Mathlib.Omega.{arith}
 use lib.Dec.{ltb}
-use lib.ListN.{length, getD, length-take, List·getD-eq-default}
+use lib.ListN.{length, getD, length-take, length-map, List·getD-eq-default}
 use borrow.Author.Tests.{ltb-true, ltb-false}
 use Rattle.lists.specs.Tab.{tab}
 use Rattle.lists.proofs.Tab.{tab-length, getD-tab, tab-cong}
@@ -56,7 +56,7 @@ returns : tie.Need-returns
 returns c =
     let a = c .before .before .before .args in
     let p = c .before .before .before .pre in
-    let few : length (listOf (a .l)) ≤ 30 = simp length-take (omega arith) in
+    let few : length (listOf (a .l)) ≤ 30 = simp (length-take, length-map) (omega arith) in
     ap (λ (x : CsDataLayout). record { outcome = LaidOut; layout = x })
     (laid (a .d) (a .h) (listOf (a .l)) (a .choice) _ _ _ _ _ _ few (p .num-data) (p .excess) (p .lines .qualifiers) (c .before .before .resolve .ensures) (c .before .whole .ensures) (c .layout .ensures))
 

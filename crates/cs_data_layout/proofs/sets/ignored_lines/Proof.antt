@@ -1,5 +1,5 @@
 -- `ignored_lines` meets its contract. The loop's invariant: `s` has the candidates of the lines passed. Assumes nothing.
-use mathlib.Core.Path.{_≡_, refl}
+use mathlib.Core.Path.{_≡_, refl, _∙_}
 use mathlib.Core.Bool.{true}
 use Prim.Native.Nat.{ℕ, _+_, _≤_, _-_}
 use native.Mathlib.Numerals.{add-one}
@@ -38,15 +38,15 @@ unfolding ignoredAt
 loop-holds c = (omega arith, refl, c .before .before .pre, refl)
 
 with-candidates-requires : tie.Need-with-candidates-requires Inv-loop μ-loop
-with-candidates-requires c κs = line-in _ _ _ (c .before .before .before .loop .inv .2) (c .kind-listed .ensures)
+with-candidates-requires c κs = line-in _ _ _ (c .before .before .before .before .loop .inv .2) (c .listed .ensures ∙ c .before .kind-listed .ensures)
 
 loop-again : tie.Need-loop-again Inv-loop μ-loop
 loop-again c =
-    let i = c .before .before .before .before .loop .inv in
-    (omega arith, i .1, i .2, turn _ _ _ _ _ _ (i .3) (c .before .before .ignored-kind .ensures) (c .before .kind-listed .ensures) (c .with-candidates .ensures))
+    let i = c .before .before .before .before .before .loop .inv in
+    (omega arith, i .1, i .2, turn _ _ _ _ _ _ (i .3) (c .before .before .before .ignored-kind .ensures) (c .before .listed .ensures ∙ c .before .before .kind-listed .ensures) (c .with-candidates .ensures))
 
 returns : tie.Need-returns Inv-loop μ-loop
 returns c = let i = c .before .loop .inv in done _ _ _ _ (omega arith) (i .3)
 
 pub ignored-lines-spec : {M : Type 1} → statement M
-ignored-lines-spec = tie.close (tie.spec Inv-loop μ-loop (λ c. search needs) loop-holds (λ c κs. search needs) (λ c κs. search needs) with-candidates-requires (λ c. search needs) (λ c. search needs) loop-again returns)
+ignored-lines-spec = tie.close (tie.spec Inv-loop μ-loop (λ c. search needs) loop-holds (λ c κs. search needs) (λ c κs. search needs) (λ c κs. search needs) with-candidates-requires (λ c. search needs) (λ c. search needs) loop-again returns)

@@ -2,7 +2,7 @@
 use mathlib.Core.Path.{_≡_, refl}
 use Prim.Native.Nat.{_≤_, _<_, _-_}
 use native.Mathlib.Omega.{arith}
-use lib.ListN.{length, length-take}
+use lib.ListN.{length, length-take, length-map}
 use Rattle.lists.proofs.Lists.{mapped-length}
 use Rattle.lists.proofs.Tab.{Begun, begun-none, begun-turn, begun-all}
 use Rattle.listing.specs.Listing.{listOf}
@@ -26,10 +26,10 @@ loop-holds c = (omega arith, omega arith, refl, search (mapped-length, needs), b
 
 loop-again : tie.Need-loop-again Inv-loop μ-loop
 loop-again c =
-    let v = c .before .before .before .loop in
-    let l = c .before .before .before .before .args .t1 in
+    let v = c .before .before .before .before .loop in
+    let l = c .before .before .before .before .before .args .t1 in
     let h : v .k < l .count = omega arith in
-    let g = pin-taken (l .pins) (l .count) (v .k) h in (
+    let g = pin-taken (l .pins) (l .count) (v .k) _ h (c .before .listed .ensures) in (
       omega arith,
       omega arith,
       v .inv .2,
@@ -42,7 +42,7 @@ returns : tie.Need-returns Inv-loop μ-loop
 returns c =
     let v = c .before .loop in
     let l = c .before .before .args .t1 in
-    begun-all (v .inv .4) (λ j h. gpio-past (listOf l) _ j (simp length-take (omega arith)))
+    begun-all (v .inv .4) (λ j h. gpio-past (listOf l) _ j (simp (length-take, length-map) (omega arith)))
 
 pub resolve-spec : {M : Type 1} → statement M
-resolve-spec = tie.close (tie.spec Inv-loop μ-loop loop-holds (λ c. search needs) (λ c. search needs) (λ c κs. search needs) (λ c. search needs) (λ c. search needs) (λ c. search needs) loop-again returns)
+resolve-spec = tie.close (tie.spec Inv-loop μ-loop loop-holds (λ c. search needs) (λ c. search needs) (λ c κs. search needs) (λ c κs. search needs) (λ c. search needs) (λ c. search needs) (λ c. search needs) loop-again returns)
