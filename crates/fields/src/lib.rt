@@ -4,7 +4,7 @@ pub mod candidates; // the candidates of a pin, two bytes
 
 use lists::array::entry;
 ghost use mathlib.Core.Path.{_≡_};
-ghost use Prim.Native.Nat.{_<_, _^_};
+ghost use Prim.Native.Nat.{_+_, _≤_, _<_, _^_};
 ghost use lib.ListN.{length};
 ghost use Rattle.fields.specs.Fields.{bytesAt, fourAt, flagFormed};
 
@@ -27,8 +27,20 @@ pub fn four_at(b: &[u8], p: usize) -> u32
     b0 + 0x100 * b1 + 0x1_0000 * b2 + 0x100_0000 * b3
 }
 
-// Fills `out` with the bytes from the place p on.
-pub fn fill(b: &[u8], p: usize, out: &mut [u8])
+// Fills `out` with bytes that are all there.
+fn copy(b: &[u8], p: usize, out: &mut [u8])
+    requires { ⌜ p + length (now out) ≤ length (now b) ⌝ }
+    ensures { λ r. ⌜ now (out .exit) ≡ bytesAt (now (b .entry)) p (length (now (out .entry))) ⌝ }
+{
+    let mut k: usize = 0;
+    while k < out.len() {
+        out[k] = b[p + k];
+        k += 1;
+    }
+}
+
+// Fills `out` with bytes of which some are past the record's end.
+fn copy_padded(b: &[u8], p: usize, out: &mut [u8])
     requires { ⌜ p < 2 ^ 32 ⌝ }
     ensures { λ r. ⌜ now (out .exit) ≡ bytesAt (now (b .entry)) p (length (now (out .entry))) ⌝ }
 {
@@ -36,6 +48,18 @@ pub fn fill(b: &[u8], p: usize, out: &mut [u8])
     while k < out.len() {
         out[k] = entry(b, p + k);
         k += 1;
+    }
+}
+
+// Fills `out` with the bytes from the place p on.
+pub fn fill(b: &[u8], p: usize, out: &mut [u8])
+    requires { ⌜ p < 2 ^ 32 ⌝ }
+    ensures { λ r. ⌜ now (out .exit) ≡ bytesAt (now (b .entry)) p (length (now (out .entry))) ⌝ }
+{
+    if p + out.len() <= b.len() {
+        copy(b, p, out);
+    } else {
+        copy_padded(b, p, out);
     }
 }
 

@@ -1,4 +1,4 @@
--- `fill` meets its contract. The invariant: the first k bytes are in place. Assumes nothing.
+-- `copy_padded` meets its contract. The invariant: the first k bytes are in place. Assumes nothing.
 use mathlib.Core.Path.{refl}
 use Prim.Native.Nat.{_+_, _-_}
 use native.Mathlib.Omega.{arith}
@@ -6,8 +6,8 @@ use lib.ListN.{length}
 use borrow.Author.Needs.{needs}
 use Rattle.lists.proofs.Tab.{Filled, filled-none, filled-turn, filled}
 use Rattle.fields.specs.Fields.{byteAt}
-use Rattle.fields.proofs.fill.Statement.{statement}
-use Rattle.fields.proofs.fill.Tie as tie
+use Rattle.fields.proofs.copy_padded.Statement.{statement}
+use Rattle.fields.proofs.copy_padded.Tie as tie
 
 abbrev Inv-loop : tie.InvT-loop
 Inv-loop b p out₀ k₀ out k = Filled (length out₀) (λ j. byteAt b (p + j)) out k
@@ -24,8 +24,8 @@ loop-again c = filled-turn (c .before .before .loop .inv) (omega arith) (c .entr
 returns : tie.Need-returns Inv-loop μ-loop
 returns c = filled (c .before .loop .inv) (omega arith)
 
-pub fill-spec : {M : Type 1} → statement M
-fill-spec =
+pub copy-padded-spec : {M : Type 1} → statement M
+copy-padded-spec =
     tie.close
     (tie.spec
     Inv-loop
