@@ -49,11 +49,20 @@ impl Inputs {
 
 /// The slot that a file describes.
 pub fn described(file: &Path) -> Result<Description, Fault> {
-    text_of(file, text::read)
+    let described = |text: &str| {
+        if text::is_slot(text) {
+            return Ok(None);
+        }
+        text::read(text).map(Some)
+    };
+    text_of(file, described)?.ok_or_else(|| {
+        let why = "expected a description, found a stored slot, which `bench read-back` takes";
+        Fault::of_file(file, why)
+    })
 }
 
 /// What a text file says.
-pub fn text_of<T>(file: &Path, read: fn(&str) -> Result<T, TextError>) -> Result<T, Fault> {
+pub fn text_of<T>(file: &Path, read: impl Fn(&str) -> Result<T, TextError>) -> Result<T, Fault> {
     let bytes = bytes_up_to(file, LONGEST_TEXT + 1)?;
     if bytes.len() > LONGEST_TEXT {
         let why = format!("expected at most {LONGEST_TEXT} bytes of text");

@@ -84,8 +84,4 @@ fn files_that_cannot_be_used_are_named() {
     assert_eq!(told.status.code(), Some(2));
     assert!(text(&told.stderr).starts_with("none/stored.txt: "));
     assert_eq!(folder.names(), names);
-    // A stored slot is no description.
-    folder.done(&["slot.txt", "stored.txt"]);
-    let said = folder.unread(&["stored.txt"]);
-    assert!(said.starts_with("stored.txt, line 1: expected socket, pin, "));
 }

@@ -259,3 +259,22 @@ fn each_fault_of_the_wiring_is_named() {
     assert_eq!(told("good.txt", banked()), "");
     assert_eq!(told("multi.txt", multi()), "");
 }
+
+#[test]
+fn a_stored_slot_is_no_description() {
+    let folder = Folder::new("layout", "stored");
+    folder.done(&["slot.txt", "stored.txt"]);
+    let said = "stored.txt: expected a description, found a stored slot, \
+        which `bench read-back` takes\n";
+    for words in [
+        &["layout", "stored.txt"][..],
+        &["build", "stored.txt", "table.bin", "chip.bin"],
+        &["verify", "stored.txt", "chip.bin"],
+    ] {
+        let told = folder.run_other(words[0], &words[1..]);
+        assert_eq!(
+            (told.status.code(), text(&told.stderr)),
+            (Some(2), said.into())
+        );
+    }
+}

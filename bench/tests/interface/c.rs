@@ -53,7 +53,8 @@ pub fn header(page: &Page) -> String {
 }
 
 fn head(page: &Page) -> Vec<String> {
-    let first = "The calls of Tartankerb for C. Rendered from docs/INTERFACE.md: edit that page, and see bench/README.md.";
+    let first = "The calls of Tartankerb for C; docs/TERMS.md says what the words mean. Rendered from docs/INTERFACE.md: edit \
+        that page, and see bench/README.md.";
     let mut paragraphs = vec![first.to_string()];
     paragraphs.extend(page.slices.iter().map(|text| plain(text)));
     paragraphs
