@@ -8,7 +8,8 @@ use Rattle.lists.specs.Tab.{joined}
 use Rattle.lists.proofs.Tab.{tab-is}
 use Rattle.words.specs.Words.{bytesOf, wordsBytes}
 use Rattle.lists.specs.First.{firstWhere}
-use Rattle.table_read.specs.design.Buffers.{outputHeld, marksHeld, walkedOf}
+use Rattle.entry_words.specs.design.Collected.{outputHeld, marksHeld}
+use Rattle.table_read.specs.design.Walks.{walkedOf}
 use Rattle.table_read.specs.declared.row.Walked.the-variants.{Through}
 use Rattle.table_read.specs.design.Held.{Held}
 

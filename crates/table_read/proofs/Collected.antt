@@ -5,11 +5,13 @@ use mathlib.Core.List.{List, _++_}
 use Prim.Native.Nat.{ℕ, _*_}
 use lib.Dec.{ltb, eqb}
 use lib.ListN.{length, getD, drop, replicate}
-use Rattle.table_read.specs.design.Kept.{told, firstBad, firstMissing, outcomeOf}
+use Rattle.entry_words.specs.design.Kept.{told, firstBad, firstMissing, outcomeOf}
 use Rattle.lists.specs.First.{firstWhere}
-use Rattle.table_read.specs.design.Buffers.{kept, outputHeld, marksHeld, servedBy, heldBy, collectedOf}
-use Rattle.table_read.specs.declared.Outcome.{Outcome}
-use Rattle.table_read.specs.declared.Outcome.the-variants.{Whole, Disagrees, Missing}
+use Rattle.lent_buffers.specs.design.Buffers.{kept}
+use Rattle.entry_words.specs.design.Collected.{outputHeld, marksHeld, heldBy, collectedOf}
+use Rattle.table_read.specs.design.Walks.{servedBy}
+use Rattle.entry_words.specs.declared.Outcome.{Outcome}
+use Rattle.entry_words.specs.declared.Outcome.the-variants.{Whole, Disagrees, Missing}
 use Rattle.table_read.specs.declared.row.Walked as walked
 use Rattle.lists.proofs.First.{first-cong}
 use Rattle.table_read.proofs.Step.{mark-at}

@@ -6,12 +6,15 @@ use Prim.Native.Nat.{ℕ, suc, _*_, _^_, _≤_, _<_}
 use lib.ListN.{length, drop}
 use lib.Seq.{drop-at}
 use Rattle.lists.proofs.Loops.{zero-one}
-use Rattle.table_read.specs.design.Kept.{outputAfter, marksAfter}
-use Rattle.table_read.specs.design.Buffers.{kept, keepWord, outputHeld, marksHeld, walkedOf}
-use Rattle.table_read.specs.declared.reading.Reading.{Reading}
-use Rattle.table_read.specs.design.Held.{Room, Held, Read}
+use Rattle.entry_words.specs.design.Kept.{outputAfter, marksAfter}
+use Rattle.lent_buffers.specs.design.Buffers.{kept, keepWord}
+use Rattle.entry_words.specs.design.Collected.{outputHeld, marksHeld}
+use Rattle.table_read.specs.design.Walks.{walkedOf}
+use Rattle.entry_words.specs.declared.Reading.{Reading}
+use Rattle.entry_words.specs.design.Lent.{Room}
+use Rattle.table_read.specs.design.Held.{Held, Read}
 use Rattle.table_read.specs.declared.row.Walked.the-variants.{Through, Disagrees}
-use Rattle.table_read.proofs.Cong.{output-length, marks-length}
+use Rattle.entry_words.proofs.Cong.{output-length, marks-length}
 use Rattle.table_read.proofs.Step.{step-skip, step-keep, step-bad}
 
 -- an entry that is for a word f, and says x

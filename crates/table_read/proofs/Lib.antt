@@ -1,5 +1,3 @@
-pub mod Cong
-pub mod Whole
 pub mod Lookups
 pub mod Put
 pub mod Step

@@ -14,10 +14,10 @@ use Rattle.lists.proofs.Tab.{tab-length, getD-tab}
 use Rattle.bits.proofs.Gathered.{gather-lt, gather-row}
 use Rattle.words.specs.Words.{word}
 use Rattle.words.proofs.Words.{word-short}
-use Rattle.table_read.specs.design.Reading.{gathered, noMap, partBy, romBy, addressBy, noExtent, wordBy, valueBy, ReadingIn}
+use Rattle.entry_words.specs.design.Reading.{gathered, noMap, partBy, romBy, addressBy, noExtent, wordBy, valueBy, ReadingIn}
 use Rattle.table_read.specs.design.Rows.{byteTables, TablesIn, RowIn}
-use Rattle.table_read.specs.declared.maps.Map.{Map}
-use Rattle.table_read.specs.declared.reading.Reading.{Reading}
+use Rattle.entry_words.specs.declared.Map.{Map}
+use Rattle.entry_words.specs.declared.Reading.{Reading}
 use Rattle.table_read.specs.declared.row.Row.{Row}
 
 -- a map's answer: how large, and in rows

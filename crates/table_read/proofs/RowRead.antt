@@ -7,8 +7,8 @@ use native.Mathlib.Omega.{arith}
 use lib.Dec.{ltb}
 use lib.ListN.{length, drop}
 use borrow.Author.Tests.{ltb-true, lt-ltb}
-use Rattle.table_read.specs.design.Kept.{disagrees, firstBad, outputAfter, marksAfter}
-use Rattle.table_read.specs.design.Buffers.{walkedOf}
+use Rattle.entry_words.specs.design.Kept.{disagrees, firstBad, outputAfter, marksAfter}
+use Rattle.table_read.specs.design.Walks.{walkedOf}
 use Rattle.table_read.specs.design.Held.{Held, Read}
 use Rattle.table_read.specs.declared.row.Walked.{Walked}
 use Rattle.table_read.specs.declared.row.Walked.the-variants.{Through, Disagrees}

@@ -1,6 +1,4 @@
 -- How the code goes about it: what it keeps on the way. No answer is defined here, and a reader need not believe any of it.
-pub mod Kept
-pub mod Reading
 pub mod Rows
-pub mod Buffers
+pub mod Walks
 pub mod Held

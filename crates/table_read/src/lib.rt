@@ -1,34 +1,27 @@
 // Entries of a table back into words: each entry is for a word and says a value, and the first value of a word is kept. Bits of an
 // index and of an entry are taken in two parts of eight, so that each part's answer stands in a table.
-mod maps; // lines by their positions, and what a number's bits at them come to
-mod reading; // which word an entry is for, and what it says
-mod buffers; // the lent output and marks
+mod maps; // what a number's bits at the positions of all maps come to
+mod word; // which word an entry is for
 mod row; // the entries of a row
 mod walk; // the entries in order
 
-use crate::buffers::clear;
-use crate::buffers::first_missing;
-pub use crate::maps::Map;
-pub use crate::reading::Extent;
-pub use crate::reading::Reading;
 use crate::row::Walked;
 use crate::walk::walk;
+use entry_words::Outcome;
+use entry_words::Reading;
+use lent_buffers::fill;
+use lent_buffers::first_missing;
 ghost use mathlib.Core.Path.{_≡_};
 ghost use mathlib.Core.List.{_++_};
 ghost use Prim.Native.Nat.{_*_};
 ghost use lib.Dec.{eqb};
 ghost use lib.ListN.{getD, drop, replicate};
-ghost use Rattle.table_read.specs.design.Reading.{wordBy, valueBy};
+ghost use Rattle.entry_words.specs.design.Reading.{wordBy, valueBy};
 ghost use Rattle.lists.specs.First.{firstWhere};
-ghost use Rattle.table_read.specs.design.Buffers.{kept, servedBy, collectedOf};
-ghost use Rattle.table_read.specs.design.Held.{Room, Lent};
-
-// What all entries come to; the word that one is at fault for is counted through all ROMs.
-pub enum Outcome {
-    Whole,
-    Disagrees(u32),
-    Missing(u32),
-}
+ghost use Rattle.lent_buffers.specs.design.Buffers.{kept};
+ghost use Rattle.table_read.specs.design.Walks.{servedBy};
+ghost use Rattle.entry_words.specs.design.Collected.{collectedOf};
+ghost use Rattle.entry_words.specs.design.Lent.{Room, Lent};
 
 fn clear_both(r: Reading, output: &mut [u8], marks: &mut [u8])
     requires { ⌜ Room r (now output) (now marks) ⌝ }
@@ -37,8 +30,8 @@ fn clear_both(r: Reading, output: &mut [u8], marks: &mut [u8])
     ensures { λ _. ⌜ now (marks .exit) ≡ replicate (r .words) 0 ++ drop (r .words) (now (marks .entry)) ⌝ }
 {
     let words = r.words as usize;
-    clear(output, words * r.word_bytes as usize);
-    clear(marks, words);
+    fill(output, words * r.word_bytes as usize, 0);
+    fill(marks, words, 0);
 }
 
 // What the marks say once no entry disagrees.

@@ -1,15 +1,12 @@
-// Lines by their positions, and what a number's bits at them come to.
+// What the bits of a number at the positions of all maps come to.
 use bits::gather;
+use entry_words::Map;
+use entry_words::byte_table;
 ghost use mathlib.Core.Path.{_≡_};
-ghost use Prim.Native.Nat.{_≤_};
-ghost use Rattle.table_read.specs.design.Reading.{MapIn, MapsIn, gathered, partBy};
-ghost use Rattle.table_read.specs.design.Rows.{byteTables, highOf};
-
-// The positions of so many lines, lowest line first.
-pub struct Map {
-    pub positions: [u8; 32],
-    pub lines: u8,
-}
+ghost use Prim.Native.Nat.{_+_, _*_, _≤_, _<_, _^_};
+ghost use lib.ListN.{length};
+ghost use Rattle.entry_words.specs.design.Reading.{MapIn, MapsIn, gathered, partBy};
+ghost use Rattle.table_read.specs.design.Rows.{Put, byteTables, highOf};
 
 // What a map says of a number.
 fn gathered(map: Map, i: u32) -> u32
@@ -28,16 +25,29 @@ fn part_of(maps: [Map; 5], k: usize, i: u32) -> u32
     gathered(maps[k], i)
 }
 
-// What each map says of each value of eight bits that count `unit`: the 256 of map k from 256 k on.
-pub fn parts(maps: [Map; 5], unit: u16) -> [u32; 1280]
-    requires { ⌜ MapsIn maps ⌝ }
-    ensures { λ r. ⌜ r ≡ byteTables maps unit ⌝ }
+// A table of 256 entries from a place on.
+fn put_table(out: &mut [u32], at: usize, table: &[u32])
+    requires { ⌜ (at + 256 ≤ length (now out)) × (length (now table) ≡ 256) ⌝ }
+    ensures { λ _. ⌜ Put at (now (table .entry)) (now (out .entry)) (now (out .exit)) ⌝ }
+{
+    let mut q: usize = 0;
+    while q < 256 {
+        out[at + q] = table[q];
+        q += 1;
+    }
+}
+
+// What each map says of each byte, where it stands so many bits up: the 256 of map k from 256 k on.
+pub fn parts(maps: [Map; 5], up: u32) -> [u32; 1280]
+    requires { ⌜ MapsIn maps × (up ≤ 8) ⌝ }
+    ensures { λ r. ⌜ r ≡ byteTables maps (2 ^ up) ⌝ }
 {
     let mut out = [0u32; 1280];
-    let mut q: u32 = 0;
-    while q < 1280 {
-        out[q as usize] = part_of(maps, (q / 256) as usize, q % 256 * unit as u32);
-        q += 1;
+    let mut k: usize = 0;
+    while k < 5 {
+        let table = byte_table(maps[k], up);
+        put_table(&mut out, k * 256, &table);
+        k += 1;
     }
     out
 }

@@ -1,8 +1,8 @@
 // The entries of a row: those whose index has the same bits above the low eight.
-use crate::buffers::keep;
-use crate::reading::Reading;
-use crate::reading::unforced;
-use crate::reading::word_for;
+use crate::word::unforced;
+use crate::word::word_for;
+use entry_words::Reading;
+use lent_buffers::keep;
 use words::word_at;
 ghost use mathlib.Core.Path.{_≡_};
 ghost use Prim.Native.Nat.{_+_, _*_, _/_, _%_, _<_, _^_};

@@ -1,10 +1,10 @@
 // The entries in order, row by row.
 use crate::maps::parts;
 use crate::maps::parts_of;
-use crate::reading::Reading;
 use crate::row::Row;
 use crate::row::Walked;
 use crate::row::read_row;
+use entry_words::Reading;
 ghost use mathlib.Core.Path.{_≡_};
 ghost use Prim.Native.Nat.{min};
 ghost use Rattle.table_read.specs.design.Held.{Onward, ReadBy};
@@ -27,9 +27,9 @@ pub fn walk(r: Reading, stored: &[u8], entries: u32, output: &mut [u8], marks: &
 {
     let address = r.address;
     let data_lines = r.data_lines;
-    let lows = parts(address, 1);
-    let low_bytes = parts(data_lines, 1);
-    let high_bytes = parts(data_lines, 256);
+    let lows = parts(address, 0);
+    let low_bytes = parts(data_lines, 0);
+    let high_bytes = parts(data_lines, 8);
     let mut i: u32 = 0;
     while i < entries {
         let row = Row {

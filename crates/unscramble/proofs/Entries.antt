@@ -10,7 +10,7 @@ use Rattle.slot.specs.declared.description.ChipSetType.{ChipSetType}
 use Rattle.picks.specs.Picks.{chipsFit}
 use Rattle.picks.specs.declared.Picked.{Picked}
 use Rattle.picks.specs.declared.Picked.the-variants.{NoChip, Chip}
-use Rattle.table_read.specs.design.Kept.{firstAt}
+use Rattle.entry_words.specs.design.Kept.{firstAt}
 use Rattle.lists.proofs.First.{first-passes, first-cong}
 use Rattle.stored_slot.specs.Stored.{free, storedPins}
 use Rattle.unscramble.specs.Words.{romPicked, addressAt, valueAt, serves}

@@ -13,14 +13,15 @@ use Rattle.refusal.specs.declared.Answer.{Answer}
 use Rattle.refusal.specs.declared.Answer.the-variants.{Done}
 use Rattle.refusal.specs.declared.first.FirstFault.the-variants.{None}
 use Rattle.picks.specs.Picks.{chipsFit}
-use Rattle.table_read.specs.design.Kept.{outputAfter, outcomeOf}
-use Rattle.table_read.specs.design.Reading.{wordBy, valueBy}
-use Rattle.table_read.specs.design.Held.{Lent}
-use Rattle.table_read.specs.declared.reading.Reading.{Reading}
-use Rattle.table_read.specs.design.Buffers.{Kept, kept, marksHeld, heldBy, collectedOf}
-use Rattle.table_read.specs.declared.Outcome.{Outcome}
-use Rattle.table_read.specs.declared.Outcome.the-variants.{Whole, Disagrees, Missing}
-use Rattle.table_read.proofs.Cong.{output-length, marks-cong, output-cong, outcome-cong}
+use Rattle.entry_words.specs.design.Kept.{outputAfter, outcomeOf}
+use Rattle.entry_words.specs.design.Reading.{wordBy, valueBy}
+use Rattle.entry_words.specs.design.Lent.{Lent}
+use Rattle.entry_words.specs.declared.Reading.{Reading}
+use Rattle.lent_buffers.specs.design.Buffers.{Kept, kept}
+use Rattle.entry_words.specs.design.Collected.{marksHeld, heldBy, collectedOf}
+use Rattle.entry_words.specs.declared.Outcome.{Outcome}
+use Rattle.entry_words.specs.declared.Outcome.the-variants.{Whole, Disagrees, Missing}
+use Rattle.entry_words.proofs.Cong.{output-length, marks-cong, output-cong, outcome-cong}
 use Rattle.stored_slot.specs.Stored.{storedIn, romAt, wordBytes, storedPins, dataLines}
 use Rattle.stored_slot.specs.Faults.{romsFault}
 use Rattle.stored_slot.specs.Words.{allWords}

@@ -20,15 +20,15 @@ use Rattle.picks.specs.Picks.{picksOf, pickedBy, chipsFit}
 use Rattle.picks.proofs.Picking.{picks-three}
 use Rattle.picks.specs.declared.Picked.{Picked}
 use Rattle.picks.specs.declared.Picked.the-variants.{NoChip, Chip}
-use Rattle.table_read.specs.design.Reading.{noMap, gathered, partBy, romBy, noExtent, wordBy, valueBy, ReadingIn}
-use Rattle.table_read.specs.declared.maps.Map.{Map}
-use Rattle.table_read.specs.declared.reading.Extent.{Extent}
-use Rattle.table_read.specs.declared.reading.Reading.{Reading}
+use Rattle.entry_words.specs.design.Reading.{noMap, gathered, partBy, romBy, noExtent, wordBy, valueBy, ReadingIn}
+use Rattle.entry_words.specs.declared.Map.{Map}
+use Rattle.entry_words.specs.declared.Extent.{Extent}
+use Rattle.entry_words.specs.declared.Reading.{Reading}
 use Rattle.stored_slot.specs.Stored.{romAt, wordBytes, addrBase, storedDataBase, mapLines, dataLines, storedDataPosition, free}
 use Rattle.unscramble.specs.Words.{romPicked, addressAt, valueAt}
 use Rattle.stored_slot.specs.Words.{romWords, wordsBefore, allWords, storedPickPosition}
 use Rattle.unscramble.proofs.WordAt.{wordOf, wordAt, saidOf, saidAt}
-use Rattle.unscramble.specs.design.Reading.{Readable, readMap, pickMap, noLines, addressMap, dataMap, romPlace, extentOf, readingOf}
+use Rattle.unscramble.specs.design.Reading.{Readable, readMap, pickMap, noLines, placeMap, addressMap, dataMap, romPlace, extentOf, readingOf}
 use Rattle.stored_slot.specs.declared.stored.StoredSlot.{StoredSlot}
 use Rattle.stored_slot.proofs.Listed.{listed-most}
 use Rattle.unscramble.proofs.Flat.{before-le, before-next}
@@ -73,10 +73,10 @@ module _ (s : StoredSlot) (set : ChipSetType) where
       ∙ getD-tab (λ b. romPlace (pickedBy set (s .«num_roms») b)) 8 (gather (picksOf set (s .«num_roms»)) (storedPickPosition s set) i) 0 (picks-eight i)
 
   -- a ROM's lines
-  part-address : (rom i : ℕ) → rom < 4 → partBy (r .address) rom i ≡ addressAt s rom i
+  part-address : (rom i : ℕ) → rom < 4 → rom < s .«num_roms» → partBy (r .address) rom i ≡ addressAt s rom i
   unfolding readingOf addressAt
-  part-address rom i h =
-      let e : addressMap s set rom ≡ readMap (romAt s rom .addr) (addrBase s) = rw (lt-ltb rom 4 h) in
+  part-address rom i h l =
+      let e : addressMap s set rom ≡ readMap (romAt s rom .addr) (addrBase s) = rw (lt-ltb rom 4 h, lt-ltb rom (s .«num_roms») l) in
       ap (λ (m : Map). gathered m i) (getD-tab (addressMap s set) 5 rom noMap (omega arith) ∙ e) ∙ map-says (romAt s rom .addr) (addrBase s) i
 
   part-data : (rom v : ℕ) → rom < 5 → rom < s .«num_roms» → partBy (r .«data_lines») rom v ≡ gather (dataLines (romAt s rom)) (storedDataPosition s rom) v
@@ -122,7 +122,7 @@ module _ (s : StoredSlot) (set : ChipSetType) where
         by-place i
         ∙ ap (word-there i) (place-is i ∙ ap romPlace e)
         ∙ ap (λ (x : Extent). word-in i x (partBy (r .address) rom i)) (extent-at rom (omega arith) ∙ extent-rom rom there)
-        ∙ ap (λ (a : ℕ). word-in i (record { start = wordsBefore s rom; words = romWords s rom }) a) (part-address rom i (omega arith))
+        ∙ ap (λ (a : ℕ). word-in i (record { start = wordsBefore s rom; words = romWords s rom }) a) (part-address rom i (omega arith) there)
         ∙ nest (free s i) (ltb (addressAt s rom i) (romWords s rom)) (wordsBefore s rom + addressAt s rom i) (allWords s)
 
     pub word-same : (i : ℕ) → wordBy r i ≡ wordAt s set i
@@ -166,11 +166,12 @@ module _ (s : StoredSlot) (set : ChipSetType) where
   module _ (few : s .«num_roms» ≤ 4) (whole : (rom : ℕ) → rom < s .«num_roms» → dataLines (romAt s rom) ≡ 8 * wordBytes s) (can : Readable s set) where
     address-few : (k : ℕ) → k < 5 → getD (r .address) k noMap .lines ≤ 32
     unfolding readingOf
-    address-few k h = rw (getD-tab (addressMap s set) 5 k noMap h) (lines-few (ltb k 4))
+    address-few k h = rw (getD-tab (addressMap s set) 5 k noMap h) (lines-few (ltb k 4) (ltb k (s .«num_roms»)))
       where
-        lines-few : (t : Bool) → cond t (readMap (romAt s k .addr) (addrBase s)) (pickMap s set) .lines ≤ 32
-        lines-few true = listed-most 32 (romAt s k .addr)
-        lines-few false = omega (arith, picks-three set (s .«num_roms»))
+        lines-few : (t u : Bool) → cond t (cond u (readMap (romAt s k .addr) (addrBase s)) noLines) (pickMap s set) .lines ≤ 32
+        lines-few true true = listed-most 32 (romAt s k .addr)
+        lines-few true false = omega arith
+        lines-few false u = omega (arith, picks-three set (s .«num_roms»))
 
     data-case : (k : ℕ) (t : Bool) → ltb k (s .«num_roms») ≡ t → cond t (readMap (romAt s k .«data_lines») (storedDataBase s)) noLines .lines ≤ 8 * wordBytes s
     data-case k true e = omega (arith, whole k (ltb-true k (s .«num_roms») e))

@@ -16,11 +16,11 @@ use Rattle.refusal.specs.declared.first.FirstFault.the-variants.{None}
 use Rattle.picks.specs.Picks.{chipsFit}
 use Rattle.picks.specs.declared.Picked.{Picked}
 use Rattle.picks.specs.declared.Picked.the-variants.{NoChip, Chip}
-use Rattle.table_read.specs.design.Kept.{firstAt, told, valueAfter, marksAfter, outputAfter, disagrees, firstBad, firstMissing, outcomeOf}
-use Rattle.table_read.specs.declared.Outcome.the-variants.{Whole, Disagrees, Missing}
+use Rattle.entry_words.specs.design.Kept.{firstAt, told, valueAfter, marksAfter, outputAfter, disagrees, firstBad, firstMissing, outcomeOf}
+use Rattle.entry_words.specs.declared.Outcome.the-variants.{Whole, Disagrees, Missing}
 use Rattle.lists.proofs.First.{never-both, not-less, first-within, first-found}
 use Rattle.lists.proofs.Loops.{zero-one}
-use Rattle.table_read.proofs.Whole.{disagrees-first, whole-told, whole-marks}
+use Rattle.entry_words.proofs.Whole.{disagrees-first, whole-told, whole-marks}
 use Rattle.stored_slot.specs.Stored.{wordBytes, storedPins}
 use Rattle.unscramble.specs.Words.{romPicked, addressAt, valueAt, serves}
 use Rattle.stored_slot.specs.Words.{wordsBefore, allWords}

@@ -1,10 +1,10 @@
 // A word's ROM and address, of words counted through all ROMs.
+use entry_words::Outcome;
 use lists::array::one_if;
 use refusal::Refusal;
 use refusal::first::FirstFault;
 use stored_slot::roms::words_before;
 use stored_slot::stored::StoredSlot;
-use table_read::Outcome;
 ghost use mathlib.Core.Path.{_≡_};
 ghost use Rattle.unscramble.specs.design.Place.{wordRom, wordAddress, outcomeFault};
 

@@ -1,6 +1,9 @@
 // What the entries are read by: positions of all lines, the words of each ROM among all, and the forced bits, found once a slot.
 use crate::forced::forced;
 use crate::forced::forced_high;
+use entry_words::Extent;
+use entry_words::Map;
+use entry_words::Reading;
 use picks::Picked;
 use picks::num_picks;
 use picks::picked_by;
@@ -15,9 +18,6 @@ use stored_slot::stored::StoredSlot;
 use stored_slot::window::addr_base;
 use stored_slot::window::data_base;
 use stored_slot::window::word_bytes;
-use table_read::Extent;
-use table_read::Map;
-use table_read::Reading;
 ghost use mathlib.Core.Path.{_≡_};
 ghost use Prim.Native.Nat.{_-_, _^_, _≤_};
 ghost use mathlib.Core.Bool.{cond};
@@ -27,7 +27,7 @@ ghost use Rattle.lists.specs.Tab.{tab};
 ghost use Rattle.picks.specs.Picks.{pickedBy};
 ghost use Rattle.stored_slot.specs.Stored.{addrBase, storedDataBase, romAt};
 ghost use Rattle.stored_slot.specs.Words.{allWords, pickGpio, storedPickPosition};
-ghost use Rattle.unscramble.specs.design.Reading.{Readable, readMap, pickMap, addressMap, dataMap, romPlace, extentOf, readingOf};
+ghost use Rattle.unscramble.specs.design.Reading.{Readable, readMap, pickMap, placeMap, addressMap, dataMap, romPlace, extentOf, readingOf};
 
 // The positions of a list of GPIOs from a base.
 fn positions(gpios: [u8; 32], base: u8) -> [u8; 32]
@@ -52,29 +52,35 @@ fn map_of(gpios: [u8; 32], base: u8) -> Map
     }
 }
 
+// The map of a place; past the last ROM there are no lines.
+fn place_map(roms: u8, k: u8, gpios: [u8; 32], base: u8) -> Map
+    ensures { λ r. ⌜ r ≡ placeMap roms k gpios base ⌝ }
+{
+    if k < roms {
+        return map_of(gpios, base);
+    }
+    Map {
+        positions: [0u8; 32],
+        lines: 0,
+    }
+}
+
 fn address_map(s: StoredSlot, k: u8) -> Map
     requires { ⌜ addrBase s ≤ 255 ⌝ }
-    ensures { λ r. ⌜ r ≡ readMap (romAt s k .addr) (addrBase s) ⌝ }
+    ensures { λ r. ⌜ r ≡ placeMap (s .«num_roms») k (romAt s k .addr) (addrBase s) ⌝ }
 {
     let rom = rom_at(s, k);
     let gpios = rom.addr;
-    map_of(gpios, addr_base(s) as u8)
+    place_map(s.num_roms, k, gpios, addr_base(s) as u8)
 }
 
-// The data lines of a place; past the last ROM there are none.
 fn data_map(s: StoredSlot, k: u8) -> Map
     requires { ⌜ storedDataBase s ≤ 255 ⌝ }
     ensures { λ r. ⌜ r ≡ dataMap s k ⌝ }
 {
     let rom = rom_at(s, k);
     let gpios = rom.data_lines;
-    if k < s.num_roms {
-        return map_of(gpios, data_base(s) as u8);
-    }
-    Map {
-        positions: [0u8; 32],
-        lines: 0,
-    }
+    place_map(s.num_roms, k, gpios, data_base(s) as u8)
 }
 
 fn pick_position(s: StoredSlot, set_type: ChipSetType, k: u8) -> u8

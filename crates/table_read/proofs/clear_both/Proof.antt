@@ -6,7 +6,7 @@ use Rattle.table_read.proofs.clear_both.Tie as tie
 returns : tie.Need-returns
 returns c =
     let second = c .before .before in
-    (second .before .before .before .before .clear .ensures, second .clear2 .ensures)
+    (second .before .before .before .before .fill .ensures, second .fill2 .ensures)
 
 pub clear-both-spec : {M : Type 1} → statement M
 clear-both-spec =

@@ -2,9 +2,10 @@
 use mathlib.Core.List.{List}
 use Prim.Native.Nat.{ℕ}
 use borrow.Author.Needs.{needs}
-use Rattle.table_read.specs.design.Reading.{wordBy, valueBy}
-use Rattle.table_read.specs.declared.reading.Reading.{Reading}
-use Rattle.table_read.specs.design.Held.{Held, Room}
+use Rattle.entry_words.specs.design.Reading.{wordBy, valueBy}
+use Rattle.entry_words.specs.declared.Reading.{Reading}
+use Rattle.table_read.specs.design.Held.{Held}
+use Rattle.entry_words.specs.design.Lent.{Room}
 use Rattle.table_read.proofs.Held.{held-own, same-room}
 use Rattle.table_read.proofs.Cleared.{held-none}
 use Rattle.table_read.proofs.Collected.{collected-bad, collected-served}

@@ -5,8 +5,9 @@ use Prim.Native.Nat.{ℕ, _*_, _≤_, _<_}
 use lib.ListN.{drop, replicate}
 use borrow.Author.Needs.{needs}
 use borrow.Author.Tests.{lt-ltb, le-ltb}
-use Rattle.table_read.specs.design.Buffers.{kept, servedBy}
-use Rattle.table_read.specs.declared.Outcome.the-variants.{Whole, Missing}
+use Rattle.lent_buffers.specs.design.Buffers.{kept}
+use Rattle.table_read.specs.design.Walks.{servedBy}
+use Rattle.entry_words.specs.declared.Outcome.the-variants.{Whole, Missing}
 use Rattle.table_read.proofs.served.Statement.{statement}
 use Rattle.table_read.proofs.served.Tie as tie
 

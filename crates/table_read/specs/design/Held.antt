@@ -3,26 +3,15 @@ use mathlib.Core.Path.{_≡_}
 use Prim.Native.Nat.{ℕ, _+_, _*_, _^_, _≤_}
 use mathlib.Core.List.{List}
 use lib.ListN.{length, drop}
-use Rattle.table_read.specs.design.Reading.{ReadingIn, wordBy, valueBy}
-use Rattle.table_read.specs.design.Buffers.{outputHeld, marksHeld, walkedOf}
+use Rattle.entry_words.specs.design.Reading.{wordBy, valueBy}
+use Rattle.entry_words.specs.design.Lent.{Lent}
+use Rattle.entry_words.specs.design.Collected.{outputHeld, marksHeld}
+use Rattle.table_read.specs.design.Walks.{walkedOf}
 use Rattle.table_read.specs.design.Rows.{RowIn, TablesIn}
-use Rattle.table_read.specs.declared.reading.Reading.{Reading}
+use Rattle.entry_words.specs.declared.Reading.{Reading}
 use Rattle.table_read.specs.declared.row.Row.{Row}
 use Rattle.table_read.specs.declared.row.Walked.{Walked}
 use Rattle.table_read.specs.declared.row.Walked.the-variants.{Through}
-
--- the lent buffers have room for all words and their marks
-pub record Room (r : Reading) (output marks : List ℕ) : Type 0 where
-  pub few : r .words ≤ 2 ^ 26
-  pub output-room : r .words * r .«word_bytes» ≤ length output
-  pub marks-room : r .words ≤ length marks
-
--- the first n entries are stored, and the lent buffers have room
-pub record Lent (r : Reading) (stored output marks : List ℕ) (n : ℕ) : Type 0 where
-  pub reading : ReadingIn r
-  pub few : n ≤ 2 ^ 31
-  pub entries : n * r .«word_bytes» ≤ length stored
-  pub room : Room r output marks
 
 -- none of the m entries passed disagrees, and the buffers, which held other bytes at first, hold what these entries told
 pub record Held (w words : ℕ) (t v : ℕ → ℕ) (output₀ marks₀ : List ℕ) (m : ℕ) (output marks : List ℕ) : Type 0 where

@@ -1,17 +1,23 @@
 -- How the entries are read: rows of 256, and the tables of what eight bits come to. No answer is defined by it: `collectedOf` says what
 -- the entries come to. Assumes nothing.
 use mathlib.Core.Path.{_≡_}
-use Prim.Native.Nat.{ℕ, _*_, _/_, _%_, _≤_}
+use Prim.Native.Nat.{ℕ, _+_, _*_, _/_, _%_, _≤_, _<_}
 use mathlib.Core.List.{List}
+use lib.ListN.{getD}
 use Rattle.lists.specs.Tab.{tab}
-use Rattle.table_read.specs.design.Reading.{partBy}
-use Rattle.table_read.specs.declared.maps.Map.{Map}
-use Rattle.table_read.specs.declared.reading.Reading.{Reading}
+use Rattle.entry_words.specs.design.Reading.{partBy}
+use Rattle.entry_words.specs.declared.Map.{Map}
+use Rattle.entry_words.specs.declared.Reading.{Reading}
 use Rattle.table_read.specs.declared.row.Row.{Row}
 
 -- what each map says of each value of eight bits that count a unit
 abbrev pub byteTables : List Map → ℕ → List ℕ
 byteTables maps unit = tab 1280 (λ q. partBy maps (q / 256) (q % 256 * unit))
+
+-- a table of 256 entries stands from a place on, and the other entries stay
+pub record Put (at : ℕ) (table old new : List ℕ) : Type 0 where
+  pub there : (j : ℕ) → j < 256 → getD new (at + j) 0 ≡ getD table j 0
+  pub before : (j : ℕ) → j < at → getD new j 0 ≡ getD old j 0
 
 abbrev pub highOf : List Map → ℕ → List ℕ
 highOf maps i = tab 5 (λ k. partBy maps k i)

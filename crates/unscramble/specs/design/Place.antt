@@ -6,8 +6,8 @@ use Rattle.lists.specs.Each.{tally}
 use Rattle.refusal.specs.declared.Refusal.the-variants.{Inconsistent, Unserved}
 use Rattle.refusal.specs.declared.first.FirstFault.{FirstFault}
 use Rattle.refusal.specs.declared.first.FirstFault.the-variants.{None, Of}
-use Rattle.table_read.specs.declared.Outcome.{Outcome}
-use Rattle.table_read.specs.declared.Outcome.the-variants.{Whole, Disagrees, Missing}
+use Rattle.entry_words.specs.declared.Outcome.{Outcome}
+use Rattle.entry_words.specs.declared.Outcome.the-variants.{Whole, Disagrees, Missing}
 use Rattle.stored_slot.specs.Words.{wordsBefore}
 use Rattle.stored_slot.specs.declared.stored.StoredSlot.{StoredSlot}
 

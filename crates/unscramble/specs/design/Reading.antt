@@ -10,9 +10,9 @@ use Rattle.slot.specs.declared.description.ChipSetType.{ChipSetType}
 use Rattle.picks.specs.Picks.{picksOf, pickedBy}
 use Rattle.picks.specs.declared.Picked.{Picked}
 use Rattle.picks.specs.declared.Picked.the-variants.{NoChip, Chip}
-use Rattle.table_read.specs.declared.maps.Map.{Map}
-use Rattle.table_read.specs.declared.reading.Extent.{Extent}
-use Rattle.table_read.specs.declared.reading.Reading.{Reading}
+use Rattle.entry_words.specs.declared.Map.{Map}
+use Rattle.entry_words.specs.declared.Extent.{Extent}
+use Rattle.entry_words.specs.declared.Reading.{Reading}
 use Rattle.stored_slot.specs.Stored.{romAt, wordBytes, addrBase, storedDataBase, storedPins, mapLines, names, forceLow, forceHigh}
 use Rattle.stored_slot.specs.Words.{romWords, wordsBefore, allWords, pickGpio, storedPickPosition}
 use Rattle.stored_slot.specs.declared.stored.StoredSlot.{StoredSlot}
@@ -37,11 +37,15 @@ pickMap s set = record { positions = tab 32 (λ k. cond (ltb k 3) (storedPickPos
 abbrev pub noLines : Map
 noLines = record { positions = replicate 32 0; lines = 0 }
 
+-- those of a place; past the last ROM there are none
+abbrev pub placeMap : ℕ → ℕ → List ℕ → ℕ → Map
+placeMap roms k gpios base = cond (ltb k roms) (readMap gpios base) noLines
+
 abbrev pub addressMap : StoredSlot → ChipSetType → ℕ → Map
-addressMap s set k = cond (ltb k 4) (readMap (romAt s k .addr) (addrBase s)) (pickMap s set)
+addressMap s set k = cond (ltb k 4) (placeMap (s .«num_roms») k (romAt s k .addr) (addrBase s)) (pickMap s set)
 
 abbrev pub dataMap : StoredSlot → ℕ → Map
-dataMap s k = cond (ltb k (s .«num_roms»)) (readMap (romAt s k .«data_lines») (storedDataBase s)) noLines
+dataMap s k = placeMap (s .«num_roms») k (romAt s k .«data_lines») (storedDataBase s)
 
 -- the place of a ROM; the fifth for none
 abbrev pub romPlace : Picked → ℕ

@@ -1,6 +1,6 @@
 -- `gathered` meets its contract. Assumes nothing.
 use borrow.Author.Needs.{needs}
-use Rattle.table_read.specs.design.Reading.{gathered}
+use Rattle.entry_words.specs.design.Reading.{gathered}
 use Rattle.table_read.proofs.maps.gathered.Statement.{statement}
 use Rattle.table_read.proofs.maps.gathered.Tie as tie
 

@@ -3,7 +3,7 @@ use mathlib.Core.Path.{refl}
 use Prim.Native.Nat.{_-_}
 use native.Mathlib.Omega.{arith}
 use Rattle.lists.proofs.Tab.{Filled, filled-none, filled-turn, filled}
-use Rattle.table_read.specs.design.Reading.{partBy}
+use Rattle.entry_words.specs.design.Reading.{partBy}
 use borrow.Author.Needs.{needs}
 use Rattle.table_read.proofs.maps.parts_of.Statement.{statement}
 use Rattle.table_read.proofs.maps.parts_of.Tie as tie

@@ -4,8 +4,8 @@ use Prim.Native.Nat.{ℕ, _+_, _-_, _*_, _%_, _^_, _≤_, _<_}
 use native.Mathlib.Nat.{le-trans, mul-le-mul-right}
 use native.Mathlib.Omega.{arith}
 use lib.ListN.{length}
-use Rattle.table_read.specs.design.Reading.{MapsIn, ReadingIn, wordBy, valueBy}
-use Rattle.table_read.specs.declared.reading.Reading.{Reading}
+use Rattle.entry_words.specs.design.Reading.{MapsIn, ReadingIn, wordBy, valueBy}
+use Rattle.entry_words.specs.declared.Reading.{Reading}
 use Rattle.table_read.specs.design.Held.{Held}
 use Rattle.table_read.proofs.Held.{held-own, held-done, same-room}
 use Rattle.table_read.proofs.RowRead.{row-through, row-bad}
@@ -27,13 +27,13 @@ data-few : (r : Reading) → ReadingIn r → MapsIn (r .«data_lines»)
 data-few r h k l = let b = h .bytes in let n = h .data-lines k l in omega arith
 
 parts-requires : tie.Need-parts-requires Inv-loop μ-loop
-parts-requires c κs = c .before .before .before .before .before .pre .lent .reading .address-lines
+parts-requires c κs = (c .before .before .before .before .before .pre .lent .reading .address-lines, omega arith)
 
 parts-requires-2 : tie.Need-parts-requires-2 Inv-loop μ-loop
-parts-requires-2 c κs = data-few _ (c .before .before .before .before .before .before .pre .lent .reading)
+parts-requires-2 c κs = (data-few _ (c .before .before .before .before .before .before .pre .lent .reading), omega arith)
 
 parts-requires-3 : tie.Need-parts-requires-3 Inv-loop μ-loop
-parts-requires-3 c κs = data-few _ (c .before .before .before .before .before .before .before .pre .lent .reading)
+parts-requires-3 c κs = (data-few _ (c .before .before .before .before .before .before .before .pre .lent .reading), omega arith)
 
 loop-holds : tie.Need-loop-holds Inv-loop μ-loop
 loop-holds c = (omega arith, λ _. refl, c .before .before .before .before .before .before .before .before .pre .held)

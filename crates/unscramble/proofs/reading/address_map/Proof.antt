@@ -2,7 +2,7 @@
 use mathlib.Core.Path.{_∙_, ap}
 use Prim.Native.Nat.{ℕ}
 use Rattle.stored_slot.specs.Stored.{addrBase}
-use Rattle.unscramble.specs.design.Reading.{readMap}
+use Rattle.unscramble.specs.design.Reading.{placeMap}
 use Rattle.stored_slot.specs.declared.stored.Rom.{Rom}
 use borrow.Author.Needs.{needs}
 use Rattle.unscramble.proofs.reading.address_map.Statement.{statement}
@@ -10,9 +10,10 @@ use Rattle.unscramble.proofs.reading.address_map.Tie as tie
 
 returns : tie.Need-returns
 returns c = let s = c .before .before .before .before .args .s in
-    c .map-of .ensures
-    ∙ ap (λ (b : ℕ). readMap (c .before .before .before .rom-at .result .addr) b) (c .before .addr-base .ensures)
-    ∙ ap (λ (x : Rom). readMap (x .addr) (addrBase s)) (c .before .before .before .rom-at .ensures)
+    let k = c .before .before .before .before .args .k in
+    c .place-map .ensures
+    ∙ ap (λ (b : ℕ). placeMap (s .«num_roms») k (c .before .before .before .rom-at .result .addr) b) (c .before .addr-base .ensures)
+    ∙ ap (λ (x : Rom). placeMap (s .«num_roms») k (x .addr) (addrBase s)) (c .before .before .before .rom-at .ensures)
 
 pub address-map-spec : {M : Type 1} → statement M
 address-map-spec =

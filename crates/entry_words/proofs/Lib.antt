@@ -1,0 +1,2 @@
+pub mod Cong
+pub mod Whole
