@@ -1,0 +1,62 @@
+-- `with_picks` meets its contract. Assumes nothing.
+use mathlib.Core.Path.{_≡_, refl, sym, _∙_, ap}
+use Prim.Native.Nat.{ℕ, _+_, _-_, _*_, _%_, _^_, _≤_, _<_}
+use native.Mathlib.Omega.{arith}
+use borrow.Author.Needs.{needs}
+use lib.ListN.{getD}
+use Rattle.index_order.proofs.Places.{Picking, picking-none, picking-turn, picking-done}
+use Rattle.index_order.proofs.with_picks.Statement.{statement}
+use Rattle.index_order.proofs.with_picks.Tie as tie
+
+abbrev Inv-loop : tie.InvT-loop
+Inv-loop positions n out₀ k₀ out k = (k ≤ n) × Picking out₀ (λ j. getD positions j 0) out k
+
+abbrev μ-loop : tie.MeasureT-loop
+μ-loop positions n out₀ k₀ out k = n - k
+
+loop-holds : tie.Need-loop-holds Inv-loop μ-loop
+loop-holds c = (omega arith, picking-none _ _)
+
+slice-aggregate-entry : tie.Need-slice-aggregate-entry Inv-loop μ-loop
+slice-aggregate-entry c = search needs
+
+cast-entry : tie.Need-cast-entry Inv-loop μ-loop
+cast-entry c = search needs
+
+entry-requires : tie.Need-entry-requires Inv-loop μ-loop
+entry-requires c κs = search needs
+
+push-requires : tie.Need-push-requires Inv-loop μ-loop
+push-requires c κs = search needs
+
+add-k : tie.Need-add-k Inv-loop μ-loop
+add-k c = search needs
+
+loop-less : tie.Need-loop-less Inv-loop μ-loop
+loop-less c = search needs
+
+loop-again : tie.Need-loop-again Inv-loop μ-loop
+loop-again c =
+    let l = c .before .before .before .before .loop in
+    (omega arith, picking-turn _ _ _ _ _ _ (l .inv .1) (c .before .entry .ensures) (c .push .ensures))
+
+returns : tie.Need-returns Inv-loop μ-loop
+returns c =
+    let l = c .before .loop in
+    (picking-done _ (c .before .before .before .args .picks) _ _ (l .inv .1) (omega arith) (omega arith), omega (arith, l .inv .1 .lines))
+
+pub with-picks-spec : {M : Type 1} → statement M
+with-picks-spec =
+    tie.close
+    (tie.spec
+    Inv-loop
+    μ-loop
+    loop-holds
+    slice-aggregate-entry
+    cast-entry
+    entry-requires
+    push-requires
+    add-k
+    loop-less
+    loop-again
+    returns)
