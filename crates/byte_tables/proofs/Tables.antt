@@ -65,7 +65,7 @@ module _ (f : ℕ → ℕ) where
       sym (tab-is f out 0 256 (h .long) (λ q b. sym (h .first q (rw all b))))
 
 -- bits joined by or are gathered one by one
-gather-or : (n : ℕ) (p : ℕ → ℕ) (x y : ℕ) → gather n p (bitOr x y) ≡ bitOr (gather n p x) (gather n p y)
+pub gather-or : (n : ℕ) (p : ℕ → ℕ) (x y : ℕ) → gather n p (bitOr x y) ≡ bitOr (gather n p x) (gather n p y)
 gather-or n p x y =
     bits-same n (gather n p (bitOr x y)) (bitOr (gather n p x) (gather n p y)) (gather-lt n p (bitOr x y))
     (or-lt n (gather n p x) (gather n p y) (gather-lt n p x) (gather-lt n p y)) (λ k l.

@@ -1,2 +1,3 @@
 pub mod Cong
 pub mod Whole
+pub mod Bounds

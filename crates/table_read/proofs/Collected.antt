@@ -13,6 +13,7 @@ use Rattle.table_read.specs.design.Walks.{servedBy}
 use Rattle.entry_words.specs.declared.Outcome.{Outcome}
 use Rattle.entry_words.specs.declared.Outcome.the-variants.{Whole, Disagrees, Missing}
 use Rattle.table_read.specs.declared.row.Walked as walked
+use Rattle.entry_words.proofs.Whole.{whole-marks}
 use Rattle.lists.proofs.First.{first-cong}
 use Rattle.table_read.proofs.Step.{mark-at}
 use Rattle.table_read.specs.design.Held.{Held, Read}
@@ -65,3 +66,20 @@ module _ (w : ℕ) (t v : ℕ → ℕ) (words n : ℕ) (output marks : List ℕ)
         ∙ ap (servedBy w words o₂ k₂) (missing-marks t words n k₂ marks (all .told))
         ∙ served-case (ltb g words) g o₂ k₂ (all .values) (all .told) (row-rest n h s) (row-marks-rest n h s)
         ∙ sym (ap (heldBy w t v words n output marks) (through-case (ltb (firstBad t v words n) n) (t (firstBad t v words n)) _ (sym (s .answer) ∙ e)))
+
+-- what stood in the words' place does not matter
+module _ (w : ℕ) (t v : ℕ → ℕ) (words n : ℕ) (o₁ o₂ marks : List ℕ) (e : drop (words * w) o₁ ≡ drop (words * w) o₂) where
+  held-from : (x : Outcome) → heldBy w t v words n o₁ marks x ≡ heldBy w t v words n o₂ marks x
+  held-from Whole = rw e
+  held-from (Disagrees f) = rw e
+  held-from (Missing f) = rw e
+
+  pub collected-from : collectedOf w t v words n o₁ marks ≡ collectedOf w t v words n o₂ marks
+  unfolding collectedOf
+  collected-from = held-from (outcomeOf t v words n)
+
+-- all words read, word by word
+pub collected-words : (w : ℕ) (t v : ℕ → ℕ) (words n : ℕ) (old marks o k : List ℕ) → outcomeOf t v words n ≡ Whole → o ≡ outputHeld w t v words n old
+    → k ≡ replicate words 1 ++ drop words marks → kept Whole o k ≡ collectedOf w t v words n old marks
+unfolding collectedOf
+collected-words w t v words n old marks o k e p q = rw (e, p, q, whole-marks t v words n e)

@@ -4,27 +4,23 @@ use mathlib.Core.Path.{_≡_, _∙_}
 use mathlib.Core.Bool.{cond, _&&_}
 use mathlib.Core.List.{List}
 use Prim.Native.Nat.{ℕ, _+_, _*_, _/_, _%_, _^_, _≤_, _<_}
-use native.Mathlib.Nat.{mul-one, lt-of-lt-of-le}
+use native.Mathlib.Nat.{mul-one}
 use native.Mathlib.Omega.{arith}
 use lib.Bits.{bitAnd}
 use lib.Dec.{ltb, eqb}
 use lib.ListN.{length, getD}
-use lib.Pow.{pow-mono}
 use Rattle.lists.proofs.Tab.{tab-length, getD-tab}
-use Rattle.bits.proofs.Gathered.{gather-lt, gather-row}
+use Rattle.bits.proofs.Gathered.{gather-row}
 use Rattle.words.specs.Words.{word}
 use Rattle.words.proofs.Words.{word-short}
+use Rattle.entry_words.proofs.Bounds.{bits-few, place, address-few, value-few}
 use Rattle.entry_words.specs.design.Reading.{gathered, noMap, partBy, romBy, addressBy, noExtent, wordBy, valueBy, ReadingIn}
 use Rattle.table_read.specs.design.Rows.{byteTables, TablesIn, RowIn}
 use Rattle.entry_words.specs.declared.Map.{Map}
 use Rattle.entry_words.specs.declared.Reading.{Reading}
 use Rattle.table_read.specs.declared.row.Row.{Row}
 
--- a map's answer: how large, and in rows
-gathered-lt : (m : Map) (i n : ℕ) → m .lines ≤ n → gathered m i < 2 ^ n
-unfolding gathered
-gathered-lt m i n h = lt-of-lt-of-le (gather-lt (m .lines) (λ k. getD (m .positions) k 0) i) (pow-mono {j = n} h)
-
+-- a map's answer in rows
 gathered-row : (m : Map) (i : ℕ) → gathered m (i % 256) + gathered m (i / 256 * 256) ≡ gathered m i
 unfolding gathered
 gathered-row m i = gather-row (m .lines) (λ k. getD (m .positions) k 0) i
@@ -36,22 +32,7 @@ table-at maps unit k q h l =
     let low : (k * 256 + q) % 256 ≡ q = omega arith in
     getD-tab (λ j. partBy maps (j / 256) (j % 256 * unit)) 1280 (k * 256 + q) 0 (omega arith) ∙ rw (high, low)
 
--- the bits that pick, the place that they pick, the address and the value
-module _ {r : Reading} (h : ReadingIn r) where
-  bits-few : (i : ℕ) → partBy (r .address) 4 i < 8
-  bits-few i = gathered-lt (getD (r .address) 4 noMap) i 3 (h .picks)
-
-  place : (i : ℕ) → romBy r i < 5
-  place i = h .places (partBy (r .address) 4 i) (bits-few i)
-
-  address-few : (i : ℕ) → addressBy r i < 2 ^ 32
-  address-few i = gathered-lt (getD (r .address) (romBy r i) noMap) i 32 (h .address-lines (romBy r i) (place i))
-
-  pub value-few : (stored : List ℕ) (i : ℕ) → valueBy r stored i < 2 ^ (8 * r .«word_bytes»)
-  unfolding valueBy
-  value-few stored i = gathered-lt (getD (r .«data_lines») (romBy r i) noMap) _ _ (h .data-lines (romBy r i) (place i))
-
--- they, as they are looked up
+-- what is said of an index, as it is looked up
 abbrev pub bitsFound : Row → List ℕ → ℕ → ℕ
 bitsFound row lows low = getD lows (1024 + low) 0 + getD (row .high) 4 0
 

@@ -11,6 +11,7 @@ use entry_words::Outcome;
 use entry_words::Reading;
 use lent_buffers::fill;
 use lent_buffers::first_missing;
+use word_read::read_words;
 ghost use mathlib.Core.Path.{_≡_};
 ghost use mathlib.Core.List.{_++_};
 ghost use Prim.Native.Nat.{_*_};
@@ -49,8 +50,8 @@ fn served(r: Reading, output: &mut [u8], marks: &mut [u8]) -> Outcome
     Outcome::Whole
 }
 
-// Reads the first entries of a table into words and their marks.
-pub fn collect(
+// Reads the entries in order, whatever they are for.
+fn collect_all(
     r: Reading,
     stored: &[u8],
     entries: u32,
@@ -70,4 +71,25 @@ pub fn collect(
         }
         Walked::Through => served(r, output, marks),
     }
+}
+
+// Reads the first entries of a table into words and their marks: word by word where it can, else entry by entry, so that what is at
+// fault is found in one place.
+pub fn collect(
+    r: Reading,
+    stored: &[u8],
+    entries: u32,
+    output: &mut [u8],
+    marks: &mut [u8],
+) -> Outcome
+    requires { ⌜ Lent r (now stored) (now output) (now marks) entries ⌝ }
+    ensures { λ x. ⌜ kept x (now (output .exit)) (now (marks .exit))
+        ≡ collectedOf (r .«word_bytes») (wordBy r) (valueBy r (now (stored .entry))) (r .words) entries (now (output .entry))
+        (now (marks .entry)) ⌝ }
+{
+    if read_words(r, stored, entries, output) {
+        fill(marks, r.words as usize, 1);
+        return Outcome::Whole;
+    }
+    collect_all(r, stored, entries, output, marks)
 }

@@ -5,19 +5,8 @@ use crate::row::Row;
 use crate::row::Walked;
 use crate::row::read_row;
 use entry_words::Reading;
-ghost use mathlib.Core.Path.{_≡_};
-ghost use Prim.Native.Nat.{min};
+use word_read::fewer;
 ghost use Rattle.table_read.specs.design.Held.{Onward, ReadBy};
-
-// The lower of two numbers.
-fn fewer(a: u32, b: u32) -> u32
-    ensures { λ r. ⌜ r ≡ min a b ⌝ }
-{
-    if a < b {
-        return a;
-    }
-    b
-}
 
 // Reads the entries up to the first that disagrees.
 pub fn walk(r: Reading, stored: &[u8], entries: u32, output: &mut [u8], marks: &mut [u8]) -> Walked

@@ -8,7 +8,8 @@ use lib.ListN.{length}
 use borrow.Author.Tests.{not-true, not-false}
 use Rattle.words.proofs.Words.{word-short, words-room}
 use Rattle.entry_words.specs.design.Reading.{wordBy, valueBy}
-use Rattle.table_read.proofs.Lookups.{Looked, value-few, index-few, low-few, lows-long, low-bytes-long, high-bytes-long, bits-in, rom-in, address-in, word-looked, value-looked, value-in}
+use Rattle.entry_words.proofs.Bounds.{value-few}
+use Rattle.table_read.proofs.Lookups.{Looked, index-few, low-few, lows-long, low-bytes-long, high-bytes-long, bits-in, rom-in, address-in, word-looked, value-looked, value-in}
 use Rattle.entry_words.specs.design.Lent.{Lent}
 use Rattle.table_read.specs.design.Held.{Held}
 use Rattle.table_read.proofs.Held.{Entry, held-skip, held-keep, held-bad, held-done, held-same}

@@ -1,0 +1,7 @@
+pub mod Turns
+pub mod Split
+pub mod Suited
+pub mod Entries
+pub mod Values
+pub mod Words
+pub mod Placed

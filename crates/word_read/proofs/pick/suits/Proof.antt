@@ -1,0 +1,38 @@
+-- `suits` meets its contract. Assumes nothing.
+use mathlib.Core.Path.{_≡_, refl, sym, _∙_, ap}
+use Prim.Native.Nat.{ℕ, _+_, _-_, _*_, _%_, _^_, _≤_, _<_}
+use native.Mathlib.Omega.{arith}
+use borrow.Author.Needs.{needs}
+use Rattle.lists.proofs.Loops.{zero-one}
+use Rattle.byte_tables.proofs.Tables.{one-up}
+use Rattle.word_read.proofs.Suited.{suits-told}
+use Rattle.word_read.proofs.pick.suits.Statement.{statement}
+use Rattle.word_read.proofs.pick.suits.Tie as tie
+
+returns : tie.Need-returns
+returns c z = absurd (zero-one cc)
+
+fits-requires : tie.Need-fits-requires
+fits-requires c κs = search needs
+
+shl-only : tie.Need-shl-only
+shl-only c = search needs
+
+only-requires : tie.Need-only-requires
+only-requires c κs = search needs
+
+cast-result : tie.Need-cast-result
+cast-result c = search needs
+
+shl-result : tie.Need-shl-result
+shl-result c = search needs
+
+returns-2 : tie.Need-returns-2
+returns-2 c =
+    let a = c .before .before .before .before .before .before .before .before .args in
+    suits-told (a .map) (a .picks) (a .order) (a .extent) (a .roms) (a .k) (a .b) (a .m) (a .forced) (a .high) (a .pins) _ _ _ _ (omega (arith, c .before .before .before .before .before .before .if1 .left)) (c .before .before .before .before .before .fits2 .ensures) (c .before .before .before .only .ensures) (one-up (a .picks .lines) 8 (omega arith)) (one-up (a .map .lines) 32 (omega arith))
+
+pub suits-spec : {M : Type 1} → statement M
+suits-spec =
+    tie.close
+    (tie.spec returns fits-requires shl-only only-requires cast-result shl-result returns-2)

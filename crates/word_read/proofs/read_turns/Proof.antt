@@ -1,0 +1,24 @@
+-- `read_turns` meets its contract. Assumes nothing.
+use mathlib.Core.Path.{_≡_, refl, sym, _∙_, ap}
+use Prim.Native.Nat.{ℕ, _+_, _-_, _*_, _%_, _^_, _≤_, _<_}
+use native.Mathlib.Omega.{arith}
+use borrow.Author.Needs.{needs}
+use Rattle.word_read.proofs.Turns.{turn-first, turn-long}
+use Rattle.word_read.proofs.read_turns.Statement.{statement}
+use Rattle.word_read.proofs.read_turns.Tie as tie
+
+write-words-requires : tie.Need-write-words-requires
+write-words-requires c κs = let p = c .before .before .before .before .before .before .before .pre in turn-first (p .1 0 (p .0))
+
+others-same-requires : tie.Need-others-same-requires
+others-same-requires c κs d l = turn-long _ (c .before .before .before .before .before .before .before .before .before .before .before .pre .1 d l) (c .before .before .before .write-words .kept .1 .1 .1 .1 .1 .1 .1 .0)
+
+same-length : tie.Need-same-length
+same-length c = search needs
+
+returns : tie.Need-returns
+returns c = search needs
+
+pub read-turns-spec : {M : Type 1} → statement M
+read-turns-spec =
+    tie.close (tie.spec write-words-requires others-same-requires same-length returns)

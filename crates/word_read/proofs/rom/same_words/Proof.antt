@@ -1,0 +1,108 @@
+-- `same_words` meets its contract. Assumes nothing.
+use mathlib.Core.Path.{_≡_, refl, sym, _∙_, ap}
+use Prim.Native.Nat.{ℕ, _+_, _-_, _*_, _%_, _^_, _≤_, _<_}
+use native.Mathlib.Omega.{arith}
+use mathlib.Core.Bool.{true}
+use Rattle.word_read.specs.design.Rom.{SameTurn, says}
+use Rattle.word_read.proofs.Turns.{row-in, row-compared}
+use borrow.Author.Needs.{needs}
+use Rattle.word_read.proofs.rom.same_words.Statement.{statement}
+use Rattle.word_read.proofs.rom.same_words.Tie as tie
+
+abbrev Inv-loop : tie.InvT-loop
+Inv-loop rom e positions lows low-bytes high-bytes stored output w ok₀ f₀ ok f =
+    (f ≤ rom .words)
+    × (f < rom .words → f % 256 ≡ 0)
+    × (ok ≡ true → SameTurn rom (λ a. says rom positions low-bytes high-bytes stored (e + a)) output f)
+
+abbrev μ-loop : tie.MeasureT-loop
+μ-loop rom e positions lows low-bytes high-bytes stored output w ok₀ f₀ ok f = rom .words - f
+
+cast-w : tie.Need-cast-w Inv-loop μ-loop
+cast-w c = search needs
+
+loop-holds : tie.Need-loop-holds Inv-loop μ-loop
+loop-holds c = (omega arith, λ l. refl, λ z a l. absurd (omega arith))
+
+sub-fewer : tie.Need-sub-fewer Inv-loop μ-loop
+sub-fewer c = search needs
+
+fewer-requires : tie.Need-fewer-requires Inv-loop μ-loop
+fewer-requires c κs = search needs
+
+-- what is known of a row
+module _ (c : tie.After-fewer Inv-loop μ-loop) where
+  abbrev start : tie.Start Inv-loop μ-loop
+  start = c .before .before .before .before .before .before .before .before .before .before .before .before
+
+  abbrev loop : tie.At-loop Inv-loop μ-loop
+  loop = c .before .before .before .before
+
+  some : loop .loop .f < start .args .rom .words
+  some = c .before .before .if1 .taken
+
+  first : loop .loop .f % 256 ≡ 0
+  first = loop .loop .inv .1 some
+
+  within : loop .loop .f + c .fewer .result ≤ start .args .rom .words
+  within = omega (arith, c .fewer .ensures, some)
+
+  -- but for the last row, it has 256
+  full : loop .loop .f + c .fewer .result < start .args .rom .words → (loop .loop .f + c .fewer .result) % 256 ≡ 0
+  full l = omega (arith, c .fewer .ensures, first)
+
+add-index-of : tie.Need-add-index-of Inv-loop μ-loop
+add-index-of c = record { fits = omega (arith, start c .pre .turn .few (loop c .loop .f) (some c)) }
+
+index-of-requires : tie.Need-index-of-requires Inv-loop μ-loop
+index-of-requires c κs = search needs
+
+add-same-row : tie.Need-add-same-row Inv-loop μ-loop
+add-same-row c = search needs
+
+cast-same-row : tie.Need-cast-same-row Inv-loop μ-loop
+cast-same-row c = search needs
+
+cast-same-row-2 : tie.Need-cast-same-row-2 Inv-loop μ-loop
+cast-same-row-2 c = search needs
+
+same-row-requires : tie.Need-same-row-requires Inv-loop μ-loop
+same-row-requires c κs =
+    let w = c .before .before in
+    let t = start w .pre in
+    (t .rom-in .width, row-in t _ _ _ (first w) (w .fewer .ensures) (c .before .index-of .ensures) _ (some w) refl)
+
+add-f : tie.Need-add-f Inv-loop μ-loop
+add-f c = search needs
+
+loop-less : tie.Need-loop-less Inv-loop μ-loop
+loop-less c = search needs
+
+loop-again : tie.Need-loop-again Inv-loop μ-loop
+loop-again c =
+    let w = c .before .before .before in
+    (within w, full w, row-compared (start w .pre) _ _ _ (first w) (w .fewer .ensures) (c .before .before .index-of .ensures) _ _ (loop w .loop .inv .2) (c .same-row .ensures))
+
+returns : tie.Need-returns Inv-loop μ-loop
+returns c z a l = c .before .before .loop .inv .2 z a (omega arith)
+
+pub same-words-spec : {M : Type 1} → statement M
+same-words-spec =
+    tie.close
+    (tie.spec
+    Inv-loop
+    μ-loop
+    cast-w
+    loop-holds
+    sub-fewer
+    fewer-requires
+    add-index-of
+    index-of-requires
+    add-same-row
+    cast-same-row
+    cast-same-row-2
+    same-row-requires
+    add-f
+    loop-less
+    loop-again
+    returns)

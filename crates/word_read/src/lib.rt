@@ -1,0 +1,187 @@
+// Entries of a table back into words, word by word: where each word has entries of its own, the first of them gives it, and the
+// others are held against it.
+mod rom; // a ROM's words, by turns
+mod pick; // whether a ROM's words have entries of their own
+
+use crate::pick::bits_for;
+use crate::pick::rom_of;
+use crate::pick::suits;
+use crate::rom::Rom;
+pub use crate::rom::fewer;
+use crate::rom::others_same;
+use crate::rom::write_words;
+use byte_tables::scatter_table;
+use entry_words::Map;
+use entry_words::Reading;
+use entry_words::byte_table;
+use index_order::order;
+ghost use mathlib.Core.Path.{_≡_};
+ghost use mathlib.Core.Bool.{true};
+ghost use Prim.Native.Nat.{ℕ, _+_, _*_, _^_, _≤_, _<_};
+ghost use lib.ListN.{getD, drop};
+ghost use Rattle.word_rows.specs.design.Wrote.{Wrote};
+ghost use Rattle.entry_words.specs.design.Reading.{noMap};
+ghost use Rattle.word_read.specs.design.Rom.{InOrder, SameTurn, Turn, lowsOf, romValue, says, turnStart};
+ghost use Rattle.word_read.specs.design.Words.{AllRead, Entries, Next, ReadIn, WordsRead, wordsOf};
+
+// Writes the words by the first turn. Whether the other turns say the same.
+fn read_turns(
+    rom: Rom,
+    positions: &[u8],
+    lows: &[u32],
+    low_bytes: &[u32],
+    high_bytes: &[u32],
+    stored: &[u8],
+    output: &mut [u8],
+) -> bool
+    requires { ⌜ (0 < rom .turns) × ((c : ℕ) → c < rom .turns
+        → Turn rom (now positions) (now lows) (now «low_bytes») (now «high_bytes») (now stored) (now output) (turnStart rom c)) ⌝ }
+    ensures { λ _. ⌜ Wrote (rom .«word_bytes»)
+        (λ a. says rom (now (positions .entry)) (now («low_bytes» .entry)) (now («high_bytes» .entry)) (now (stored .entry)) (rom .first + a))
+        (rom .start) (rom .words) (now (output .entry)) (now (output .exit)) ⌝ }
+    ensures { λ r. ⌜ (r ≡ true → (c : ℕ) → 1 ≤ c → c < rom .turns → SameTurn rom
+        (λ a. says rom (now (positions .entry)) (now («low_bytes» .entry)) (now («high_bytes» .entry)) (now (stored .entry)) (turnStart rom c + a))
+        (now (output .exit)) (rom .words)) ⌝ }
+{
+    write_words(
+        rom,
+        rom.first,
+        positions,
+        lows,
+        low_bytes,
+        high_bytes,
+        stored,
+        output,
+    );
+    others_same(rom, positions, lows, low_bytes, high_bytes, stored, output)
+}
+
+// Where the low bits of an order stand.
+fn lows_of(rom: Rom, order: Map) -> [u32; 256]
+    requires { ⌜ (rom .lines ≤ 31) × (rom .pins ≤ 31) ⌝ }
+    ensures { λ r. ⌜ r ≡ lowsOf rom (order .positions) ⌝ }
+{
+    let positions = order.positions;
+    scatter_table(&positions, rom.lines as usize, rom.pins as u32)
+}
+
+// Reads the words of a ROM whose entries are in order. Whether all entries agree.
+fn read_ordered(rom: Rom, order: Map, data_map: Map, stored: &[u8], output: &mut [u8]) -> bool
+    requires { ⌜ InOrder rom order «data_map» (now stored) (now output) ⌝ }
+    ensures { λ _. ⌜ Wrote (rom .«word_bytes») (λ a. romValue rom (order .positions) «data_map» (now (stored .entry)) (rom .first + a))
+        (rom .start) (rom .words) (now (output .entry)) (now (output .exit)) ⌝ }
+    ensures { λ r. ⌜ (r ≡ true → (c : ℕ) → 1 ≤ c → c < rom .turns → SameTurn rom
+        (λ a. romValue rom (order .positions) «data_map» (now (stored .entry)) (turnStart rom c + a))
+        (now (output .exit)) (rom .words)) ⌝ }
+{
+    let lows = lows_of(rom, order);
+    let low_bytes = byte_table(data_map, 0);
+    let high_bytes = byte_table(data_map, 8);
+    let positions = order.positions;
+    read_turns(
+        rom,
+        &positions,
+        &lows,
+        &low_bytes,
+        &high_bytes,
+        stored,
+        output,
+    )
+}
+
+// Reads the words of a ROM, where they have entries of their own. Whether they have, and all these agree.
+fn read_next(r: Reading, k: u8, m: u32, pins: u8, stored: &[u8], output: &mut [u8]) -> bool
+    requires { ⌜ Next r (now stored) (now output) pins k m × (0 < wordsOf r k) × (getD (r .address) k noMap .lines ≤ 28) ⌝ }
+    ensures { λ _. ⌜ drop (r .words * r .«word_bytes») (now (output .exit)) ≡ drop (r .words * r .«word_bytes») (now (output .entry)) ⌝ }
+    ensures { λ x. ⌜ (x ≡ true → WordsRead r (now (stored .entry)) (2 ^ pins) (k + 1) (m + wordsOf r k) (now (output .entry)) (now (output .exit))) ⌝ }
+{
+    let address = r.address;
+    let extents = r.extents;
+    let data_lines = r.data_lines;
+    let roms = r.roms;
+    let map = address[k as usize];
+    let picks = address[4];
+    let extent = extents[k as usize];
+    let ordered = order(map, picks, r.forced, pins);
+    let b = bits_for(roms, 1u8 << picks.lines, k);
+    if !suits(
+        map,
+        picks,
+        ordered,
+        extent,
+        roms,
+        k,
+        b,
+        m,
+        r.forced,
+        r.forced_high,
+        pins,
+    ) {
+        return false;
+    }
+    let rom = rom_of(
+        map,
+        picks,
+        ordered,
+        b,
+        extent,
+        pins,
+        r.forced_high,
+        r.word_bytes,
+    );
+    read_ordered(rom, ordered, data_lines[k as usize], stored, output)
+}
+
+// Reads the words of a ROM, if it has any.
+fn read_rom(r: Reading, k: u8, m: u32, pins: u8, stored: &[u8], output: &mut [u8]) -> bool
+    requires { ⌜ Next r (now stored) (now output) pins k m ⌝ }
+    ensures { λ _. ⌜ drop (r .words * r .«word_bytes») (now (output .exit)) ≡ drop (r .words * r .«word_bytes») (now (output .entry)) ⌝ }
+    ensures { λ x. ⌜ (x ≡ true → WordsRead r (now (stored .entry)) (2 ^ pins) (k + 1) (m + wordsOf r k) (now (output .entry)) (now (output .exit))) ⌝ }
+{
+    let address = r.address;
+    let extents = r.extents;
+    let map = address[k as usize];
+    let extent = extents[k as usize];
+    if extent.words == 0 {
+        return true;
+    }
+    if 28 < map.lines {
+        return false;
+    }
+    read_next(r, k, m, pins, stored, output)
+}
+
+// Reads the words of all ROMs, one after the other.
+fn read_roms(r: Reading, pins: u8, stored: &[u8], output: &mut [u8]) -> bool
+    requires { ⌜ ReadIn r (now stored) (now output) pins ⌝ }
+    ensures { λ _. ⌜ drop (r .words * r .«word_bytes») (now (output .exit)) ≡ drop (r .words * r .«word_bytes») (now (output .entry)) ⌝ }
+    ensures { λ x. ⌜ (x ≡ true → AllRead r (now (stored .entry)) (2 ^ pins) (now (output .entry)) (now (output .exit))) ⌝ }
+{
+    let extents = r.extents;
+    let mut m: u32 = 0;
+    let mut k: u8 = 0;
+    while k < 5 {
+        if !read_rom(r, k, m, pins, stored, output) {
+            return false;
+        }
+        m += extents[k as usize].words;
+        k += 1;
+    }
+    m == r.words
+}
+
+// Reads all words, where each has entries of its own. Whether it has, and all entries agree; if not, the words are open.
+pub fn read_words(r: Reading, stored: &[u8], entries: u32, output: &mut [u8]) -> bool
+    requires { ⌜ Entries r (now stored) (now output) entries ⌝ }
+    ensures { λ _. ⌜ drop (r .words * r .«word_bytes») (now (output .exit)) ≡ drop (r .words * r .«word_bytes») (now (output .entry)) ⌝ }
+    ensures { λ x. ⌜ (x ≡ true → AllRead r (now (stored .entry)) entries (now (output .entry)) (now (output .exit))) ⌝ }
+{
+    let pins = u32::trailing_zeros(entries);
+    if (31 < pins) | (r.word_bytes == 0) {
+        return false;
+    }
+    if entries != 1u32 << pins {
+        return false;
+    }
+    read_roms(r, pins as u8, stored, output)
+}
