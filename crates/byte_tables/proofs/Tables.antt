@@ -1,5 +1,5 @@
 -- Tables by doubling, for any numbers that are joined bit by bit. Assumes nothing.
-use mathlib.Core.Path.{_≡_, refl, sym, _∙_, ap}
+use mathlib.Core.Path.{_≡_, sym, _∙_}
 use mathlib.Core.List.{List}
 use Prim.Native.Nat.{ℕ, _+_, _-_, _*_, _%_, _^_, _≤_, _<_}
 use native.Mathlib.Nat.{zero-mul, one-mul}
@@ -10,12 +10,12 @@ use lib.ListN.{length, getD}
 use lib.Pow.{pow-add, pow-mono, shl-lt, shl-exact}
 use Rattle.lists.specs.Tab.{tab}
 use Rattle.lists.proofs.Tab.{tab-is}
-use Rattle.bits.specs.Bits.{bit, gather, scatter}
+use Rattle.bits.specs.Bits.{gather, scatter}
 use Rattle.bits.proofs.Or.{bit-or}
 use Rattle.bits.proofs.Bit.{bits-same}
 use Rattle.bits.proofs.Back.{bit-gather}
 use Rattle.bits.proofs.Gathered.{gather-lt, gather-zero}
-use Rattle.bits.proofs.Scattered.{scatter-zero, scatter-split}
+use Rattle.bits.proofs.Scattered.{scatter-split}
 use Rattle.byte_tables.specs.design.Doubled.{Doubled}
 
 -- 1 << k, in 64 bits and in 32

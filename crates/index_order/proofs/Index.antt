@@ -1,12 +1,12 @@
 -- An index and its bits in another order. Assumes nothing.
-use mathlib.Core.Path.{_≡_, refl, sym, _∙_, ap}
+use mathlib.Core.Path.{_≡_, sym, _∙_, ap}
 use mathlib.Core.Logic.{inl, inr}
-use Prim.Native.Nat.{ℕ, zero, suc, _+_, _-_, _*_, _/_, _%_, _^_, _≤_, _<_, min, max}
-use native.Mathlib.Nat.{pow-suc, div-one, lt-of-le-of-lt, le-of-suc-le-suc, eq-or-lt-of-le, mod-eq-of-lt}
+use Prim.Native.Nat.{ℕ, zero, suc, _-_, _/_, _%_, _^_, _<_, min, max}
+use native.Mathlib.Nat.{pow-suc, div-one, lt-of-le-of-lt, le-of-suc-le-suc, eq-or-lt-of-le}
 use native.Mathlib.Decide.{decLt}
 use native.Mathlib.Omega.{arith}
 use lib.Arith.{digits-mod}
-use lib.Bits.{bitAnd, bitOr, or-lt, and-step, and-shr, and-le-r, or-add-and, and-le-l}
+use lib.Bits.{bitAnd, or-lt, and-step, and-shr, and-le-r, or-add-and, and-le-l}
 use lib.Pow.{pow-pos}
 use Rattle.bits.specs.Bits.{bit, gather, scatter}
 use Rattle.bits.proofs.Or.{bit-or, bit-half}

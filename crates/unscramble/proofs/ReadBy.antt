@@ -28,7 +28,7 @@ use Rattle.stored_slot.specs.Stored.{romAt, wordBytes, addrBase, storedDataBase
 use Rattle.unscramble.specs.Words.{romPicked, addressAt, valueAt}
 use Rattle.stored_slot.specs.Words.{romWords, wordsBefore, allWords, storedPickPosition}
 use Rattle.unscramble.proofs.WordAt.{wordOf, wordAt, saidOf, saidAt}
-use Rattle.unscramble.specs.design.Reading.{Readable, readMap, pickMap, noLines, placeMap, addressMap, dataMap, romPlace, extentOf, readingOf}
+use Rattle.unscramble.specs.design.Reading.{Readable, readMap, pickMap, noLines, addressMap, dataMap, romPlace, extentOf, readingOf}
 use Rattle.stored_slot.specs.declared.stored.StoredSlot.{StoredSlot}
 use Rattle.stored_slot.proofs.Listed.{listed-most}
 use Rattle.unscramble.proofs.Flat.{before-le, before-next}

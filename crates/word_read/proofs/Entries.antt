@@ -1,7 +1,7 @@
 -- The entries of a ROM's words: in each turn there is one for each word, and there are no others. Assumes nothing.
 use mathlib.Core.Path.{_≡_, refl, sym, _∙_, ap}
 use mathlib.Core.Bool.{Bool, true, false, cond, _&&_}
-use Prim.Native.Nat.{ℕ, _+_, _-_, _*_, _/_, _%_, _^_, _≤_, _<_}
+use Prim.Native.Nat.{ℕ, _+_, _*_, _/_, _%_, _^_, _<_}
 use native.Mathlib.Nat.{lt-of-lt-of-le}
 use native.Mathlib.Omega.{arith}
 use mathlib.Core.List.{List}
@@ -9,13 +9,12 @@ use lib.Bits.{bitAnd}
 use lib.Dec.{ltb, eqb}
 use lib.ListN.{getD}
 use borrow.Author.Tests.{ltb-true, eqb-true, lt-ltb, eq-eqb}
-use Rattle.lists.proofs.Bools.{both}
 use Rattle.bits.specs.Bits.{gather}
 use Rattle.bits.proofs.Gathered.{gather-lt}
 use Rattle.index_order.specs.design.Order.{Ordered, at}
 use Rattle.index_order.proofs.Index.{index-lt, index-back, index-forced, index-whole}
 use Rattle.words.specs.Words.{entryWord}
-use Rattle.entry_words.specs.design.Reading.{gathered, noMap, noExtent, partBy, romBy, addressBy, extentBy, wordBy, valueBy, ReadingIn}
+use Rattle.entry_words.specs.design.Reading.{gathered, noMap, noExtent, partBy, romBy, addressBy, extentBy, wordBy, valueBy}
 use Rattle.entry_words.specs.declared.Map.{Map}
 use Rattle.entry_words.specs.declared.Extent.{Extent}
 use Rattle.entry_words.specs.declared.Reading.{Reading}

@@ -1,14 +1,11 @@
 -- An order's bits: an address, what picks, and a turn. Assumes nothing.
-use mathlib.Core.Path.{_≡_, refl, sym, _∙_, ap}
-use mathlib.Core.List.{List}
+use mathlib.Core.Path.{_≡_, sym, _∙_, ap}
 use Prim.Native.Nat.{ℕ, _+_, _-_, _*_, _/_, _%_, _^_, _≤_, _<_}
-use native.Mathlib.Nat.{add-mul, mul-assoc, mod-lt, lt-of-lt-of-le, zero-mul}
+use native.Mathlib.Nat.{add-mul, mul-assoc, mod-lt}
 use native.Mathlib.Omega.{arith}
 use lib.Arith.{digits-lt}
 use lib.Bits.{bitOr}
-use lib.ListN.{getD}
 use lib.Pow.{pow-add, pow-pos, shr-shr, shr-lt, split, high, low}
-use Rattle.lists.proofs.Tab.{getD-tab}
 use Rattle.bits.specs.Bits.{bit, gather, scatter}
 use Rattle.bits.proofs.Or.{or-assoc}
 use Rattle.bits.proofs.Bit.{bit-mod, bits-same}

@@ -1,13 +1,13 @@
 -- What the tables of an entry's bytes say is what its data lines say. Assumes nothing.
-use mathlib.Core.Path.{_≡_, refl, sym, _∙_, ap}
+use mathlib.Core.Path.{_≡_, sym, _∙_, ap}
 use mathlib.Core.List.{List}
-use Prim.Native.Nat.{ℕ, _+_, _*_, _/_, _%_, _^_, _≤_, _<_}
+use Prim.Native.Nat.{ℕ, _*_, _/_, _%_, _^_, _≤_, _<_}
 use native.Mathlib.Nat.{mul-one}
 use native.Mathlib.Omega.{arith}
 use lib.Bits.{bitOr, or-comm, or-shifted}
-use lib.ListN.{length, getD}
+use lib.ListN.{getD}
 use Rattle.lists.specs.Tab.{tab}
-use Rattle.lists.proofs.Tab.{getD-tab, tab-length}
+use Rattle.lists.proofs.Tab.{getD-tab}
 use Rattle.bits.specs.Bits.{gather}
 use Rattle.byte_tables.proofs.Tables.{gather-or}
 use Rattle.words.specs.Words.{entryWord}

@@ -4,7 +4,7 @@ use mathlib.Core.Bool.{Bool, true, false, cond, not, _&&_}
 use mathlib.Core.Logic.{inl, inr}
 use mathlib.Core.List.{List, _++_}
 use Prim.Native.Nat.{ℕ, zero, suc, _+_, _-_, _*_, _^_, _≤_, _<_}
-use native.Mathlib.Nat.{le-of-suc-le-suc, eq-or-lt-of-le, add-mul, mul-comm}
+use native.Mathlib.Nat.{le-of-suc-le-suc, eq-or-lt-of-le, add-mul}
 use native.Mathlib.Numerals.{add-one}
 use native.Mathlib.Decide.{decLt}
 use native.Mathlib.Omega.{arith}
@@ -12,21 +12,21 @@ use lib.Dec.{ltb, eqb}
 use lib.ListN.{length, getD, drop}
 use lib.Pow.{pow-pos}
 use lib.Seq.{drop-append-add, drop-drop}
-use borrow.Author.Tests.{lt-ltb, le-ltb, ltb-true, ltb-false, eqb-true, eq-eqb}
-use Rattle.lists.proofs.First.{first-one, first-found, first-passes, never-both}
+use borrow.Author.Tests.{lt-ltb, le-ltb, ltb-true, eqb-true, eq-eqb}
+use Rattle.lists.proofs.First.{first-one, first-found, first-passes}
 use Rattle.words.specs.Words.{wordsBytes, chipWord}
 use Rattle.words.proofs.Words.{words-length, words-cong, words-none}
 use Rattle.words.proofs.Back.{word-of-words}
 use Rattle.word_rows.specs.design.Wrote.{Wrote}
 use Rattle.entry_words.specs.design.Kept.{firstAt, told, valueAfter, disagrees, firstBad, firstMissing, outcomeOf}
-use Rattle.entry_words.specs.design.Reading.{ReadingIn, gathered, noMap, noExtent, romBy, addressBy, extentBy, wordBy, valueBy}
+use Rattle.entry_words.specs.design.Reading.{ReadingIn, noMap, noExtent, romBy, addressBy, extentBy, wordBy, valueBy}
 use Rattle.entry_words.specs.declared.Map.{Map}
 use Rattle.entry_words.specs.declared.Extent.{Extent}
 use Rattle.entry_words.specs.declared.Reading.{Reading}
-use Rattle.entry_words.specs.declared.Outcome.the-variants.{Whole, Disagrees, Missing}
+use Rattle.entry_words.specs.declared.Outcome.the-variants.{Whole}
 use Rattle.entry_words.proofs.Bounds.{place, value-few}
 use Rattle.entry_words.proofs.Whole.{disagrees-first}
-use Rattle.word_read.specs.design.Rom.{Suits, SameTurn, romOf, romIndex, romValue, turnStart}
+use Rattle.word_read.specs.design.Rom.{SameTurn, romValue, turnStart}
 use Rattle.word_read.specs.design.Words.{WordsRead, ReadIn, AllRead, wordsOf}
 use Rattle.word_read.proofs.Turns.{first-turn}
 use Rattle.word_read.proofs.Entries.{Placed, counted, rom, index, entry-lt, word-there, value-there, turn, turn-in, turn-is}

@@ -5,9 +5,7 @@ use word_rows::write_row;
 ghost use mathlib.Core.Path.{_≡_};
 ghost use mathlib.Core.Bool.{true};
 ghost use Prim.Native.Nat.{ℕ, _+_, _≤_, _<_, min};
-ghost use lib.ListN.{getD};
 ghost use Rattle.word_rows.specs.design.Wrote.{Wrote};
-ghost use Rattle.index_order.specs.design.Order.{indexOf};
 ghost use Rattle.word_read.specs.design.Rom.{SameTurn, Turn, romIndex, says, turnStart};
 
 // The numbers of a ROM.

@@ -1,17 +1,17 @@
 -- One word more of a row, written or compared. Assumes nothing.
-use mathlib.Core.Path.{_≡_, refl, sym, _∙_, ap}
+use mathlib.Core.Path.{_≡_, sym, _∙_}
 use mathlib.Core.Bool.{Bool, true, _&&_}
 use mathlib.Core.Logic.{_⊎_, inl, inr}
 use mathlib.Core.List.{List, _++_}
-use Prim.Native.Nat.{ℕ, _+_, _*_, _≤_, _<_}
+use Prim.Native.Nat.{ℕ, _+_, _*_, _<_}
 use native.Mathlib.Nat.{add-zero, le-of-suc-le-suc, eq-or-lt-of-le}
 use native.Mathlib.Numerals.{add-one}
 use native.Mathlib.Omega.{arith}
 use lib.Dec.{eqb}
-use lib.ListN.{length, take, drop}
+use lib.ListN.{take, drop}
 use borrow.Author.Tests.{eqb-true}
 use Rattle.lists.proofs.Bools.{both}
-use Rattle.words.specs.Words.{bytesOf, wordsBytes, chipWord}
+use Rattle.words.specs.Words.{bytesOf}
 use Rattle.words.proofs.Words.{words-turn}
 use Rattle.word_rows.specs.design.Wrote.{Wrote}
 

@@ -1,9 +1,8 @@
 -- `scatter_table` meets its contract. The loop's invariant: the entries below 2 ^ k are in place. Assumes nothing.
 use mathlib.Core.Path.{refl, ap, _∙_}
-use Prim.Native.Nat.{_+_, _-_, _*_, _^_}
+use Prim.Native.Nat.{_-_}
 use native.Mathlib.Omega.{arith}
 use lib.ListN.{getD}
-use lib.Pow.{pow-add}
 use Rattle.bits.specs.Bits.{scatter}
 use Rattle.bits.proofs.Scattered.{scatter-zero}
 use Rattle.byte_tables.proofs.Tables.{Half, half-none, half-turn, half-done, one-up, room-again, scatter-joins}

@@ -1,6 +1,6 @@
 -- `fits` meets its contract. Assumes nothing.
-use mathlib.Core.Path.{_≡_, refl, sym, _∙_, ap}
-use Prim.Native.Nat.{ℕ, _+_, _-_, _*_, _%_, _^_, _≤_, _<_}
+use mathlib.Core.Path.{ap}
+use Prim.Native.Nat.{ℕ, _-_}
 use native.Mathlib.Omega.{arith}
 use borrow.Author.Needs.{needs}
 use lib.Pow.{pow-pos}
@@ -8,21 +8,6 @@ use Rattle.byte_tables.proofs.Tables.{one-up}
 use Rattle.index_order.proofs.Places.{fits-told}
 use Rattle.index_order.proofs.fits.Statement.{statement}
 use Rattle.index_order.proofs.fits.Tie as tie
-
-mask-requires : tie.Need-mask-requires
-mask-requires c κs = search needs
-
-slice-aggregate-apart : tie.Need-slice-aggregate-apart
-slice-aggregate-apart c = search needs
-
-cast-apart : tie.Need-cast-apart
-cast-apart c = search needs
-
-apart-requires : tie.Need-apart-requires
-apart-requires c κs = search needs
-
-shl-result : tie.Need-shl-result
-shl-result c = search needs
 
 sub-result : tie.Need-sub-result
 sub-result c =
@@ -38,10 +23,10 @@ pub fits-spec : {M : Type 1} → statement M
 fits-spec =
     tie.close
     (tie.spec
-    mask-requires
-    slice-aggregate-apart
-    cast-apart
-    apart-requires
-    shl-result
+    (λ c κs. search needs)
+    (λ c. search needs)
+    (λ c. search needs)
+    (λ c κs. search needs)
+    (λ c. search needs)
     sub-result
     returns)

@@ -1,6 +1,6 @@
 -- `mask` meets its contract. Assumes nothing.
-use mathlib.Core.Path.{_≡_, refl, sym, _∙_, ap}
-use Prim.Native.Nat.{ℕ, _+_, _-_, _*_, _%_, _^_, _≤_, _<_}
+use mathlib.Core.Path.{_∙_, ap}
+use Prim.Native.Nat.{ℕ, _-_}
 use native.Mathlib.Omega.{arith}
 use borrow.Author.Needs.{needs}
 use Rattle.index_order.specs.design.Order.{at}
@@ -10,25 +10,10 @@ use Rattle.byte_tables.proofs.Tables.{one-up}
 use Rattle.index_order.proofs.mask.Statement.{statement}
 use Rattle.index_order.proofs.mask.Tie as tie
 
-cast-ones : tie.Need-cast-ones
-cast-ones c = search needs
-
-shl-ones : tie.Need-shl-ones
-shl-ones c = search needs
-
 sub-ones : tie.Need-sub-ones
 sub-ones c =
     let n = c .before .args .map .lines in
     omega (arith, one-up n 32 (omega arith), pow-pos n)
-
-slice-aggregate-scatter : tie.Need-slice-aggregate-scatter
-slice-aggregate-scatter c = search needs
-
-cast-scatter : tie.Need-cast-scatter
-cast-scatter c = search needs
-
-scatter-requires : tie.Need-scatter-requires
-scatter-requires c κs = search needs
 
 returns : tie.Need-returns
 returns c =
@@ -40,10 +25,10 @@ pub mask-spec : {M : Type 1} → statement M
 mask-spec =
     tie.close
     (tie.spec
-    cast-ones
-    shl-ones
+    (λ c. search needs)
+    (λ c. search needs)
     sub-ones
-    slice-aggregate-scatter
-    cast-scatter
-    scatter-requires
+    (λ c. search needs)
+    (λ c. search needs)
+    (λ c κs. search needs)
     returns)

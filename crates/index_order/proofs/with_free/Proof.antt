@@ -1,7 +1,5 @@
--- `with_free` meets its contract. Assumes nothing.
-use mathlib.Core.Path.{_≡_, refl, sym, _∙_, ap}
-use Prim.Native.Nat.{ℕ, _+_, _-_, _*_, _%_, _^_, _≤_, _<_}
-use native.Mathlib.Omega.{arith}
+-- `with_free` meets its contract. The loop's invariant: the lines that there were stand first. Assumes nothing.
+use Prim.Native.Nat.{_-_}
 use borrow.Author.Needs.{needs}
 use Rattle.index_order.specs.design.Order.{Extends}
 use Rattle.index_order.proofs.Places.{extends-none, extends-more}
@@ -17,18 +15,6 @@ abbrev μ-loop : tie.MeasureT-loop
 loop-holds : tie.Need-loop-holds Inv-loop μ-loop
 loop-holds c = extends-none _
 
-bit-at-requires : tie.Need-bit-at-requires Inv-loop μ-loop
-bit-at-requires c κs = search needs
-
-push-free-requires : tie.Need-push-free-requires Inv-loop μ-loop
-push-free-requires c κs = search needs
-
-add-p : tie.Need-add-p Inv-loop μ-loop
-add-p c = search needs
-
-loop-less : tie.Need-loop-less Inv-loop μ-loop
-loop-less c = search needs
-
 loop-again : tie.Need-loop-again Inv-loop μ-loop
 loop-again c = extends-more _ _ _ (c .before .before .before .loop .inv) (c .push-free .ensures)
 
@@ -42,9 +28,9 @@ with-free-spec =
     Inv-loop
     μ-loop
     loop-holds
-    bit-at-requires
-    push-free-requires
-    add-p
-    loop-less
+    (λ c κs. search needs)
+    (λ c κs. search needs)
+    (λ c. search needs)
+    (λ c. search needs)
     loop-again
     returns)

@@ -5,7 +5,6 @@ use borrow.Author.Needs.{needs}
 use Rattle.entry_words.specs.design.Reading.{wordBy, valueBy}
 use Rattle.entry_words.specs.declared.Reading.{Reading}
 use Rattle.table_read.specs.design.Held.{Held}
-use Rattle.entry_words.specs.design.Lent.{Room}
 use Rattle.table_read.proofs.Held.{held-own, same-room}
 use Rattle.table_read.proofs.Cleared.{held-none}
 use Rattle.table_read.proofs.Collected.{collected-bad, collected-served}

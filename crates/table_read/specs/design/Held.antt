@@ -1,6 +1,6 @@
 -- The entries in turn: what they are given, what the buffers hold of those passed, and what a walk over them answers. Assumes nothing.
 use mathlib.Core.Path.{_≡_}
-use Prim.Native.Nat.{ℕ, _+_, _*_, _^_, _≤_}
+use Prim.Native.Nat.{ℕ, _+_, _*_}
 use mathlib.Core.List.{List}
 use lib.ListN.{length, drop}
 use Rattle.entry_words.specs.design.Reading.{wordBy, valueBy}

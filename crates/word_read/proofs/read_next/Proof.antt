@@ -1,6 +1,5 @@
--- `read_next` meets its contract. Assumes nothing.
-use mathlib.Core.Path.{_≡_, refl, sym, _∙_, ap}
-use Prim.Native.Nat.{ℕ, _+_, _-_, _*_, _%_, _^_, _≤_, _<_}
+-- `read_next` meets its contract. The tests say that the ROM's entries are in order; the turns then give its words. Assumes nothing.
+use mathlib.Core.Path.{refl}
 use native.Mathlib.Omega.{arith}
 use borrow.Author.Needs.{needs}
 use borrow.Author.Tests.{not-false}
@@ -10,33 +9,6 @@ use Rattle.word_read.proofs.Placed.{in-order}
 use Rattle.word_read.proofs.Words.{rom-rest, rom-read}
 use Rattle.word_read.proofs.read_next.Statement.{statement}
 use Rattle.word_read.proofs.read_next.Tie as tie
-
-mul-map : tie.Need-mul-map
-mul-map c = search needs
-
-array-copy-out-map : tie.Need-array-copy-out-map
-array-copy-out-map c = search needs
-
-array-copy-out-picks : tie.Need-array-copy-out-picks
-array-copy-out-picks c = search needs
-
-mul-extent : tie.Need-mul-extent
-mul-extent c = search needs
-
-array-copy-out-extent : tie.Need-array-copy-out-extent
-array-copy-out-extent c = search needs
-
-order-requires : tie.Need-order-requires
-order-requires c κs = search needs
-
-shl-bits-for : tie.Need-shl-bits-for
-shl-bits-for c = search needs
-
-bits-for-requires : tie.Need-bits-for-requires
-bits-for-requires c κs = search needs
-
-suits-requires : tie.Need-suits-requires
-suits-requires c κs = search needs
 
 -- what is known past the tests
 module _ (c : tie.Else1) where
@@ -67,9 +39,6 @@ read-ordered-requires c κs =
     let s = start else .pre in
     rw (c .before .before .rom-of .ensures) (in-order (placed else) (s .0 .read-in) (s .0 .place) (s .1))
 
-same-length : tie.Need-same-length
-same-length c = search needs
-
 returns-2 : tie.Need-returns-2
 returns-2 c =
     let read = c .before .before in
@@ -83,19 +52,19 @@ pub read-next-spec : {M : Type 1} → statement M
 read-next-spec =
     tie.close
     (tie.spec
-    mul-map
-    array-copy-out-map
-    array-copy-out-picks
-    mul-extent
-    array-copy-out-extent
-    order-requires
-    shl-bits-for
-    bits-for-requires
-    suits-requires
+    (λ c. search needs)
+    (λ c. search needs)
+    (λ c. search needs)
+    (λ c. search needs)
+    (λ c. search needs)
+    (λ c κs. search needs)
+    (λ c. search needs)
+    (λ c κs. search needs)
+    (λ c κs. search needs)
     returns
     rom-of-requires
     mul-read-ordered
     array-copy-out-read-ordered
     read-ordered-requires
-    same-length
+    (λ c. search needs)
     returns-2)

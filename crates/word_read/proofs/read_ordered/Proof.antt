@@ -1,6 +1,6 @@
 -- `read_ordered` meets its contract. Assumes nothing.
-use mathlib.Core.Path.{_≡_, refl, sym, _∙_, ap}
-use Prim.Native.Nat.{ℕ, _+_, _-_, _*_, _%_, _^_, _≤_, _<_}
+use mathlib.Core.Path.{sym, _∙_}
+use Prim.Native.Nat.{ℕ, _+_, _<_}
 use native.Mathlib.Omega.{arith}
 use lib.ListN.{getD}
 use borrow.Author.Needs.{needs}
@@ -12,34 +12,10 @@ use Rattle.word_read.proofs.Values.{says-value}
 use Rattle.word_read.proofs.read_ordered.Statement.{statement}
 use Rattle.word_read.proofs.read_ordered.Tie as tie
 
-lows-of-requires : tie.Need-lows-of-requires
-lows-of-requires c κs = search needs
-
-byte-table-requires : tie.Need-byte-table-requires
-byte-table-requires c κs = search needs
-
-byte-table-requires-2 : tie.Need-byte-table-requires-2
-byte-table-requires-2 c κs = search needs
-
-slice-aggregate-read-turns : tie.Need-slice-aggregate-read-turns
-slice-aggregate-read-turns c = search needs
-
-slice-aggregate-read-turns-2 : tie.Need-slice-aggregate-read-turns-2
-slice-aggregate-read-turns-2 c = search needs
-
-slice-aggregate-read-turns-3 : tie.Need-slice-aggregate-read-turns-3
-slice-aggregate-read-turns-3 c = search needs
-
-slice-aggregate-read-turns-4 : tie.Need-slice-aggregate-read-turns-4
-slice-aggregate-read-turns-4 c = search needs
-
 read-turns-requires : tie.Need-read-turns-requires
 read-turns-requires c κs =
     let p = c .before .before .before .before .before .before .before .before .before .before .before .pre in
     (p .some, order-turns p _ _ _ (c .before .before .before .before .before .before .before .before .lows-of .ensures) (rw (c .before .before .before .before .before .before .before .byte-table .ensures) (tab-length _ 256)) (rw (c .before .before .before .before .before .before .byte-table2 .ensures) (tab-length _ 256)))
-
-same-length : tie.Need-same-length
-same-length c = search needs
 
 returns : tie.Need-returns
 returns c =
@@ -54,13 +30,13 @@ pub read-ordered-spec : {M : Type 1} → statement M
 read-ordered-spec =
     tie.close
     (tie.spec
-    lows-of-requires
-    byte-table-requires
-    byte-table-requires-2
-    slice-aggregate-read-turns
-    slice-aggregate-read-turns-2
-    slice-aggregate-read-turns-3
-    slice-aggregate-read-turns-4
+    (λ c κs. search needs)
+    (λ c κs. search needs)
+    (λ c κs. search needs)
+    (λ c. search needs)
+    (λ c. search needs)
+    (λ c. search needs)
+    (λ c. search needs)
     read-turns-requires
-    same-length
+    (λ c. search needs)
     returns)

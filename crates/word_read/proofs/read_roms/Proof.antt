@@ -1,6 +1,6 @@
--- `read_roms` meets its contract. Assumes nothing.
-use mathlib.Core.Path.{_≡_, refl, sym, _∙_, ap}
-use Prim.Native.Nat.{ℕ, _+_, _-_, _*_, _%_, _^_, _≤_, _<_}
+-- `read_roms` meets its contract. The loop's invariant: the words of the ROMs passed are read. Assumes nothing.
+use mathlib.Core.Path.{_≡_, refl, _∙_}
+use Prim.Native.Nat.{_-_, _^_, _≤_}
 use native.Mathlib.Omega.{arith}
 use borrow.Author.Needs.{needs}
 use lib.ListN.{length}
@@ -31,35 +31,17 @@ same-length c = c .before .before .before .read-rom .kept .1 .1 .1 .1 .1 .0 ∙ 
 returns : tie.Need-returns Inv-loop μ-loop
 returns c = (c .before .before .before .read-rom .ensures .0 ∙ read-rest (c .before .before .before .before .before .before .loop .inv .2), λ z. absurd (zero-one cc))
 
-cast-m : tie.Need-cast-m Inv-loop μ-loop
-cast-m c = search needs
-
-mul-m : tie.Need-mul-m Inv-loop μ-loop
-mul-m c = search needs
-
-element-copy-out-m : tie.Need-element-copy-out-m Inv-loop μ-loop
-element-copy-out-m c = search needs
-
 add-m : tie.Need-add-m Inv-loop μ-loop
 add-m c =
     let l = c .before .before .before .before .before .before .loop in
     let h = c .before .before .before .before .before .before .before .before .before .before .pre .reading in
     record { fits = omega (arith, l .inv .2 .within, h .extents (l .k) (c .before .before .before .before .before .loop-test .taken), h .few) }
 
-add-k : tie.Need-add-k Inv-loop μ-loop
-add-k c = search needs
-
-loop-less : tie.Need-loop-less Inv-loop μ-loop
-loop-less c = search needs
-
 loop-again : tie.Need-loop-again Inv-loop μ-loop
 loop-again c =
     let l = c .before .before .before .before .before .before .loop in
     let read = c .before .before .before .read-rom in
     (omega arith, read .kept .1 .1 .1 .1 .1 .0 ∙ l .inv .1, read-on _ _ _ (l .inv .2) (read .ensures .1 (not-false _ (c .if1 .left))))
-
-same-length-2 : tie.Need-same-length-2 Inv-loop μ-loop
-same-length-2 c = search needs
 
 returns-2 : tie.Need-returns-2 Inv-loop μ-loop
 returns-2 c =
@@ -77,12 +59,12 @@ read-roms-spec =
     read-rom-requires
     same-length
     returns
-    cast-m
-    mul-m
-    element-copy-out-m
+    (λ c. search needs)
+    (λ c. search needs)
+    (λ c. search needs)
     add-m
-    add-k
-    loop-less
+    (λ c. search needs)
+    (λ c. search needs)
     loop-again
-    same-length-2
+    (λ c. search needs)
     returns-2)

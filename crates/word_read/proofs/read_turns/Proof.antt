@@ -1,7 +1,4 @@
 -- `read_turns` meets its contract. Assumes nothing.
-use mathlib.Core.Path.{_≡_, refl, sym, _∙_, ap}
-use Prim.Native.Nat.{ℕ, _+_, _-_, _*_, _%_, _^_, _≤_, _<_}
-use native.Mathlib.Omega.{arith}
 use borrow.Author.Needs.{needs}
 use Rattle.word_read.proofs.Turns.{turn-first, turn-long}
 use Rattle.word_read.proofs.read_turns.Statement.{statement}
@@ -13,12 +10,9 @@ write-words-requires c κs = let p = c .before .before .before .before .before .
 others-same-requires : tie.Need-others-same-requires
 others-same-requires c κs d l = turn-long _ (c .before .before .before .before .before .before .before .before .before .before .before .pre .1 d l) (c .before .before .before .write-words .kept .1 .1 .1 .1 .1 .1 .1 .0)
 
-same-length : tie.Need-same-length
-same-length c = search needs
-
 returns : tie.Need-returns
-returns c = search needs
+returns c = (c .before .before .before .before .write-words .ensures, c .others-same .ensures)
 
 pub read-turns-spec : {M : Type 1} → statement M
 read-turns-spec =
-    tie.close (tie.spec write-words-requires others-same-requires same-length returns)
+    tie.close (tie.spec write-words-requires others-same-requires (λ c. search needs) returns)

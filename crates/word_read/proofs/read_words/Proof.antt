@@ -1,6 +1,6 @@
--- `read_words` meets its contract. Assumes nothing.
-use mathlib.Core.Path.{_≡_, refl, sym, _∙_, ap}
-use Prim.Native.Nat.{ℕ, _+_, _-_, _*_, _%_, _^_, _≤_, _<_}
+-- `read_words` meets its contract. The tests say that there are as many entries as some bits tell apart. Assumes nothing.
+use mathlib.Core.Path.{_≡_, refl, sym, _∙_}
+use Prim.Native.Nat.{_^_, _≤_}
 use native.Mathlib.Omega.{arith}
 use borrow.Author.Needs.{needs}
 use lib.Count.{trailingZeros}
@@ -35,9 +35,6 @@ read-roms-requires c κs =
     let t = few (c .before .before) in
     record { reading = p .reading; width = width-of _ (p .reading .bytes) (t .1); pins-in = t .0; stored-in = rw (sym (count (c .before))) (p .stored-in); room = p .room }
 
-same-length : tie.Need-same-length
-same-length c = search needs
-
 returns-3 : tie.Need-returns-3
 returns-3 c =
     let read = c .before .before in
@@ -46,4 +43,4 @@ returns-3 c =
 pub read-words-spec : {M : Type 1} → statement M
 read-words-spec =
     tie.close
-    (tie.spec returns shl-if2 returns-2 cast-read-roms read-roms-requires same-length returns-3)
+    (tie.spec returns shl-if2 returns-2 cast-read-roms read-roms-requires (λ c. search needs) returns-3)

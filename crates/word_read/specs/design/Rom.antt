@@ -9,7 +9,7 @@ use Rattle.lists.specs.Tab.{tab}
 use Rattle.bits.specs.Bits.{scatter}
 use Rattle.words.specs.Words.{chipWord, entryWord}
 use Rattle.word_rows.specs.design.Wrote.{Tables, saidBy}
-use Rattle.index_order.specs.design.Order.{Fits, Ordered, at, indexOf}
+use Rattle.index_order.specs.design.Order.{Fits, at, indexOf}
 use Rattle.entry_words.specs.design.Reading.{gathered}
 use Rattle.entry_words.specs.declared.Map.{Map}
 use Rattle.entry_words.specs.declared.Extent.{Extent}

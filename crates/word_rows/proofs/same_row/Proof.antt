@@ -1,8 +1,4 @@
 -- `same_row` meets its contract. Assumes nothing.
-use mathlib.Core.Path.{_≡_, refl, sym, _∙_, ap}
-use Prim.Native.Nat.{ℕ, _+_, _-_, _*_, _%_, _^_, _≤_, _<_}
-use native.Mathlib.Omega.{arith}
-use borrow.Author.Needs.{needs}
 use Rattle.word_rows.proofs.Rows.{two}
 use Rattle.word_rows.proofs.same_row.Statement.{statement}
 use Rattle.word_rows.proofs.same_row.Tie as tie

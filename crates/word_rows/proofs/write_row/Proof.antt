@@ -1,7 +1,4 @@
 -- `write_row` meets its contract. Assumes nothing.
-use mathlib.Core.Path.{_≡_, refl, sym, _∙_, ap}
-use Prim.Native.Nat.{ℕ, _+_, _-_, _*_, _%_, _^_, _≤_, _<_}
-use native.Mathlib.Omega.{arith}
 use borrow.Author.Needs.{needs}
 use Rattle.word_rows.proofs.Rows.{two}
 use Rattle.word_rows.proofs.write_row.Statement.{statement}
@@ -13,14 +10,8 @@ write-bytes-requires c κs = rw (c .before .if1 .taken) at (c .before .before .b
 write-pairs-requires : tie.Need-write-pairs-requires
 write-pairs-requires c κs = let p = c .before .before .before .before .before .before .before .pre in rw (two _ (p .0) (c .before .if1 .left)) at (p .1)
 
-same-length : tie.Need-same-length
-same-length c = search needs
-
 returns : tie.Need-returns
 returns c = rw (c .before .before .before .before .if1 .taken) (c .before .before .write-bytes .ensures)
-
-same-length-2 : tie.Need-same-length-2
-same-length-2 c = search needs
 
 returns-2 : tie.Need-returns-2
 returns-2 c = rw (two _ (c .before .before .before .before .before .before .before .before .before .before .pre .0) (c .before .before .before .before .if1 .left)) (c .before .before .write-pairs .ensures)
@@ -31,7 +22,7 @@ write-row-spec =
     (tie.spec
     write-bytes-requires
     write-pairs-requires
-    same-length
+    (λ c. search needs)
     returns
-    same-length-2
+    (λ c. search needs)
     returns-2)

@@ -1,6 +1,6 @@
--- `only` meets its contract. Assumes nothing.
-use mathlib.Core.Path.{_≡_, refl, sym, _∙_, ap}
-use Prim.Native.Nat.{ℕ, _+_, _-_, _*_, _%_, _^_, _≤_, _<_}
+-- `only` meets its contract. The loop's invariant: no other value passed picks the place. Assumes nothing.
+use mathlib.Core.Path.{_≡_}
+use Prim.Native.Nat.{_-_, _≤_}
 use native.Mathlib.Omega.{arith}
 use borrow.Author.Needs.{needs}
 use mathlib.Core.Bool.{true}
@@ -14,29 +14,8 @@ Inv-loop n k b roms ok₀ j₀ ok j = (j ≤ n) × (ok ≡ true → Passed roms 
 abbrev μ-loop : tie.MeasureT-loop
 μ-loop n k b roms ok₀ j₀ ok j = n - j
 
-slice-aggregate-entry : tie.Need-slice-aggregate-entry Inv-loop μ-loop
-slice-aggregate-entry c = search needs
-
-entry-requires : tie.Need-entry-requires Inv-loop μ-loop
-entry-requires c κs = search needs
-
 loop-holds : tie.Need-loop-holds Inv-loop μ-loop
 loop-holds c = (omega arith, passed-none _ _ _ _ _ (c .entry .ensures))
-
-slice-aggregate-entry-2 : tie.Need-slice-aggregate-entry-2 Inv-loop μ-loop
-slice-aggregate-entry-2 c = search needs
-
-cast-entry : tie.Need-cast-entry Inv-loop μ-loop
-cast-entry c = search needs
-
-entry-requires-2 : tie.Need-entry-requires-2 Inv-loop μ-loop
-entry-requires-2 c κs = search needs
-
-add-j : tie.Need-add-j Inv-loop μ-loop
-add-j c = search needs
-
-loop-less : tie.Need-loop-less Inv-loop μ-loop
-loop-less c = search needs
 
 loop-again : tie.Need-loop-again Inv-loop μ-loop
 loop-again c =
@@ -52,13 +31,13 @@ only-spec =
     (tie.spec
     Inv-loop
     μ-loop
-    slice-aggregate-entry
-    entry-requires
+    (λ c. search needs)
+    (λ c κs. search needs)
     loop-holds
-    slice-aggregate-entry-2
-    cast-entry
-    entry-requires-2
-    add-j
-    loop-less
+    (λ c. search needs)
+    (λ c. search needs)
+    (λ c κs. search needs)
+    (λ c. search needs)
+    (λ c. search needs)
     loop-again
     returns)

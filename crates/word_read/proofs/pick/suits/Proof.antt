@@ -1,6 +1,4 @@
 -- `suits` meets its contract. Assumes nothing.
-use mathlib.Core.Path.{_≡_, refl, sym, _∙_, ap}
-use Prim.Native.Nat.{ℕ, _+_, _-_, _*_, _%_, _^_, _≤_, _<_}
 use native.Mathlib.Omega.{arith}
 use borrow.Author.Needs.{needs}
 use Rattle.lists.proofs.Loops.{zero-one}
@@ -12,21 +10,6 @@ use Rattle.word_read.proofs.pick.suits.Tie as tie
 returns : tie.Need-returns
 returns c z = absurd (zero-one cc)
 
-fits-requires : tie.Need-fits-requires
-fits-requires c κs = search needs
-
-shl-only : tie.Need-shl-only
-shl-only c = search needs
-
-only-requires : tie.Need-only-requires
-only-requires c κs = search needs
-
-cast-result : tie.Need-cast-result
-cast-result c = search needs
-
-shl-result : tie.Need-shl-result
-shl-result c = search needs
-
 returns-2 : tie.Need-returns-2
 returns-2 c =
     let a = c .before .before .before .before .before .before .before .before .args in
@@ -35,4 +18,4 @@ returns-2 c =
 pub suits-spec : {M : Type 1} → statement M
 suits-spec =
     tie.close
-    (tie.spec returns fits-requires shl-only only-requires cast-result shl-result returns-2)
+    (tie.spec returns (λ c κs. search needs) (λ c. search needs) (λ c κs. search needs) (λ c. search needs) (λ c. search needs) returns-2)

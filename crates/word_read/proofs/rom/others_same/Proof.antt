@@ -1,6 +1,6 @@
--- `others_same` meets its contract. Assumes nothing.
-use mathlib.Core.Path.{_≡_, refl, sym, _∙_, ap}
-use Prim.Native.Nat.{ℕ, _+_, _-_, _*_, _%_, _^_, _≤_, _<_}
+-- `others_same` meets its contract. The loop's invariant: the turns passed are the same. Assumes nothing.
+use mathlib.Core.Path.{_≡_}
+use Prim.Native.Nat.{ℕ, _+_, _-_, _^_, _≤_, _<_}
 use native.Mathlib.Omega.{arith}
 use mathlib.Core.Bool.{true}
 use Rattle.word_read.specs.design.Rom.{SameTurn, says, turnStart}
@@ -33,12 +33,6 @@ add-e c = record { fits = omega (arith, fits (c .before .before)) }
 same-words-requires : tie.Need-same-words-requires Inv-loop μ-loop
 same-words-requires c κs = c .before .before .before .before .before .before .before .before .before .before .before .pre (c .before .before .before .before .loop .c) (c .before .before .if1 .taken)
 
-add-c : tie.Need-add-c Inv-loop μ-loop
-add-c c = search needs
-
-loop-less : tie.Need-loop-less Inv-loop μ-loop
-loop-less c = search needs
-
 loop-again : tie.Need-loop-again Inv-loop μ-loop
 loop-again c =
     let l = c .before .before .before .before .before .loop in
@@ -57,7 +51,7 @@ others-same-spec =
     mul-e
     add-e
     same-words-requires
-    add-c
-    loop-less
+    (λ c. search needs)
+    (λ c. search needs)
     loop-again
     returns)

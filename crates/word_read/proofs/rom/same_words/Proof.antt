@@ -1,6 +1,6 @@
--- `same_words` meets its contract. Assumes nothing.
-use mathlib.Core.Path.{_≡_, refl, sym, _∙_, ap}
-use Prim.Native.Nat.{ℕ, _+_, _-_, _*_, _%_, _^_, _≤_, _<_}
+-- `same_words` meets its contract. The loop's invariant: the rows passed are the same. Assumes nothing.
+use mathlib.Core.Path.{_≡_, refl}
+use Prim.Native.Nat.{_+_, _-_, _%_, _≤_, _<_}
 use native.Mathlib.Omega.{arith}
 use mathlib.Core.Bool.{true}
 use Rattle.word_read.specs.design.Rom.{SameTurn, says}
@@ -18,17 +18,8 @@ Inv-loop rom e positions lows low-bytes high-bytes stored output w ok₀ f₀ ok
 abbrev μ-loop : tie.MeasureT-loop
 μ-loop rom e positions lows low-bytes high-bytes stored output w ok₀ f₀ ok f = rom .words - f
 
-cast-w : tie.Need-cast-w Inv-loop μ-loop
-cast-w c = search needs
-
 loop-holds : tie.Need-loop-holds Inv-loop μ-loop
 loop-holds c = (omega arith, λ l. refl, λ z a l. absurd (omega arith))
-
-sub-fewer : tie.Need-sub-fewer Inv-loop μ-loop
-sub-fewer c = search needs
-
-fewer-requires : tie.Need-fewer-requires Inv-loop μ-loop
-fewer-requires c κs = search needs
 
 -- what is known of a row
 module _ (c : tie.After-fewer Inv-loop μ-loop) where
@@ -54,29 +45,11 @@ module _ (c : tie.After-fewer Inv-loop μ-loop) where
 add-index-of : tie.Need-add-index-of Inv-loop μ-loop
 add-index-of c = record { fits = omega (arith, start c .pre .turn .few (loop c .loop .f) (some c)) }
 
-index-of-requires : tie.Need-index-of-requires Inv-loop μ-loop
-index-of-requires c κs = search needs
-
-add-same-row : tie.Need-add-same-row Inv-loop μ-loop
-add-same-row c = search needs
-
-cast-same-row : tie.Need-cast-same-row Inv-loop μ-loop
-cast-same-row c = search needs
-
-cast-same-row-2 : tie.Need-cast-same-row-2 Inv-loop μ-loop
-cast-same-row-2 c = search needs
-
 same-row-requires : tie.Need-same-row-requires Inv-loop μ-loop
 same-row-requires c κs =
     let w = c .before .before in
     let t = start w .pre in
     (t .rom-in .width, row-in t _ _ _ (first w) (w .fewer .ensures) (c .before .index-of .ensures) _ (some w) refl)
-
-add-f : tie.Need-add-f Inv-loop μ-loop
-add-f c = search needs
-
-loop-less : tie.Need-loop-less Inv-loop μ-loop
-loop-less c = search needs
 
 loop-again : tie.Need-loop-again Inv-loop μ-loop
 loop-again c =
@@ -92,17 +65,17 @@ same-words-spec =
     (tie.spec
     Inv-loop
     μ-loop
-    cast-w
+    (λ c. search needs)
     loop-holds
-    sub-fewer
-    fewer-requires
+    (λ c. search needs)
+    (λ c κs. search needs)
     add-index-of
-    index-of-requires
-    add-same-row
-    cast-same-row
-    cast-same-row-2
+    (λ c κs. search needs)
+    (λ c. search needs)
+    (λ c. search needs)
+    (λ c. search needs)
     same-row-requires
-    add-f
-    loop-less
+    (λ c. search needs)
+    (λ c. search needs)
     loop-again
     returns)

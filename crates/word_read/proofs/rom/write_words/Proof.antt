@@ -1,6 +1,6 @@
--- `write_words` meets its contract. Assumes nothing.
-use mathlib.Core.Path.{_≡_, refl, sym, _∙_, ap}
-use Prim.Native.Nat.{ℕ, _+_, _-_, _*_, _%_, _^_, _≤_, _<_}
+-- `write_words` meets its contract. The loop's invariant: the rows passed are written. Assumes nothing.
+use mathlib.Core.Path.{_≡_, refl, _∙_}
+use Prim.Native.Nat.{_+_, _-_, _%_, _≤_, _<_}
 use native.Mathlib.Omega.{arith}
 use lib.ListN.{length}
 use Rattle.word_rows.specs.design.Wrote.{Wrote}
@@ -21,17 +21,8 @@ Inv-loop rom e positions lows low-bytes high-bytes stored output₀ w f₀ outpu
 abbrev μ-loop : tie.MeasureT-loop
 μ-loop rom e positions lows low-bytes high-bytes stored output₀ w f₀ output f = rom .words - f
 
-cast-w : tie.Need-cast-w Inv-loop μ-loop
-cast-w c = search needs
-
 loop-holds : tie.Need-loop-holds Inv-loop μ-loop
 loop-holds c = (omega arith, λ l. refl, refl, wrote-none _ _ _ _)
-
-sub-fewer : tie.Need-sub-fewer Inv-loop μ-loop
-sub-fewer c = search needs
-
-fewer-requires : tie.Need-fewer-requires Inv-loop μ-loop
-fewer-requires c κs = search needs
 
 -- what is known of a row
 module _ (c : tie.After-fewer Inv-loop μ-loop) where
@@ -57,29 +48,11 @@ module _ (c : tie.After-fewer Inv-loop μ-loop) where
 add-index-of : tie.Need-add-index-of Inv-loop μ-loop
 add-index-of c = record { fits = omega (arith, start c .pre .turn .few (loop c .loop .f) (some c)) }
 
-index-of-requires : tie.Need-index-of-requires Inv-loop μ-loop
-index-of-requires c κs = search needs
-
-add-write-row : tie.Need-add-write-row Inv-loop μ-loop
-add-write-row c = search needs
-
-cast-write-row : tie.Need-cast-write-row Inv-loop μ-loop
-cast-write-row c = search needs
-
-cast-write-row-2 : tie.Need-cast-write-row-2 Inv-loop μ-loop
-cast-write-row-2 c = search needs
-
 write-row-requires : tie.Need-write-row-requires Inv-loop μ-loop
 write-row-requires c κs =
     let w = c .before .before .before in
     let t = start w .pre in
     (t .rom-in .width, row-in t _ _ _ (first w) (w .fewer .ensures) (c .before .before .index-of .ensures) _ (some w) (loop w .loop .inv .2))
-
-add-f : tie.Need-add-f Inv-loop μ-loop
-add-f c = search needs
-
-loop-less : tie.Need-loop-less Inv-loop μ-loop
-loop-less c = search needs
 
 loop-again : tie.Need-loop-again Inv-loop μ-loop
 loop-again c =
@@ -91,9 +64,6 @@ loop-again c =
       row-wrote (start w .pre) _ _ _ (first w) (w .fewer .ensures) (written .before .before .before .index-of .ensures) _ _ _ (loop w .loop .inv .3) (written .write-row .ensures),
     )
 
-same-length : tie.Need-same-length Inv-loop μ-loop
-same-length c = search needs
-
 returns : tie.Need-returns Inv-loop μ-loop
 returns c = let l = c .before .before .loop in wrote-done _ _ _ _ _ _ _ (omega (arith, l .inv .0)) (l .inv .3)
 
@@ -103,18 +73,18 @@ write-words-spec =
     (tie.spec
     Inv-loop
     μ-loop
-    cast-w
+    (λ c. search needs)
     loop-holds
-    sub-fewer
-    fewer-requires
+    (λ c. search needs)
+    (λ c κs. search needs)
     add-index-of
-    index-of-requires
-    add-write-row
-    cast-write-row
-    cast-write-row-2
+    (λ c κs. search needs)
+    (λ c. search needs)
+    (λ c. search needs)
+    (λ c. search needs)
     write-row-requires
-    add-f
-    loop-less
+    (λ c. search needs)
+    (λ c. search needs)
     loop-again
-    same-length
+    (λ c. search needs)
     returns)
