@@ -5,7 +5,7 @@ use crate::row::Row;
 use crate::row::Walked;
 use crate::row::read_row;
 use entry_words::Reading;
-use word_read::fewer;
+use rom_turns::fewer;
 ghost use Rattle.table_read.specs.design.Held.{Onward, ReadBy};
 
 // Reads the entries up to the first that disagrees.

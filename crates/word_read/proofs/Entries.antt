@@ -18,8 +18,9 @@ use Rattle.entry_words.specs.design.Reading.{gathered, noMap, noExtent, partBy,
 use Rattle.entry_words.specs.declared.Map.{Map}
 use Rattle.entry_words.specs.declared.Extent.{Extent}
 use Rattle.entry_words.specs.declared.Reading.{Reading}
-use Rattle.word_read.specs.design.Rom.{Suits, romOf, romIndex, romValue, turnStart}
-use Rattle.word_read.specs.declared.rom.Rom.{Rom}
+use Rattle.rom_turns.specs.design.Rom.{romIndex, turnStart}
+use Rattle.word_read.specs.design.Suits.{Suits, romOf, romValue}
+use Rattle.rom_turns.specs.declared.Rom.{Rom}
 use Rattle.word_read.proofs.Split.{address-bits, picked-bits, turn-address, turn-picked, turn-lt, turn-of, turn-count}
 
 -- an entry that is for a word has the forced bits and an address that its ROM has

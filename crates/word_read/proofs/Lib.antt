@@ -1,4 +1,3 @@
-pub mod Turns
 pub mod Split
 pub mod Suited
 pub mod Entries

@@ -15,7 +15,7 @@ use Rattle.lists.proofs.Loops.{zero-one}
 use Rattle.index_order.specs.design.Order.{Fits, at}
 use Rattle.entry_words.specs.declared.Map.{Map}
 use Rattle.entry_words.specs.declared.Extent.{Extent}
-use Rattle.word_read.specs.design.Rom.{Only, Suits}
+use Rattle.word_read.specs.design.Suits.{Only, Suits}
 
 -- of the values passed no other picks it
 pub record Passed (roms : List ℕ) (n k b j : ℕ) : Type 0 where

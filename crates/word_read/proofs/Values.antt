@@ -15,8 +15,9 @@ use Rattle.words.proofs.Words.{word-lt, word-short}
 use Rattle.word_rows.specs.design.Wrote.{saidBy}
 use Rattle.entry_words.specs.design.Reading.{gathered}
 use Rattle.entry_words.specs.declared.Map.{Map}
-use Rattle.word_read.specs.design.Rom.{romIndex, romValue, says}
-use Rattle.word_read.specs.declared.rom.Rom.{Rom}
+use Rattle.rom_turns.specs.design.Rom.{romIndex, says}
+use Rattle.word_read.specs.design.Suits.{romValue}
+use Rattle.rom_turns.specs.declared.Rom.{Rom}
 
 -- the two bytes of an entry
 gathered-bytes : (m : Map) (x : ℕ) → bitOr (gathered m (x % 256)) (gathered m (x / 256 * 2 ^ 8)) ≡ gathered m x

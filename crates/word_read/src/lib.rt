@@ -1,60 +1,26 @@
 // Entries of a table back into words, word by word: where each word has entries of its own, the first of them gives it, and the
 // others are held against it.
-mod rom; // a ROM's words, by turns
 mod pick; // whether a ROM's words have entries of their own
 
 use crate::pick::bits_for;
 use crate::pick::rom_of;
 use crate::pick::suits;
-use crate::rom::Rom;
-pub use crate::rom::fewer;
-use crate::rom::others_same;
-use crate::rom::write_words;
 use byte_tables::scatter_table;
 use entry_words::Map;
 use entry_words::Reading;
 use entry_words::byte_table;
 use index_order::order;
+use rom_turns::Rom;
+use rom_turns::read_turns;
 ghost use mathlib.Core.Path.{_≡_};
 ghost use mathlib.Core.Bool.{true};
 ghost use Prim.Native.Nat.{ℕ, _+_, _*_, _^_, _≤_, _<_};
 ghost use lib.ListN.{getD, drop};
 ghost use Rattle.word_rows.specs.design.Wrote.{Wrote};
 ghost use Rattle.entry_words.specs.design.Reading.{noMap};
-ghost use Rattle.word_read.specs.design.Rom.{InOrder, SameTurn, Turn, lowsOf, romValue, says, turnStart};
+ghost use Rattle.rom_turns.specs.design.Rom.{SameTurn, turnStart};
+ghost use Rattle.word_read.specs.design.Suits.{InOrder, lowsOf, romValue};
 ghost use Rattle.word_read.specs.design.Words.{AllRead, Entries, Next, ReadIn, WordsRead, wordsOf};
-
-// Writes the words by the first turn. Whether the other turns say the same.
-fn read_turns(
-    rom: Rom,
-    positions: &[u8],
-    lows: &[u32],
-    low_bytes: &[u32],
-    high_bytes: &[u32],
-    stored: &[u8],
-    output: &mut [u8],
-) -> bool
-    requires { ⌜ (0 < rom .turns) × ((c : ℕ) → c < rom .turns
-        → Turn rom (now positions) (now lows) (now «low_bytes») (now «high_bytes») (now stored) (now output) (turnStart rom c)) ⌝ }
-    ensures { λ _. ⌜ Wrote (rom .«word_bytes»)
-        (λ a. says rom (now (positions .entry)) (now («low_bytes» .entry)) (now («high_bytes» .entry)) (now (stored .entry)) (rom .first + a))
-        (rom .start) (rom .words) (now (output .entry)) (now (output .exit)) ⌝ }
-    ensures { λ r. ⌜ (r ≡ true → (c : ℕ) → 1 ≤ c → c < rom .turns → SameTurn rom
-        (λ a. says rom (now (positions .entry)) (now («low_bytes» .entry)) (now («high_bytes» .entry)) (now (stored .entry)) (turnStart rom c + a))
-        (now (output .exit)) (rom .words)) ⌝ }
-{
-    write_words(
-        rom,
-        rom.first,
-        positions,
-        lows,
-        low_bytes,
-        high_bytes,
-        stored,
-        output,
-    );
-    others_same(rom, positions, lows, low_bytes, high_bytes, stored, output)
-}
 
 // Where the low bits of an order stand.
 fn lows_of(rom: Rom, order: Map) -> [u32; 256]

@@ -1,13 +1,13 @@
 // Whether a ROM's words have entries of their own.
-use crate::rom::Rom;
 use entry_words::Extent;
 use entry_words::Map;
 use index_order::fits;
 use lists::array::entry;
+use rom_turns::Rom;
 ghost use mathlib.Core.Path.{_≡_};
 ghost use mathlib.Core.Bool.{true};
 ghost use Prim.Native.Nat.{_+_, _≤_, _<_, _^_};
-ghost use Rattle.word_read.specs.design.Rom.{Only, Suits, romOf};
+ghost use Rattle.word_read.specs.design.Suits.{Only, Suits, romOf};
 
 // A value of the bits that pick, of so many, that picks a place. Where there is none, `only` refuses the answer.
 pub fn bits_for(roms: [u8; 8], n: u8, k: u8) -> u8 {

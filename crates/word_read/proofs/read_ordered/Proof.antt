@@ -6,8 +6,9 @@ use lib.ListN.{getD}
 use borrow.Author.Needs.{needs}
 use Rattle.lists.proofs.Tab.{tab-length}
 use Rattle.word_rows.proofs.Rows.{wrote-same}
-use Rattle.word_read.specs.design.Rom.{turnStart}
-use Rattle.word_read.proofs.Turns.{order-turns, width-two}
+use Rattle.rom_turns.specs.design.Rom.{turnStart}
+use Rattle.rom_turns.proofs.Turns.{width-two}
+use Rattle.word_read.proofs.Placed.{order-turns}
 use Rattle.word_read.proofs.Values.{says-value}
 use Rattle.word_read.proofs.read_ordered.Statement.{statement}
 use Rattle.word_read.proofs.read_ordered.Tie as tie

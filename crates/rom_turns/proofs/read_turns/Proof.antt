@@ -1,8 +1,8 @@
 -- `read_turns` meets its contract. Assumes nothing.
 use borrow.Author.Needs.{needs}
-use Rattle.word_read.proofs.Turns.{turn-first, turn-long}
-use Rattle.word_read.proofs.read_turns.Statement.{statement}
-use Rattle.word_read.proofs.read_turns.Tie as tie
+use Rattle.rom_turns.proofs.Turns.{turn-first, turn-long}
+use Rattle.rom_turns.proofs.read_turns.Statement.{statement}
+use Rattle.rom_turns.proofs.read_turns.Tie as tie
 
 write-words-requires : tie.Need-write-words-requires
 write-words-requires c κs = let p = c .before .before .before .before .before .before .before .pre in turn-first (p .1 0 (p .0))

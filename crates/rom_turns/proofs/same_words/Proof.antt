@@ -3,11 +3,11 @@ use mathlib.Core.Path.{_≡_, refl}
 use Prim.Native.Nat.{_+_, _-_, _%_, _≤_, _<_}
 use native.Mathlib.Omega.{arith}
 use mathlib.Core.Bool.{true}
-use Rattle.word_read.specs.design.Rom.{SameTurn, says}
-use Rattle.word_read.proofs.Turns.{row-in, row-compared}
+use Rattle.rom_turns.specs.design.Rom.{SameTurn, says}
+use Rattle.rom_turns.proofs.Turns.{row-in, row-compared}
 use borrow.Author.Needs.{needs}
-use Rattle.word_read.proofs.rom.same_words.Statement.{statement}
-use Rattle.word_read.proofs.rom.same_words.Tie as tie
+use Rattle.rom_turns.proofs.same_words.Statement.{statement}
+use Rattle.rom_turns.proofs.same_words.Tie as tie
 
 abbrev Inv-loop : tie.InvT-loop
 Inv-loop rom e positions lows low-bytes high-bytes stored output w ok₀ f₀ ok f =

@@ -11,15 +11,13 @@ use native.Mathlib.Omega.{arith}
 use lib.Bits.{bitOr, or-lt}
 use lib.ListN.{length, getD}
 use Rattle.lists.proofs.Bools.{both}
-use Rattle.lists.proofs.Tab.{tab-length}
-use Rattle.entry_words.specs.declared.Map.{Map}
 use Rattle.bits.proofs.Scattered.{scatter-lt}
 use Rattle.words.specs.Words.{chipWord, entryWord}
 use Rattle.words.proofs.Words.{words-room}
 use Rattle.word_rows.specs.design.Wrote.{RowIn, SameRow, Wrote, rowSays, saidBy}
 use Rattle.word_rows.proofs.Rows.{wrote-more, wrote-same}
-use Rattle.word_read.specs.design.Rom.{RomIn, TurnIn, Turn, InOrder, SameTurn, lowsOf, romIndex, says, turnStart}
-use Rattle.word_read.specs.declared.rom.Rom.{Rom}
+use Rattle.rom_turns.specs.design.Rom.{RomIn, Turn, SameTurn, romIndex, says, turnStart}
+use Rattle.rom_turns.specs.declared.Rom.{Rom}
 
 -- one turn more that is compared
 pub turn-compared : (P : ℕ → Type 0) (c : ℕ) (ok same : Bool) → (ok ≡ true → (d : ℕ) → 1 ≤ d → d < c → P d) → (same ≡ true → P c)
@@ -96,14 +94,3 @@ width-two w (inr e) = omega arith
 pub turn-long : {rom : Rom} {positions lows low-bytes high-bytes stored output : List ℕ} {e : ℕ} (o : List ℕ)
     → Turn rom positions lows low-bytes high-bytes stored output e → length o ≡ length output → Turn rom positions lows low-bytes high-bytes stored o e
 turn-long o t l = record { rom-in = t .rom-in; tables = t .tables; turn = t .turn; room = rw l (t .room) }
-
--- the turns of a ROM in order, by its tables
-pub order-turns : {rom : Rom} {order data-map : Map} {stored output : List ℕ} → InOrder rom order data-map stored output → (lows low-bytes high-bytes : List ℕ)
-    → lows ≡ lowsOf rom (order .positions) → length low-bytes ≡ 256 → length high-bytes ≡ 256
-    → (c : ℕ) → c < rom .turns → Turn rom (order .positions) lows low-bytes high-bytes stored output (turnStart rom c)
-order-turns {rom} {order} h lows low-bytes high-bytes e l k c b = record {
-  rom-in = h .rom-in;
-  tables = record { low = ap (length {A = ℕ}) e ∙ tab-length _ 256; low-byte = l; high-byte = k };
-  turn = subst (λ x. TurnIn rom (order .positions) x (turnStart rom c)) (sym e) (h .turns c b);
-  room = h .room;
-}

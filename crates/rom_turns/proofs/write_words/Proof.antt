@@ -5,11 +5,11 @@ use native.Mathlib.Omega.{arith}
 use lib.ListN.{length}
 use Rattle.word_rows.specs.design.Wrote.{Wrote}
 use Rattle.word_rows.proofs.Rows.{wrote-none, wrote-done}
-use Rattle.word_read.specs.design.Rom.{says}
-use Rattle.word_read.proofs.Turns.{row-in, row-wrote}
+use Rattle.rom_turns.specs.design.Rom.{says}
+use Rattle.rom_turns.proofs.Turns.{row-in, row-wrote}
 use borrow.Author.Needs.{needs}
-use Rattle.word_read.proofs.rom.write_words.Statement.{statement}
-use Rattle.word_read.proofs.rom.write_words.Tie as tie
+use Rattle.rom_turns.proofs.write_words.Statement.{statement}
+use Rattle.rom_turns.proofs.write_words.Tie as tie
 
 abbrev Inv-loop : tie.InvT-loop
 Inv-loop rom e positions lows low-bytes high-bytes stored output₀ w f₀ output f =

@@ -2,8 +2,8 @@
 use mathlib.Core.Path.{ap}
 use lib.Bits.{bitOr}
 use borrow.Author.Needs.{needs}
-use Rattle.word_read.proofs.rom.index_of.Statement.{statement}
-use Rattle.word_read.proofs.rom.index_of.Tie as tie
+use Rattle.rom_turns.proofs.index_of.Statement.{statement}
+use Rattle.rom_turns.proofs.index_of.Tie as tie
 
 returns : tie.Need-returns
 returns c = ap (bitOr (c .before .before .before .before .before .args .rom .high)) (c .before .scatter .ensures .0)

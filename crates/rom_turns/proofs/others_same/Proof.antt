@@ -3,11 +3,11 @@ use mathlib.Core.Path.{_≡_}
 use Prim.Native.Nat.{ℕ, _+_, _-_, _^_, _≤_, _<_}
 use native.Mathlib.Omega.{arith}
 use mathlib.Core.Bool.{true}
-use Rattle.word_read.specs.design.Rom.{SameTurn, says, turnStart}
-use Rattle.word_read.proofs.Turns.{turn-compared}
+use Rattle.rom_turns.specs.design.Rom.{SameTurn, says, turnStart}
+use Rattle.rom_turns.proofs.Turns.{turn-compared}
 use borrow.Author.Needs.{needs}
-use Rattle.word_read.proofs.rom.others_same.Statement.{statement}
-use Rattle.word_read.proofs.rom.others_same.Tie as tie
+use Rattle.rom_turns.proofs.others_same.Statement.{statement}
+use Rattle.rom_turns.proofs.others_same.Tie as tie
 
 abbrev Inv-loop : tie.InvT-loop
 Inv-loop rom positions lows low-bytes high-bytes stored output ok₀ c₀ ok c =

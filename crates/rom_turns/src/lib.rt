@@ -6,7 +6,7 @@ ghost use mathlib.Core.Path.{_≡_};
 ghost use mathlib.Core.Bool.{true};
 ghost use Prim.Native.Nat.{ℕ, _+_, _≤_, _<_, min};
 ghost use Rattle.word_rows.specs.design.Wrote.{Wrote};
-ghost use Rattle.word_read.specs.design.Rom.{SameTurn, Turn, romIndex, says, turnStart};
+ghost use Rattle.rom_turns.specs.design.Rom.{SameTurn, Turn, romIndex, says, turnStart};
 
 // The numbers of a ROM.
 pub struct Rom {
@@ -44,7 +44,7 @@ fn index_of(rom: Rom, positions: &[u8], e: u32) -> u32
 }
 
 // Writes the words as the entries of the turn from e on say them.
-pub fn write_words(
+fn write_words(
     rom: Rom,
     e: u32,
     positions: &[u8],
@@ -119,7 +119,7 @@ fn same_words(
 }
 
 // Whether the words are what the entries of all turns but the first say.
-pub fn others_same(
+fn others_same(
     rom: Rom,
     positions: &[u8],
     lows: &[u32],
@@ -152,4 +152,36 @@ pub fn others_same(
         c += 1;
     }
     ok
+}
+
+// Writes the words by the first turn. Whether the other turns say the same.
+pub fn read_turns(
+    rom: Rom,
+    positions: &[u8],
+    lows: &[u32],
+    low_bytes: &[u32],
+    high_bytes: &[u32],
+    stored: &[u8],
+    output: &mut [u8],
+) -> bool
+    requires { ⌜ (0 < rom .turns) × ((c : ℕ) → c < rom .turns
+        → Turn rom (now positions) (now lows) (now «low_bytes») (now «high_bytes») (now stored) (now output) (turnStart rom c)) ⌝ }
+    ensures { λ _. ⌜ Wrote (rom .«word_bytes»)
+        (λ a. says rom (now (positions .entry)) (now («low_bytes» .entry)) (now («high_bytes» .entry)) (now (stored .entry)) (rom .first + a))
+        (rom .start) (rom .words) (now (output .entry)) (now (output .exit)) ⌝ }
+    ensures { λ r. ⌜ (r ≡ true → (c : ℕ) → 1 ≤ c → c < rom .turns → SameTurn rom
+        (λ a. says rom (now (positions .entry)) (now («low_bytes» .entry)) (now («high_bytes» .entry)) (now (stored .entry)) (turnStart rom c + a))
+        (now (output .exit)) (rom .words)) ⌝ }
+{
+    write_words(
+        rom,
+        rom.first,
+        positions,
+        lows,
+        low_bytes,
+        high_bytes,
+        stored,
+        output,
+    );
+    others_same(rom, positions, lows, low_bytes, high_bytes, stored, output)
 }
