@@ -65,6 +65,10 @@ pub fn description_in(d: Description) -> bool
     ensures { λ r. ⌜ r ≡ descriptionIn d ⌝ }
 {
     let board = d.board;
+    // First and by itself: beside the other tests the loop over the pins takes four times as long.
+    if !board_in(board) {
+        return false;
+    }
     let chips = d.chips;
     let multi = d.multi;
     let set_type = d.set_type;
@@ -76,12 +80,5 @@ pub fn description_in(d: Description) -> bool
     let count_in = (1 <= n) & (n <= 4);
     let config_in = !d.has_multi | multi_in(multi);
     let config_there = !set_type.is_multi() | d.has_multi;
-    board_in(board)
-        & word_in
-        & size_in
-        & offset_in
-        & count_in
-        & chips_in(chips, n, w)
-        & config_in
-        & config_there
+    word_in & size_in & offset_in & count_in & chips_in(chips, n, w) & config_in & config_there
 }
