@@ -196,11 +196,10 @@ fn best_in_row(before: Found, lows: [Span; 64], high: Span, first: u32, len: u32
 }
 
 // The best of the choices that `bits` two-candidate pins leave.
-pub fn best(d: Description, l: Listing, bits: u32) -> Found
+pub fn best(every: Spanning, l: Listing, bits: u32) -> Found
     requires { ⌜ (l .count ≤ 30) × (bits ≤ 16) ⌝ }
-    ensures { λ r. ⌜ r ≡ best (λ c. spanTrial (choiceSpan (listOf l) (spanningOf d) c)) (2 ^ bits) ⌝ }
+    ensures { λ r. ⌜ r ≡ best (λ c. spanTrial (choiceSpan (listOf l) every c)) (2 ^ bits) ⌝ }
 {
-    let every = every_choice(d);
     let split = row_bits(bits);
     let lows = low_spans(l, every, split);
     let rows = 1u32 << (bits - split);

@@ -2,11 +2,9 @@
 use crate::layout::AddrAnswer;
 use crate::layout::AddrLayout;
 use crate::layout::AddrOutcome;
-use addr_choices::every_choice;
+use addr_choices::Spanning;
 use addr_choices::pins;
 use addr_choices::span_of;
-use addr_lines::num_lines;
-use addr_lines::range::in_range;
 use gpio::line::LineGpio;
 use gpio::span::Span;
 use listing::Listing;
@@ -65,13 +63,13 @@ fn layout(span: Span, all: [u8; 30], one: bool, both: bool, lines: u8, used: u8)
 }
 
 // The layout that a choice makes which fits.
-pub fn laid_out(d: Description, l: Listing, choice: u32, score: u32) -> AddrAnswer
-    requires { ⌜ Laying d l choice score ⌝ }
+pub fn laid_out(d: Description, every: Spanning, l: Listing, choice: u32, score: u32) -> AddrAnswer
+    requires { ⌜ Laying d every l choice score ⌝ }
     ensures { λ r. ⌜ r ≡ record { outcome = AddrOutcome.LaidOut; layout = addrLayoutOf d (listOf l) choice } ⌝ }
 {
-    let used = in_range(d);
-    let all = num_lines(d);
-    let span = span_of(l, every_choice(d), choice);
+    let used = every.in_range as u8;
+    let all = every.lines as u8;
+    let span = span_of(l, every, choice);
     let gpios = resolve(l, choice);
     let set_type = d.set_type;
     let one = !set_type.is_single();

@@ -11,14 +11,12 @@ use Rattle.lists.specs.Tab.{tab}
 use Rattle.gpio.specs.declared.span.Span.{Span}
 use Rattle.lists.proofs.Shifts.{shifted-one}
 use Rattle.lists.proofs.Tab.{getD-begins}
-use Rattle.slot.specs.declared.description.Description.{Description}
 use Rattle.listing.specs.Listing.{listOf}
 use Rattle.listing.specs.declared.Listed.{Listed}
 use Rattle.search.specs.Search.{best}
-use Rattle.search.specs.declared.Found.{Found}
 use Rattle.search.specs.declared.Trial.{Trial}
 use Rattle.search.proofs.Rows.{row-first, row-fits, rows-turn, rows-done}
-use Rattle.addr_choices.specs.Choices.{spanningOf, choiceSpan, spanTrial}
+use Rattle.addr_choices.specs.Choices.{choiceSpan, spanTrial}
 use Rattle.addr_choices.specs.declared.Spanning.{Spanning}
 use Rattle.addr_choices.specs.design.Parts.{partSpan, pastSpans}
 use Rattle.addr_choices.proofs.Parts.{parts-join}
@@ -39,23 +37,18 @@ module _ (ls : List Listed) (f : Spanning) (s : ℕ) where
       → spanTrial (spansJoined (getD lows q pastSpans) high) ≡ trials (row * 2 ^ s + q)
   row-trial lows high row q t e l = ap spanTrial (rw (getD-begins (partSpan ls f true s) lows (2 ^ s) q pastSpans t l, e) (sym (parts-join ls f row s q l (length ls))))
 
-done : (ls : List Listed) (d : Description) (every : Spanning) (row rows s bits : ℕ) (found : Found) → every ≡ spanningOf d → row ≡ rows → rows ≡ 2 ^ (bits - s) → s ≤ bits
-    → found ≡ best (trials ls every s) (row * 2 ^ s) → found ≡ best (λ c. spanTrial (choiceSpan ls (spanningOf d) c)) (2 ^ bits)
-done ls d every row rows s bits found e er eb h f =
-    rows-done (best (trials ls every s)) row rows bits s found er eb h f ∙ ap (λ (x : Spanning). best (λ c. spanTrial (choiceSpan ls x c)) (2 ^ bits)) e
-
 abbrev Inv-loop : tie.InvT-loop
-Inv-loop l bits every split lows rows found₀ row₀ found row =
+Inv-loop every l bits split lows rows found₀ row₀ found row =
     (row ≤ rows) × (rows ≡ 2 ^ (bits - split)) × (split ≤ bits) × (split ≤ 6) × (bits ≤ 16) × Lows (listOf l) every split lows
     × (found ≡ best (trials (listOf l) every split) (row * 2 ^ split))
 
 abbrev μ-loop : tie.MeasureT-loop
-μ-loop l bits every split lows rows found₀ row₀ found row = rows - row
+μ-loop every l bits split lows rows found₀ row₀ found row = rows - row
 
 loop-holds : tie.Need-loop-holds Inv-loop μ-loop
 unfolding best
 loop-holds c =
-    let a = c .before .before .before .args in
+    let a = c .before .before .args in
     let s = c .before .row-bits .ensures .1 in
     (omega arith, shifted-one _ 32 (omega arith), s .0, s .1, omega arith, c .low-spans .ensures, rw zero-mul refl)
 
@@ -83,8 +76,8 @@ loop-again c =
 returns : tie.Need-returns Inv-loop μ-loop
 returns c =
     let v = c .before .loop in
-    let a = c .before .before .before .before .before .args in
-    done (listOf (a .l)) (a .d) _ _ _ _ (a .bits) _ (c .before .before .before .before .every-choice .ensures) (omega arith) (v .inv .1) (v .inv .2) (v .inv .6)
+    let a = c .before .before .before .before .args in
+    rows-done (best (trials (listOf (a .l)) (a .every) (c .before .before .before .row-bits .result))) _ _ (a .bits) _ _ (omega arith) (v .inv .1) (v .inv .2) (v .inv .6)
 
 pub best-spec : {M : Type 1} → statement M
-best-spec = tie.close (tie.spec Inv-loop μ-loop (λ c κs. search needs) (λ c κs. search needs) (λ c κs. search needs) (λ c. search needs) (λ c. search needs) loop-holds (λ c. search needs) (λ c κs. search needs) (λ c. search needs) best-in-row-requires (λ c. search needs) (λ c. search needs) loop-again returns)
+best-spec = tie.close (tie.spec Inv-loop μ-loop (λ c κs. search needs) (λ c κs. search needs) (λ c. search needs) (λ c. search needs) loop-holds (λ c. search needs) (λ c κs. search needs) (λ c. search needs) best-in-row-requires (λ c. search needs) (λ c. search needs) loop-again returns)

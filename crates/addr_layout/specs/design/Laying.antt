@@ -1,15 +1,26 @@
--- What the layout of a choice is made from. No answer is defined by it: `addrLayoutOf` says which layout that is. Assumes nothing.
+-- What the search is given, and what the layout of a choice is made from. No answer is defined by it: `addrAnswerOf` and `addrLayoutOf`
+-- say what they come to. Assumes nothing.
 use Prim.Native.Nat.{ℕ, _≤_}
 use mathlib.Core.Path.{_≡_}
 use Rattle.slot.specs.declared.description.Description.{Description}
-use Rattle.listing.specs.Listing.{listOf}
+use Rattle.listing.specs.Listing.{listOf, twos}
 use Rattle.listing.specs.declared.Listing.{Listing}
 use Rattle.search.specs.declared.Trial.the-variants.{Score}
-use Rattle.addr_lines.specs.Lines.{lines}
+use Rattle.addr_lines.specs.Lines.{lines, addrListed}
 use Rattle.addr_choices.specs.Choices.{spanningOf, choiceSpan, spanTrial}
+use Rattle.addr_choices.specs.declared.Spanning.{Spanning}
 
--- the pins and the lines have room, and the choice fits
-pub record Laying (d : Description) (l : Listing) (choice score : ℕ) : Type 0 where
+-- the pins and the lines have room, and so has the number of a choice
+pub record SearchIn (d : Description) (l : Listing) (bits : ℕ) : Type 0 where
   pub pins : l .count ≤ 30
   pub address-lines : lines d ≤ 24
+  pub listed : listOf l ≡ addrListed d
+  pub counted : bits ≡ twos (listOf l)
+  pub few-bits : bits ≤ 16
+
+-- the pins and the lines have room, and the choice fits
+pub record Laying (d : Description) (every : Spanning) (l : Listing) (choice score : ℕ) : Type 0 where
+  pub pins : l .count ≤ 30
+  pub address-lines : lines d ≤ 24
+  pub spanning : every ≡ spanningOf d
   pub fits : spanTrial (choiceSpan (listOf l) (spanningOf d) choice) ≡ Score score

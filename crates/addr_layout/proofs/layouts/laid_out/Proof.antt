@@ -15,7 +15,7 @@ use Rattle.lists.proofs.Tab.{getD-tab, tab-cong}
 use Rattle.lists.proofs.Loops.{zero-one}
 use Rattle.search.specs.declared.Trial.the-variants.{Misfit, Score}
 use Rattle.addr_lines.specs.Range.{reach, inRange}
-use Rattle.addr_choices.specs.Choices.{spanningOf, choiceSpan, paddedPins, spanTrial}
+use Rattle.addr_choices.specs.Choices.{choiceSpan, paddedPins, spanTrial}
 use Rattle.addr_choices.specs.declared.Spanning.{Spanning}
 use Rattle.addr_layout.specs.Layouts.{addrLayoutFrom, addrLayoutOf}
 use Rattle.slot.specs.Description.{isSingle}
@@ -26,6 +26,7 @@ use Rattle.slot.specs.declared.description.Description.{Description}
 use Rattle.listing.specs.Listing.{listOf}
 use Rattle.listing.specs.declared.Listing.{Listing}
 use Rattle.addr_layout.specs.declared.layout.AddrLayout.{AddrLayout}
+use Rattle.addr_layout.specs.design.Laying.{Laying}
 use borrow.Author.Needs.{needs}
 use Rattle.addr_layout.proofs.layouts.laid_out.Statement.{statement}
 use Rattle.addr_layout.proofs.layouts.laid_out.Tie as tie
@@ -53,41 +54,56 @@ from-tab s f one both n u h =
       tab-cong (λ k. cond (ltb k n) (getD (tab 30 f) k 0) 0) (λ k. cond (ltb k n) (f k) 0) 24 (λ k l. rw (getD-tab f 30 k 0 (omega arith))),
     )
 
--- the span is that of the description's own numbers
-span-is : (d : Description) (l : Listing) (choice : ℕ) (every : Spanning) (s : Span) → every ≡ spanningOf d
-    → s ≡ choiceSpan (listOf l) every choice → s ≡ choiceSpan (listOf l) (spanningOf d) choice
-span-is d l choice every s e h = rw e at h
+-- what the caller found of the description's own numbers
+module _ (d : Description) (l : Listing) (choice score : ℕ) (every : Spanning) (p : Laying d every l choice score) where
+  used-is : every .«in_range» ≡ inRange d
+  used-is = ap (λ (x : Spanning). x .«in_range») (p .spanning)
 
-used-some : (d : Description) (u n : ℕ) → u ≡ inRange d → n ≡ lines d → u ≤ n
-used-some d u n eu en = rw (eu, en) (smaller (lines d) (reach d) (ltb (lines d) (reach d)) refl)
+  lines-are : every .lines ≡ lines d
+  lines-are = ap (λ (x : Spanning). x .lines) (p .spanning)
+
+  used-some : every .«in_range» ≤ every .lines
+  used-some = rw (used-is, lines-are) (smaller (lines d) (reach d) (ltb (lines d) (reach d)) refl)
+
+  few-lines : every .lines ≤ 24
+  few-lines = rw lines-are (p .address-lines)
+
+  few-pins : (s : Span) → s ≡ choiceSpan (listOf l) every choice → paddedPins s ≤ 48
+  few-pins s e = rw (e, p .spanning) (pins-fit _ score (p .fits))
+
+  laid : (s : Span) (gs : List ℕ) (single : Bool) (r : AddrLayout) → s ≡ choiceSpan (listOf l) every choice → gs ≡ tab 30 (λ k. gpioAt (listOf l) choice k)
+      → single ≡ isSingle (d .«set_type») → r ≡ addrLayoutFrom s (λ k. getD gs k 0) (not single) (not single && leb 3 (d .«num_chips»)) (every .lines) (every .«in_range»)
+      → r ≡ addrLayoutOf d (listOf l) choice
+  laid s gs single r es eg ei e =
+      let f : ℕ → ℕ = λ k. gpioAt (listOf l) choice k in
+      let filled : r ≡ addrLayoutFrom s f (not single) (not single && leb 3 (d .«num_chips»)) (every .lines) (every .«in_range») =
+      e ∙ rw eg (from-tab s f (not single) (not single && leb 3 (d .«num_chips»)) (every .lines) (every .«in_range») few-lines) in
+      rw (es, ei, p .spanning) at filled
+
+used-fits : tie.Need-cast-used
+used-fits c =
+    let a = c .before .args in
+    omega (arith, used-some (a .d) (a .l) (a .choice) (a .score) (a .every) (c .before .pre), few-lines (a .d) (a .l) (a .choice) (a .score) (a .every) (c .before .pre))
+
+lines-fit : tie.Need-cast-all
+lines-fit c = let a = c .before .before .args in omega (arith, few-lines (a .d) (a .l) (a .choice) (a .score) (a .every) (c .before .before .pre))
 
 layout-requires : tie.Need-layout-requires
 layout-requires c κs =
-    let a = c .before .before .before .before .before .before .before .args in
-    let s = span-is (a .d) (a .l) (a .choice) _ _ (c .before .before .before .before .every-choice .ensures)
-    (c .before .before .before .span-of .ensures) in
-    let p : paddedPins (c .before .before .before .span-of .result) ≤ 48 = rw s (pins-fit _ (a .score) (c .before .before .before .before .before .before .before .pre .fits)) in
-    let u = used-some (a .d) _ _ (c .before .before .before .before .before .before .in-range .ensures) (c .before .before .before .before .before .num-lines .ensures) in
-    (omega arith, u, omega (arith, c .before .before .before .before .before .num-lines .ensures, c .before .before .before .before .before .before .before .pre .address-lines))
-
-laid : (d : Description) (l : Listing) (choice u n : ℕ) (s : Span) (gs : List ℕ) (single : Bool) (r : AddrLayout) → n ≤ 24 → u ≡ inRange d → n ≡ lines d
-    → s ≡ choiceSpan (listOf l) (spanningOf d) choice → gs ≡ tab 30 (λ k. gpioAt (listOf l) choice k)
-    → single ≡ isSingle (d .«set_type») → r ≡ addrLayoutFrom s (λ k. getD gs k 0) (not single) (not single && leb 3 (d .«num_chips»)) n u
-    → r ≡ addrLayoutOf d (listOf l) choice
-laid d l choice u n s gs single r few eu en es eg ei e =
-    let f : ℕ → ℕ = λ k. gpioAt (listOf l) choice k in
-    let filled : r ≡ addrLayoutFrom s f (not single) (not single && leb 3 (d .«num_chips»)) n u =
-    e ∙ rw eg (from-tab s f (not single) (not single && leb 3 (d .«num_chips»)) n u few) in
-    rw (es, ei, en, eu) at filled
+    let start = c .before .before .before .before .before .before in
+    let a = start .args in
+    let p = start .pre in (
+      omega (arith, few-pins (a .d) (a .l) (a .choice) (a .score) (a .every) p _ (c .before .before .before .span-of .ensures)),
+      used-some (a .d) (a .l) (a .choice) (a .score) (a .every) p,
+      few-lines (a .d) (a .l) (a .choice) (a .score) (a .every) p,
+    )
 
 returns : tie.Need-returns
 returns c =
-    let a = c .before .before .before .before .before .before .before .before .args in
-    let s = span-is (a .d) (a .l) (a .choice) _ _ (c .before .before .before .before .before .every-choice .ensures)
-    (c .before .before .before .before .span-of .ensures) in
+    let start = c .before .before .before .before .before .before .before in
+    let a = start .args in
     ap (λ (x : AddrLayout). record { outcome = LaidOut; layout = x })
-    (laid (a .d) (a .l) (a .choice) _ _ _ _ _ _ (omega (arith, c .before .before .before .before .before .before .num-lines .ensures, c .before .before .before .before .before .before .before .before .pre .address-lines)) (c .before .before .before .before .before .before .before .in-range .ensures)
-    (c .before .before .before .before .before .before .num-lines .ensures) s (c .before .before .before .resolve .ensures) (c .before .before .is-single .ensures) (c .layout .ensures))
+    (laid (a .d) (a .l) (a .choice) (a .score) (a .every) (start .pre) _ _ _ _ (c .before .before .before .before .span-of .ensures) (c .before .before .before .resolve .ensures) (c .before .before .is-single .ensures) (c .layout .ensures))
 
 pub laid-out-spec : {M : Type 1} → statement M
-laid-out-spec = tie.close (tie.spec (λ c κs. search needs) (λ c κs. search needs) (λ c κs. search needs) (λ c κs. search needs) (λ c κs. search needs) (λ c κs. search needs) layout-requires returns)
+laid-out-spec = tie.close (tie.spec used-fits lines-fit (λ c κs. search needs) (λ c κs. search needs) (λ c κs. search needs) layout-requires returns)
