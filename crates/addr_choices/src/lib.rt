@@ -22,7 +22,7 @@ ghost use lib.ListN.{getD, take};
 ghost use Rattle.lists.specs.Tab.{tab};
 ghost use Rattle.gpio.specs.Span.{widened};
 ghost use Rattle.gpio.specs.design.Span.{spansJoined};
-ghost use Rattle.listing.specs.Listing.{listOf};
+ghost use Rattle.listing.specs.design.Packed.{listOf};
 ghost use Rattle.search.specs.Search.{best};
 ghost use Rattle.search.specs.design.Rows.{bestOnward};
 ghost use Rattle.addr_choices.specs.Choices.{widenedFirst, kindCandidates, selectSpan, fixedSpan, spanningOf, choiceSpan, spanWidth, paddedPins, spanTrial};

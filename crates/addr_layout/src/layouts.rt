@@ -17,7 +17,7 @@ ghost use Prim.Native.Nat.{_≤_};
 ghost use lib.Dec.{ltb};
 ghost use lib.ListN.{getD};
 ghost use Rattle.lists.specs.Tab.{tab};
-ghost use Rattle.listing.specs.Listing.{listOf};
+ghost use Rattle.listing.specs.design.Packed.{listOf};
 ghost use Rattle.addr_choices.specs.Choices.{paddedPins};
 ghost use Rattle.addr_layout.specs.Layouts.{lineGpio, addrLayoutFrom, addrLayoutOf};
 ghost use Rattle.addr_layout.specs.design.Laying.{Laying};

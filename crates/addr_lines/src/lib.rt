@@ -15,7 +15,8 @@ use slot::slot_context::Socket;
 ghost use mathlib.Core.Path.{_≡_};
 ghost use Prim.Native.Nat.{_≤_};
 ghost use Rattle.lists.specs.Tab.{tab};
-ghost use Rattle.listing.specs.Listing.{listedBy, listOf, count};
+ghost use Rattle.listing.specs.Listing.{count};
+ghost use Rattle.listing.specs.design.Packed.{listedBy, listOf};
 ghost use Rattle.addr_lines.specs.Lines.{firstPin, lines, lineSocket, isOff, offBefore, flyLead, overhanging, lineListed, addrListed};
 
 // The address pin of line 0: in 16-bit mode the data side serves address pin 0.

@@ -16,7 +16,7 @@ ghost use mathlib.Core.Bool.{false};
 ghost use mathlib.Core.List.{_++_};
 ghost use Prim.Native.Nat.{_≤_};
 ghost use Rattle.slot.specs.Description.{isMulti};
-ghost use Rattle.listing.specs.Listing.{listOf};
+ghost use Rattle.listing.specs.design.Packed.{listOf};
 ghost use Rattle.cs_pins.specs.Pins.{numbered};
 ghost use Rattle.cs_checked.specs.Checked.{ignoredListed, multiChecked};
 ghost use Rattle.cs_checked.specs.design.Selects.{MultiLinesIn, CheckedIn, pinsFault};

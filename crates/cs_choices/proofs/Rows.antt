@@ -8,7 +8,7 @@ use lib.ListN.{length, getD, take, length-take, length-map}
 use Rattle.lists.specs.Tab.{tab}
 use Rattle.lists.proofs.Shifts.{shifted-one}
 use Rattle.lists.proofs.Tab.{getD-begins}
-use Rattle.listing.specs.Listing.{listOf}
+use Rattle.listing.specs.design.Packed.{listOf}
 use Rattle.listing.specs.declared.Listing.{Listing}
 use Rattle.search.proofs.Rows.{row-first, row-fits}
 use Rattle.cs_choices.specs.Sets.{verdictOn}

@@ -16,7 +16,7 @@ ghost use Prim.Native.Nat.{_+_, _^_, _≤_, _<_};
 ghost use lib.ListN.{getD, take};
 ghost use Rattle.gpio.specs.Set.{with};
 ghost use Rattle.lists.specs.Tab.{tab};
-ghost use Rattle.listing.specs.Listing.{listOf};
+ghost use Rattle.listing.specs.design.Packed.{listOf};
 ghost use Rattle.search.specs.Search.{best};
 ghost use Rattle.search.specs.design.Rows.{bestOnward};
 ghost use Rattle.cs_verdict.specs.Verdict.{verdictTrial};

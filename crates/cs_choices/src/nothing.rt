@@ -17,7 +17,7 @@ use search::row_bits;
 ghost use mathlib.Core.Path.{_≡_};
 ghost use Prim.Native.Nat.{_^_, _≤_};
 ghost use lib.ListN.{getD};
-ghost use Rattle.listing.specs.Listing.{listOf};
+ghost use Rattle.listing.specs.design.Packed.{listOf};
 ghost use Rattle.cs_choices.specs.Sets.{verdictOn};
 ghost use Rattle.cs_choices.specs.design.Parts.{noSets, inRow, BitsIn};
 ghost use Rattle.cs_choices.specs.Nothing.{interiorIn, nothingFits};

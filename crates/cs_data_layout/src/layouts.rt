@@ -31,7 +31,7 @@ ghost use Prim.Native.Nat.{_+_, _≤_, _<_};
 ghost use lib.Dec.{ltb};
 ghost use lib.ListN.{getD, take};
 ghost use Rattle.lists.specs.Tab.{tab};
-ghost use Rattle.listing.specs.Listing.{listOf};
+ghost use Rattle.listing.specs.design.Packed.{listOf};
 ghost use Rattle.cs_verdict.specs.Verdict.{allOf, baseOf};
 ghost use Rattle.cs_data_layout.specs.Choices.{ignoreIndex, qualifiersFrom, selectLine, numCommoned, commonedLine, csDataLayoutFrom, csDataLayoutOf};
 ghost use Rattle.cs_data_layout.specs.design.Given.{LinesIn, Laying};

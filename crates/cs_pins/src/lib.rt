@@ -22,7 +22,7 @@ ghost use mathlib.Core.List.{_++_};
 ghost use Prim.Native.Nat.{_+_, _≤_};
 ghost use lib.ListN.{getD};
 ghost use Rattle.slot.specs.Description.{chip0};
-ghost use Rattle.listing.specs.Listing.{listedBy, listOf};
+ghost use Rattle.listing.specs.design.Packed.{listedBy, listOf};
 ghost use Rattle.cs_pins.specs.Pins.{pinListed, dataListed, active, activeListed, kindListed, selectListed, multiCommoned, numbered, csSearchIn};
 ghost use Rattle.cs_pins.specs.design.Numbered.{NumberedIn, NumberedBy};
 

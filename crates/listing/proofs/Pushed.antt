@@ -9,7 +9,7 @@ use native.Mathlib.Omega.{arith}
 use lib.ListN.{length, take, getD, set, length-set, length-map, List·getD-map}
 use lib.Seq.{take-suc, take-suc-set, take-set-le}
 use Rattle.lists.specs.Tab.{tab}
-use Rattle.listing.specs.Listing.{blank, listedBy}
+use Rattle.listing.specs.design.Packed.{blank, listedBy}
 use Rattle.listing.specs.declared.Listed.{Listed}
 use Rattle.listing.specs.declared.packed.Packed.{Packed}
 

@@ -12,7 +12,8 @@ use Rattle.gpio.specs.declared.candidates.Candidates.{Candidates}
 use Rattle.gpio.specs.declared.candidates.Candidates.the-variants.{Absent}
 use Rattle.lists.proofs.Each.{tally-turn}
 use Rattle.refusal.specs.declared.Refusal.the-variants.{OutOfDomain}
-use Rattle.listing.specs.Listing.{listed, blank, listedBy}
+use Rattle.listing.specs.Listing.{listed}
+use Rattle.listing.specs.design.Packed.{blank, listedBy}
 use Rattle.listing.specs.Choice.{chosen, leftBy, pinAt, restAt, gpioAt, bitOf}
 use Rattle.listing.specs.declared.Listed.{Listed}
 use Rattle.listing.specs.declared.choice.Picked.{Picked}

@@ -1,9 +1,9 @@
 -- The pins that a search lists. Assumes nothing.
 use Prim.Native.Nat.{ℕ, _+_, _-_}
 use mathlib.Core.Bool.{Bool, cond}
-use mathlib.Core.List.{List, [], _∷_, map}
+use mathlib.Core.List.{List, [], _∷_}
 use lib.Dec.{leb, eqb}
-use lib.ListN.{getD, take}
+use lib.ListN.{getD}
 use Rattle.gpio.specs.Candidates.{two}
 use Rattle.gpio.specs.declared.candidates.Candidates.{Candidates}
 use Rattle.gpio.specs.declared.candidates.Candidates.the-variants.{Absent, One, Two}
@@ -11,10 +11,8 @@ use Rattle.slot.specs.Description.{noPin}
 use Rattle.slot.specs.declared.description.Board.{Board}
 use Rattle.refusal.specs.First.{orElse}
 use Rattle.refusal.specs.declared.Refusal.{Refusal}
-use Rattle.refusal.specs.declared.Refusal.the-variants.{OutOfDomain, NoSelectLine, UnmappedPin, MissingXPin, NoValidLayout}
+use Rattle.refusal.specs.declared.Refusal.the-variants.{MissingXPin}
 use Rattle.listing.specs.declared.Listed.{Listed}
-use Rattle.listing.specs.declared.Listing.{Listing}
-use Rattle.listing.specs.declared.packed.Packed.{Packed}
 use Rattle.refusal.specs.declared.first.FirstFault.{FirstFault}
 use Rattle.refusal.specs.declared.first.FirstFault.the-variants.{None, Of}
 
@@ -33,28 +31,6 @@ xListed b x = cond (eqb x 1) (listed (b .x1) (MissingXPin 1)) (listed (b .x2) (M
 -- X1 where a search needs it, and X2 where it needs both
 abbrev pub xPins : Board → Bool → Bool → List Listed
 xPins b one both = cond one (xListed b 1 ∷ cond both (xListed b 2 ∷ []) []) []
-
--- the candidates of a packed pin: how many, the first, the second
-abbrev pub gpiosBy : ℕ → ℕ → ℕ → Candidates
-gpiosBy n g h = cond (eqb n 0) Absent (cond (eqb n 1) (One g) (Two g h))
-
--- the refusal that a packed pin has, by its number and place
-abbrev pub faultBy : ℕ → ℕ → Refusal
-faultBy n place =
-    cond (eqb n 3) (UnmappedPin place)
-    (cond (eqb n 4) (MissingXPin place) (cond (eqb n 2) NoSelectLine (cond (eqb n 9) NoValidLayout OutOfDomain)))
-
--- the listed pin that is packed
-abbrev pub listedBy : Packed → Listed
-listedBy p = listed (gpiosBy (p .candidates) (p .first) (p .second)) (faultBy (p .fault) (p .place))
-
--- past the pins that are packed
-abbrev pub blank : Packed
-blank = record { candidates = 0; first = 0; second = 0; fault = 0; place = 0 }
-
--- 01 Shape 2: the list that a listing holds is its array up to the count
-abbrev pub listOf : Listing → List Listed
-listOf l = take (l .count) (map listedBy (l .pins))
 
 -- 01 Domain 8: a listed pin counts if it has two candidates; one that has none, for whatever cause, does not
 abbrev pub twoListed : Listed → Bool

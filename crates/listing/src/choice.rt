@@ -6,7 +6,7 @@ ghost use mathlib.Core.Path.{_≡_};
 ghost use mathlib.Core.Bool.{cond};
 ghost use Prim.Native.Nat.{_≤_};
 ghost use Rattle.lists.specs.Tab.{tab};
-ghost use Rattle.listing.specs.Listing.{listOf};
+ghost use Rattle.listing.specs.design.Packed.{listOf};
 ghost use Rattle.listing.specs.Choice.{chosen, leftBy, gpioAt};
 ghost use Rattle.listing.specs.design.Parts.{inPart};
 

@@ -13,7 +13,8 @@ use slot::description::Board;
 ghost use mathlib.Core.Path.{_≡_};
 ghost use mathlib.Core.List.{[], _∷_, _++_};
 ghost use Prim.Native.Nat.{_+_, _≤_, _<_};
-ghost use Rattle.listing.specs.Listing.{candidatesAt, xListed, xPins, twoListed, count, twos, listedBy, listOf, keepFault, firstFault};
+ghost use Rattle.listing.specs.Listing.{candidatesAt, xListed, xPins, twoListed, count, twos, keepFault, firstFault};
+ghost use Rattle.listing.specs.design.Packed.{listedBy, listOf};
 
 // A listed pin.
 pub struct Listed {

@@ -3,7 +3,8 @@ use crate::Listed;
 use gpio::candidates::Candidates;
 use refusal::Refusal;
 ghost use mathlib.Core.Path.{_≡_};
-ghost use Rattle.listing.specs.Listing.{listed, gpiosBy, faultBy, listedBy};
+ghost use Rattle.listing.specs.Listing.{listed};
+ghost use Rattle.listing.specs.design.Packed.{gpiosBy, faultBy, listedBy};
 
 // The numbers of the refusals that a listed pin can have.
 pub const NO_SELECT_LINE: u8 = 2;

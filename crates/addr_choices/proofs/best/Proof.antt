@@ -11,7 +11,7 @@ use Rattle.lists.specs.Tab.{tab}
 use Rattle.gpio.specs.declared.span.Span.{Span}
 use Rattle.lists.proofs.Shifts.{shifted-one}
 use Rattle.lists.proofs.Tab.{getD-begins}
-use Rattle.listing.specs.Listing.{listOf}
+use Rattle.listing.specs.design.Packed.{listOf}
 use Rattle.listing.specs.declared.Listed.{Listed}
 use Rattle.search.specs.Search.{best}
 use Rattle.search.specs.declared.Trial.{Trial}

@@ -8,7 +8,7 @@ use mathlib.Core.List.{List}
 use Rattle.lists.specs.Tab.{tab}
 use Rattle.gpio.specs.declared.span.Span.{Span}
 use Rattle.lists.proofs.Tab.{Filled, filled-none, filled-turn}
-use Rattle.listing.specs.Listing.{listOf}
+use Rattle.listing.specs.design.Packed.{listOf}
 use Rattle.addr_choices.specs.design.Parts.{partSpan}
 use Rattle.lists.proofs.Shifts.{shifted-one}
 use Rattle.search.proofs.Rows.{row-short}

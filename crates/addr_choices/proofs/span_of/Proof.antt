@@ -1,7 +1,7 @@
 -- `span_of` meets its contract. Assumes nothing.
 use mathlib.Core.Path.{_∙_}
 use lib.ListN.{length}
-use Rattle.listing.specs.Listing.{listOf}
+use Rattle.listing.specs.design.Packed.{listOf}
 use Rattle.addr_choices.proofs.Parts.{part-all}
 use borrow.Author.Needs.{needs}
 use Rattle.addr_choices.proofs.span_of.Statement.{statement}

@@ -3,7 +3,8 @@ use mathlib.Core.Path.{_≡_, sym, _∙_, ap}
 use mathlib.Core.List.{List}
 use Prim.Native.Nat.{ℕ, _^_}
 use Rattle.slot.specs.declared.description.Description.{Description}
-use Rattle.listing.specs.Listing.{listOf, twos}
+use Rattle.listing.specs.Listing.{twos}
+use Rattle.listing.specs.design.Packed.{listOf}
 use Rattle.listing.specs.declared.Listed.{Listed}
 use Rattle.search.specs.Search.{best}
 use Rattle.search.specs.declared.Found.{Found}

@@ -3,7 +3,8 @@
 use Prim.Native.Nat.{ℕ, _≤_}
 use mathlib.Core.Path.{_≡_}
 use Rattle.slot.specs.declared.description.Description.{Description}
-use Rattle.listing.specs.Listing.{listOf, twos}
+use Rattle.listing.specs.Listing.{twos}
+use Rattle.listing.specs.design.Packed.{listOf}
 use Rattle.listing.specs.declared.Listing.{Listing}
 use Rattle.search.specs.declared.Trial.the-variants.{Score}
 use Rattle.addr_lines.specs.Lines.{lines, addrListed}

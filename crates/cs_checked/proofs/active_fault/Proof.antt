@@ -17,7 +17,8 @@ use Rattle.refusal.specs.declared.Refusal.the-variants.{NoSelectLine}
 use Rattle.refusal.specs.declared.first.FirstFault.{FirstFault}
 use Rattle.refusal.specs.declared.first.FirstFault.the-variants.{None, Of}
 use Rattle.refusal.proofs.Firsts.{or-assoc, or-end}
-use Rattle.listing.specs.Listing.{listOf, faultFrom, firstFault}
+use Rattle.listing.specs.Listing.{faultFrom, firstFault}
+use Rattle.listing.specs.design.Packed.{listOf}
 use Rattle.listing.specs.declared.Listed.{Listed}
 use Rattle.listing.proofs.Faults.{fault-joined}
 use Rattle.cs_pins.specs.Pins.{dataListed, activeListed, selectListed, commonedListed, numbered}

@@ -7,7 +7,8 @@ use Rattle.slot.specs.Description.{isMulti, chip0}
 use Rattle.slot.specs.declared.description.Description.{Description}
 use Rattle.refusal.specs.First.{orElse}
 use Rattle.refusal.specs.declared.first.FirstFault.{FirstFault}
-use Rattle.listing.specs.Listing.{listOf, firstFault}
+use Rattle.listing.specs.Listing.{firstFault}
+use Rattle.listing.specs.design.Packed.{listOf}
 use Rattle.listing.specs.declared.Listing.{Listing}
 use Rattle.cs_pins.specs.Pins.{dataListed, numbered}
 use Rattle.cs_checked.specs.Checked.{checked}

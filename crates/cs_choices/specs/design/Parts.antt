@@ -8,7 +8,7 @@ use lib.Dec.{leb}
 use lib.ListN.{length}
 use Rattle.gpio.specs.Set.{with}
 use Rattle.listing.specs.Choice.{gpioAt, bitOf, GpiosIn}
-use Rattle.listing.specs.Listing.{listOf}
+use Rattle.listing.specs.design.Packed.{listOf}
 use Rattle.listing.specs.design.Parts.{inPart}
 use Rattle.listing.specs.declared.Listed.{Listed}
 use Rattle.listing.specs.declared.Listing.{Listing}

@@ -9,7 +9,8 @@ use Rattle.slot.specs.declared.description.Chip.{Chip}
 use Rattle.slot.specs.declared.description.Description.{Description}
 use Rattle.domain.specs.Domain.{descriptionIn}
 use Rattle.domain.proofs.Bounds.{chip0-in}
-use Rattle.listing.specs.Listing.{listOf, twos}
+use Rattle.listing.specs.Listing.{twos}
+use Rattle.listing.specs.design.Packed.{listOf}
 use Rattle.listing.specs.declared.Listing.{Listing}
 use Rattle.search.specs.declared.Found.{Found}
 use Rattle.search.specs.declared.Found.the-variants.{Nothing, At}

@@ -11,7 +11,7 @@ use Rattle.slot.specs.declared.description.Chip.{Chip}
 use Rattle.slot.specs.declared.description.ControlLine.{ControlLine}
 use Rattle.slot.specs.declared.description.ControlLines.{ControlLines}
 use Rattle.slot.specs.declared.description.Description.{Description}
-use Rattle.listing.specs.Listing.{listedBy, listOf}
+use Rattle.listing.specs.design.Packed.{listedBy, listOf}
 use Rattle.listing.proofs.Pushed.{stored-if}
 use Rattle.listing.specs.declared.Listed.{Listed}
 use Rattle.cs_pins.specs.Pins.{pinListed, active, ifActive, activeListed}

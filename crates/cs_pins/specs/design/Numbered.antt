@@ -6,7 +6,8 @@ use mathlib.Core.Bool.{true}
 use lib.ListN.{length}
 use Rattle.slot.specs.Description.{isMulti, chip0}
 use Rattle.slot.specs.declared.description.Description.{Description}
-use Rattle.listing.specs.Listing.{listOf, twos}
+use Rattle.listing.specs.Listing.{twos}
+use Rattle.listing.specs.design.Packed.{listOf}
 use Rattle.cs_pins.specs.Pins.{numbered, csSearchIn}
 use Rattle.cs_pins.specs.declared.Numbering.{Numbering}
 

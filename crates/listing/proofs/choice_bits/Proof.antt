@@ -6,7 +6,8 @@ use native.Mathlib.Omega.{arith}
 use lib.ListN.{length, take, getD}
 use Rattle.lists.proofs.Lists.{mapped-length}
 use Rattle.listing.specs.declared.Listed.{Listed}
-use Rattle.listing.specs.Listing.{blank, listedBy, twos, twoListed, count}
+use Rattle.listing.specs.Listing.{twos, twoListed, count}
+use Rattle.listing.specs.design.Packed.{blank, listedBy}
 use Rattle.listing.specs.declared.packed.Packed.{Packed}
 use Rattle.listing.proofs.Pushed.{taken}
 use Rattle.listing.proofs.Twos.{twos-append, twos-one}

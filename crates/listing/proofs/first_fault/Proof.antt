@@ -7,7 +7,8 @@ use lib.ListN.{length, take, getD}
 use Rattle.lists.proofs.Lists.{mapped-length}
 use Rattle.listing.specs.declared.Listed.{Listed}
 use Rattle.refusal.specs.declared.first.FirstFault.{FirstFault}
-use Rattle.listing.specs.Listing.{blank, listedBy, faultFrom, firstFault, keepFault}
+use Rattle.listing.specs.Listing.{faultFrom, firstFault, keepFault}
+use Rattle.listing.specs.design.Packed.{blank, listedBy}
 use Rattle.listing.specs.declared.packed.Packed.{Packed}
 use Rattle.listing.proofs.Pushed.{taken}
 use Rattle.listing.proofs.Faults.{fault-snoc}

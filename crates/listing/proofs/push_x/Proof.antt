@@ -1,7 +1,7 @@
 -- `push_x` meets its contract. Assumes nothing.
 use native.Mathlib.Omega.{arith}
 use borrow.Author.Tests.{not-true, not-false}
-use Rattle.listing.specs.Listing.{listOf}
+use Rattle.listing.specs.design.Packed.{listOf}
 use Rattle.listing.proofs.Pushed.{pushed-not, pushed-one, pushed-both}
 use borrow.Author.Needs.{needs}
 use Rattle.listing.proofs.push_x.Statement.{statement}

@@ -23,7 +23,7 @@ use Rattle.listing.specs.Choice.{gpioAt}
 use Rattle.addr_layout.specs.declared.layout.AddrOutcome.the-variants.{LaidOut}
 use Rattle.addr_lines.specs.Lines.{lines}
 use Rattle.slot.specs.declared.description.Description.{Description}
-use Rattle.listing.specs.Listing.{listOf}
+use Rattle.listing.specs.design.Packed.{listOf}
 use Rattle.listing.specs.declared.Listing.{Listing}
 use Rattle.addr_layout.specs.declared.layout.AddrLayout.{AddrLayout}
 use Rattle.addr_layout.specs.design.Laying.{Laying}

@@ -5,7 +5,7 @@ use native.Mathlib.Nat.{zero-mul}
 use native.Mathlib.Omega.{arith}
 use lib.ListN.{length}
 use Rattle.lists.proofs.Lists.{mapped-length}
-use Rattle.listing.specs.Listing.{listOf}
+use Rattle.listing.specs.design.Packed.{listOf}
 use Rattle.search.specs.Search.{best}
 use Rattle.search.proofs.Rows.{rows-turn, rows-done}
 use Rattle.cs_choices.specs.Sets.{verdictOn}

@@ -8,7 +8,7 @@ use lib.ListN.{take}
 use Rattle.lists.specs.Tab.{tab}
 use Rattle.lists.proofs.Shifts.{shifted-one}
 use Rattle.lists.proofs.Tab.{Filled, filled-none, filled-turn}
-use Rattle.listing.specs.Listing.{listOf}
+use Rattle.listing.specs.design.Packed.{listOf}
 use Rattle.search.proofs.Rows.{row-short}
 use Rattle.cs_choices.specs.design.Parts.{partsOf}
 use Rattle.cs_choices.specs.declared.choices.Sets.{Sets}

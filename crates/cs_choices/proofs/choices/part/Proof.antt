@@ -10,7 +10,7 @@ use lib.ListN.{length}
 use Rattle.gpio.specs.Set.{with}
 use Rattle.lists.proofs.Each.{tally-none}
 use Rattle.lists.proofs.Lists.{mapped-length}
-use Rattle.listing.specs.Listing.{listOf}
+use Rattle.listing.specs.design.Packed.{listOf}
 use Rattle.listing.specs.Choice.{restAt, gpioAt, bitOf, GpiosIn}
 use Rattle.listing.specs.design.Parts.{inPart}
 use Rattle.listing.specs.declared.Listed.{Listed}

@@ -6,7 +6,7 @@ use Prim.Native.Nat.{ℕ}
 use native.Mathlib.Omega.{arith}
 use lib.ListN.{length, length-take, length-map}
 use Rattle.lists.proofs.Lists.{mapped-length}
-use Rattle.listing.specs.Listing.{listOf}
+use Rattle.listing.specs.design.Packed.{listOf}
 use Rattle.listing.specs.declared.Listed.{Listed}
 use Rattle.cs_choices.specs.design.Parts.{setPartAt, partsOf}
 use Rattle.cs_choices.specs.declared.choices.Sets.{Sets}

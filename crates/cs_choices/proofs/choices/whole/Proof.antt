@@ -7,7 +7,7 @@ use lib.Bits.{bitOr}
 use lib.ListN.{length, length-take, length-map}
 use mathlib.Core.Bool.{false}
 use Rattle.lists.proofs.Lists.{mapped-length}
-use Rattle.listing.specs.Listing.{listOf}
+use Rattle.listing.specs.design.Packed.{listOf}
 use Rattle.listing.specs.declared.Listed.{Listed}
 use Rattle.cs_choices.specs.design.Parts.{partsOf, setsOf}
 use Rattle.cs_choices.specs.declared.choices.Sets.{Sets}

@@ -5,7 +5,7 @@ use native.Mathlib.Omega.{arith}
 use lib.ListN.{length, length-take, length-map}
 use Rattle.lists.proofs.Lists.{mapped-length}
 use Rattle.lists.proofs.Tab.{Begun, begun-none, begun-turn, begun-all}
-use Rattle.listing.specs.Listing.{listOf}
+use Rattle.listing.specs.design.Packed.{listOf}
 use Rattle.listing.specs.Choice.{restAt, gpioAt}
 use Rattle.listing.proofs.Walked.{pin-taken, gpio-past, gpio-taken, rest-left}
 use borrow.Author.Needs.{needs}
