@@ -1,5 +1,5 @@
 -- What the reading of a ROM in order is given. Assumes nothing.
-use mathlib.Core.Path.{_≡_, refl, sym, _∙_, ap, subst}
+use mathlib.Core.Path.{_≡_, sym, _∙_, ap, subst}
 use mathlib.Core.List.{List}
 use Prim.Native.Nat.{ℕ, _+_, _≤_, _<_}
 use native.Mathlib.Nat.{le-trans, mul-le-mul-right, lt-of-lt-of-le}
@@ -48,7 +48,6 @@ module _ {r : Reading} {k b m pins : ℕ} {order : Map} (p : Placed r k b m pins
   pub in-order : InOrder (rom p) order (getD (r .«data_lines») k noMap) stored output
   in-order = record {
     rom-in = rom-in;
-    lines = refl;
     data-lines = omega (arith, h .reading .data-lines k l5, width-two _ (h .width));
     some = pow-pos _;
     turns = turn-in;

@@ -19,6 +19,7 @@ fn said(low_bytes: &[u32], high_bytes: &[u32], entry: u32) -> u32
     low_bytes[low] | high_bytes[high]
 }
 
+// Writes words of one byte.
 fn write_bytes(
     lows: &[u32],
     low_bytes: &[u32],
@@ -42,6 +43,7 @@ fn write_bytes(
     }
 }
 
+// Writes words of two bytes.
 fn write_pairs(
     lows: &[u32],
     low_bytes: &[u32],
@@ -88,6 +90,7 @@ pub fn write_row(
     }
 }
 
+// Whether words of one byte are the same.
 fn same_bytes(
     lows: &[u32],
     low_bytes: &[u32],
@@ -113,6 +116,7 @@ fn same_bytes(
     ok
 }
 
+// Whether words of two bytes are the same.
 fn same_pairs(
     lows: &[u32],
     low_bytes: &[u32],

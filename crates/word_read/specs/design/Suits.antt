@@ -52,7 +52,6 @@ lowsOf rom positions = tab 256 (λ q. scatter (rom .lines) (λ k. getD positions
 -- what the reading of a ROM in order is given
 pub record InOrder (rom : Rom) (order data-map : Map) (stored output : List ℕ) : Type 0 where
   pub rom-in : RomIn rom stored
-  pub lines : order .lines ≡ rom .lines
   pub data-lines : data-map .lines ≤ 32
   pub some : 0 < rom .turns
   pub turns : (c : ℕ) → c < rom .turns → TurnIn rom (order .positions) (lowsOf rom (order .positions)) (turnStart rom c)
