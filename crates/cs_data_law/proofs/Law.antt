@@ -58,8 +58,8 @@ laid-not-refused r e = zero-one cc
 same-refusal : (r w : Refusal) → csDataRefused r ≡ csDataRefused w → r ≡ w
 same-refusal r w e = let o : Refused r ≡ Refused w = ap (λ (x : CsDataAnswer). x .outcome) e in cc
 
--- of two numbers neither of which is below the other
-neither-below : (b c : ℕ) → (b < c → ⊥) → (c < b → ⊥) → b ≡ c
+-- two numbers, neither of which is below the other
+pub neither-below : (b c : ℕ) → (b < c → ⊥) → (c < b → ⊥) → b ≡ c
 neither-below b c p q =
     let l : c < suc b = lt-of-not-le (λ (h : suc b ≤ c). p h) in
     let m : b < suc c = lt-of-not-le (λ (h : suc c ≤ b). q h) in

@@ -3,8 +3,7 @@ use mathlib.Core.Path.{_≡_, refl, sym, _∙_, ap, subst}
 use mathlib.Core.Bool.{Bool, true, false, _&&_, _||_}
 use mathlib.Core.List.{List}
 use mathlib.Core.Logic.{inl, inr}
-use Prim.Native.Nat.{ℕ, suc, _+_, _≤_, _<_}
-use native.Mathlib.Nat.{lt-of-not-le}
+use Prim.Native.Nat.{ℕ, _+_, _≤_, _<_}
 use native.Mathlib.Omega.{arith}
 use lib.Dec.{leb}
 use lib.ListN.{length, take}
@@ -22,6 +21,8 @@ use Rattle.addr_layout.specs.declared.layout.AddrAnswer.{AddrAnswer}
 use Rattle.addr_law.specs.Law as law
 use Rattle.addr_law.proofs.Law.{addr-demand}
 use Rattle.gpio.specs.Window.{fits}
+use Rattle.cs_data_law.proofs.Law.{neither-below}
+use Rattle.premises.proofs.Truths.{or-right}
 use Rattle.addr_record.specs.AddrRecord.{addrSize, layoutAt, ValuedAddr}
 use Rattle.addr_record.proofs.Back.{layout-back}
 use Rattle.calls.specs.Packed.{packedCode, resultOf}
@@ -36,13 +37,10 @@ use Rattle.demands.proofs.Refused.{number-of}
 -- what a PIO block sees, as numbers and as the definition's test
 seen-fits : (low pins : ℕ) → Seen low pins → fits low pins ≡ true
 seen-fits low pins s = elim s [
-  | inl h ↦ rw (le-leb _ _ h)
-  | inr h ↦ or-right (leb (low + pins) 32) (leb 16 low && leb (low + pins) 48) (rw (le-leb _ _ (h .0), le-leb _ _ (h .1)))
+  | inl h ↦ rw (le-leb (low + pins) 32 (omega (arith, h)))
+  | inr h ↦ or-right (leb (low + pins) 32) (leb 16 low && leb (low + pins) 48)
+      (rw (le-leb 16 low (omega (arith, h .0)), le-leb (low + pins) 48 (omega (arith, h .1))))
 ]
-  where
-    or-right : (t u : Bool) → u ≡ true → t || u ≡ true
-    or-right true u e = refl
-    or-right false u e = e
 
 fits-seen : (low pins : ℕ) → fits low pins ≡ true → Seen low pins
 fits-seen low pins e = by (leb (low + pins) 32) refl e
@@ -117,13 +115,11 @@ module _ (description buffer : List ℕ) (past : AddressPast description buffer)
   one : (l m : AddrLayout) (p : BestAddress d l) (q : BestAddress d m)
       → (p .choice ≡ q .choice) × (l .«gpio_base» ≡ m .«gpio_base») × (l .«num_addr_pins» ≡ m .«num_addr_pins»)
   one l m p q =
-      let first : q .choice < suc (p .choice) = lt-of-not-le (λ (h : suc (p .choice) ≤ q .choice). not-earlier l m p q h) in
-      let second : p .choice < suc (q .choice) = lt-of-not-le (λ (h : suc (q .choice) ≤ p .choice). not-earlier m l q p h) in
       let same = no-worse l m p q in
       let other = no-worse m l q p in
       let low = below-48 _ _ (p .fits .seen) in
       let low' = below-48 _ _ (q .fits .seen) in
-      (omega (arith, first, second), omega (arith, same, other, low, low'), omega (arith, same, other, low, low'))
+      (neither-below (p .choice) (q .choice) (not-earlier l m p q) (not-earlier m l q p), omega (arith, same, other, low, low'), omega (arith, same, other, low, low'))
 
   none : addrAnswer d ≡ addrRefused NoValidLayout → numberIn (addressCalled description buffer .result) ≡ 9
   none e =

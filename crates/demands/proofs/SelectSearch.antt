@@ -20,7 +20,7 @@ use Rattle.cs_data_layout.specs.declared.layout.CsDataLayout.{CsDataLayout}
 use Rattle.cs_data_layout.specs.declared.layout.CsDataOutcome.{CsDataOutcome}
 use Rattle.cs_data_layout.specs.declared.layout.CsDataAnswer.{CsDataAnswer}
 use Rattle.cs_data_law.specs.Law as select
-use Rattle.cs_data_law.proofs.Law.{cs-data-demand}
+use Rattle.cs_data_law.proofs.Law.{neither-below, cs-data-demand}
 use Rattle.cs_data_record.specs.CsDataRecord.{csDataSize, csDataAt, ValuedCsData}
 use Rattle.cs_data_record.proofs.Back.{cs-data-back}
 use Rattle.addr_record.specs.AddrRecord.{givenAt}
@@ -107,10 +107,7 @@ module _ (description layout buffer : List ℕ) (past : SelectPast description l
       clash _ _ _ _ (p .lowest _ (cs-data-demand d a tests .numbers .makes-one (q .choice)) (q .fits)) (q .earliest (p .choice) h (p .fits))
 
   one : (l m : CsDataLayout) (p : BestSelect d a l) (q : BestSelect d a m) → p .choice ≡ q .choice
-  one l m p q =
-      let first : q .choice < suc (p .choice) = lt-of-not-le (λ (h : suc (p .choice) ≤ q .choice). not-earlier l m p q h) in
-      let second : p .choice < suc (q .choice) = lt-of-not-le (λ (h : suc (q .choice) ≤ p .choice). not-earlier m l q p h) in
-      omega (arith, first, second)
+  one l m p q = neither-below (p .choice) (q .choice) (not-earlier l m p q) (not-earlier m l q p)
 
   none : (why : Refusal) → csDataAnswer d a ≡ csDataRefused why → numberIn (selectCalled description layout buffer .result) ≡ numberOf why
   none why e =
