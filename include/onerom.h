@@ -1,6 +1,6 @@
 /*
  * The calls of Tartankerb for C; docs/TERMS.md says what the words mean. Rendered from docs/INTERFACE.md: edit
- * that page, and see bench/README.md.
+ * that page, and see wrapper/README.md.
  *
  * A byte slice is a pointer and a length. The pointer is good for that many bytes; where the length is 0 it is
  * any but null. A slice that is lent for writing overlaps no other slice of its call; those that are only read

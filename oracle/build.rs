@@ -31,10 +31,12 @@ fn main() {
     let source = sources().join("rust/gen/src");
     println!("cargo:rerun-if-changed={}", source.display());
     if !all_there(&source) {
-        println!(
-            "cargo:warning=original sources not found at {}",
-            source.display()
-        );
+        // Who has not asked for the original need not hear of it here: what takes it as a judge says
+        // whether it is there.
+        if env::var_os("ONEROM_SRC").is_some() {
+            let place = source.display();
+            println!("cargo:warning=original sources not found at {place}");
+        }
         return;
     }
     let out = PathBuf::from(env::var("OUT_DIR").expect("cargo sets OUT_DIR"));

@@ -54,7 +54,7 @@ const COMMANDS: &[&Command] = &[
 
 const HELP: [&str; 2] = ["--help", "-h"];
 const VERSION: [&str; 2] = ["--version", "-V"];
-const VERSIONED: &str = concat!("bench ", env!("CARGO_PKG_VERSION"), "\n");
+const VERSIONED: &str = concat!("onerom-bench ", env!("CARGO_PKG_VERSION"), "\n");
 
 const ABOUT: &str = "\
 Lays out the board of a One ROM, builds the table that it answers from and
@@ -65,12 +65,12 @@ const EXIT_CODES: &str = "\
 Exit codes: 0 it is done; 1 the library refuses, or what comes out is not what
 was expected; 2 words that are no command, or a file that cannot be used.
 
-Start with `bench`, then `bench sample`, which writes files to go on with.
+Start with `onerom-bench`, then `onerom-bench sample`, which writes files to go on with.
 ";
 
 impl Command {
     fn usage(&self) -> String {
-        format!("bench {} {}", self.name, self.words)
+        format!("onerom-bench {} {}", self.name, self.words)
     }
 
     fn whole_help(&self) -> String {
@@ -112,7 +112,9 @@ impl Command {
             [] => "no flag".into(),
             flags => flags.join(", "),
         };
-        format!("bench {name}: expected {taken}, found `{word}`; `bench {name} --help` says more")
+        format!(
+            "onerom-bench {name}: expected {taken}, found `{word}`; `onerom-bench {name} --help` says more"
+        )
     }
 
     /// What is said of words that are not the command's.
@@ -122,7 +124,9 @@ impl Command {
             [] => "nothing".into(),
             _ => format!("`{}`", found.join(OsStr::new(" ")).display()),
         };
-        format!("bench {name}: expected {expected}, found {found}; `bench {name} --help` says more")
+        format!(
+            "onerom-bench {name}: expected {expected}, found {found}; `onerom-bench {name} --help` says more"
+        )
     }
 }
 
@@ -170,15 +174,18 @@ fn helped(text: &str) -> ExitCode {
 fn unknown(name: &OsStr) -> ExitCode {
     let names: Vec<&str> = COMMANDS.iter().map(|command| command.name).collect();
     unread(&format!(
-        "bench: expected a command ({}), found `{}`; `bench help` says what each does",
+        "onerom-bench: expected a command ({}), found `{}`; `onerom-bench help` says what each does",
         names.join(", "),
         name.display()
     ))
 }
 
 fn overview() -> String {
-    let alone = ("bench".to_string(), sample::SUMMARY);
-    let help = ("bench COMMAND --help".to_string(), "Says more of a command");
+    let alone = ("onerom-bench".to_string(), sample::SUMMARY);
+    let help = (
+        "onerom-bench COMMAND --help".to_string(),
+        "Says more of a command",
+    );
     let own = COMMANDS.iter().map(|one| (one.usage(), one.summary));
     let rows: Vec<(String, &str)> = [alone].into_iter().chain(own).chain([help]).collect();
     let width = rows.iter().map(|(usage, _)| usage.len()).max();

@@ -14,7 +14,7 @@ use std::collections::BTreeMap;
 use std::fmt;
 use std::process::ExitCode;
 
-use onerom_bench::interface::refusals;
+use onerom::interface::refusals;
 use oracle::case::{Case, line_of};
 use oracle::engine::Engine;
 use oracle::model::Model;

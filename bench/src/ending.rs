@@ -4,7 +4,7 @@ use std::io::{self, ErrorKind, Write};
 use std::path::Path;
 use std::process::ExitCode;
 
-use onerom_bench::Refusal;
+use onerom::Refusal;
 
 /// Words that are no command, or a file that cannot be used.
 const UNREAD: u8 = 2;

@@ -5,9 +5,10 @@ use std::fs::File;
 use std::io::Read;
 use std::path::Path;
 
-use onerom_bench::images::LARGEST_CHIP;
+use onerom::Description;
+use onerom::images::LARGEST_CHIP;
+use onerom_bench::text;
 use onerom_bench::text::TextError;
-use onerom_bench::{Description, text};
 
 use crate::ending::Fault;
 
@@ -56,7 +57,8 @@ pub fn described(file: &Path) -> Result<Description, Fault> {
         text::read(text).map(Some)
     };
     text_of(file, described)?.ok_or_else(|| {
-        let why = "expected a description, found a stored slot, which `bench read-back` takes";
+        let why =
+            "expected a description, found a stored slot, which `onerom-bench read-back` takes";
         Fault::of_file(file, why)
     })
 }

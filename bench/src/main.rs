@@ -16,7 +16,9 @@ mod wiring;
 use std::ffi::OsString;
 use std::process::ExitCode;
 
-use onerom_bench::{AddrLayout, CsDataLayout, Refusal, derive_addr_layout, derive_cs_data_layout};
+use onerom::{
+    AddrLayout, CsDataLayout, Description, Refusal, derive_addr_layout, derive_cs_data_layout,
+};
 
 /// The sample's description, a 2764 on a 28-pin board.
 const SAMPLE: &str = include_str!("../sample/2764.txt");
@@ -26,9 +28,9 @@ fn main() -> ExitCode {
     commands::run(&words)
 }
 
-/// Both layouts of the slot that a record describes.
-fn laid_out(record: &[u8]) -> Result<(AddrLayout, CsDataLayout), Refusal> {
-    let addr = derive_addr_layout(record)?;
-    let cs_data = derive_cs_data_layout(record, &addr.to_bytes())?;
+/// Both layouts of a slot.
+fn laid_out(slot: &Description) -> Result<(AddrLayout, CsDataLayout), Refusal> {
+    let addr = derive_addr_layout(slot)?;
+    let cs_data = derive_cs_data_layout(slot, Some(&addr))?;
     Ok((addr, cs_data))
 }

@@ -1,9 +1,9 @@
 //! The library's values as the oracle has them, and back.
 
-use onerom_bench::description::Candidates;
-use onerom_bench::layout::cs_data::{Line, Qualifiers, Role};
-use onerom_bench::slot::{Layout, Map, Rom, SlotKind};
-use onerom_bench::{AddrLayout, CsDataLayout, Refusal, StoredSlot};
+use onerom::description::Candidates;
+use onerom::layout::cs_data::{Line, Qualifiers, Role};
+use onerom::slot::{Layout, Map, Rom, SlotKind};
+use onerom::{AddrLayout, CsDataLayout, Refusal, StoredSlot};
 use oracle::description::{NONE, Pin};
 use oracle::engine::Failure;
 use oracle::layout::{AddressLayout, Qualifier, SelectLayout};

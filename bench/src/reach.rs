@@ -1,9 +1,9 @@
 //! Whether the address lines in use reach all words of the chips. The library serves what they
 //! reach and refuses nothing, so that a line left out of a description would cost half a ROM.
 
-use onerom_bench::description::Chip;
-use onerom_bench::slot::words;
-use onerom_bench::{AddrLayout, Description};
+use onerom::description::Chip;
+use onerom::slot::words;
+use onerom::{AddrLayout, Description};
 
 use crate::ending::Fault;
 

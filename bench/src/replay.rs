@@ -1,4 +1,4 @@
-//! `bench replay`: a fixed list of docs/CASES.md through the C interface. It needs the list alone, not
+//! `onerom-bench replay`: a fixed list of docs/CASES.md through the C interface. It needs the list alone, not
 //! the original's files.
 
 use std::fmt;

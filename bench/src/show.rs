@@ -4,9 +4,9 @@
 use std::collections::BTreeMap;
 use std::fmt::Write;
 
-use crate::description::Description;
-use crate::layout::addr::AddrLayout;
-use crate::layout::cs_data::CsDataLayout;
+use onerom::description::Description;
+use onerom::layout::addr::AddrLayout;
+use onerom::layout::cs_data::CsDataLayout;
 
 /// The roles of each GPIO; one GPIO can serve two lines where the wiring shares it.
 #[derive(Default)]

@@ -4,9 +4,9 @@ mod wiring;
 
 use std::fmt::Write;
 
-use crate::description::Description;
-use crate::layout::addr::AddrLayout;
-use crate::layout::cs_data::CsDataLayout;
+use onerom::description::Description;
+use onerom::layout::addr::AddrLayout;
+use onerom::layout::cs_data::CsDataLayout;
 use wiring::Wiring;
 
 /// Headings.

@@ -9,10 +9,12 @@ use std::path::Path;
 use std::process::ExitCode;
 use std::time::{Duration, Instant};
 
-use onerom_bench::description::LENGTH;
-use onerom_bench::{
-    Description, Refusal, StoredSlot, build_rom_image, derive_addr_layout, derive_cs_data_layout,
-    unscramble_slot,
+use onerom::description::LENGTH;
+use onerom::layout::{addr, cs_data};
+use onerom::{
+    AddrLayout, Call, CsDataLayout, Description, Refusal, StoredSlot, build_rom_image,
+    build_rom_image_into, derive_addr_layout, derive_addr_layout_into, derive_cs_data_layout_into,
+    images, table_length, unscramble_slot,
 };
 use oracle::SKIPPED;
 use oracle::answer::fitted;
@@ -81,7 +83,7 @@ struct Table {
 pub fn speed(file: Option<&Path>) -> Done {
     let page = file.map(Page::read).transpose()?;
     if cfg!(debug_assertions) {
-        let why = "bench speed measures release builds: cargo run --release -- speed";
+        let why = "onerom-bench speed measures release builds: cargo run --release -- speed";
         return Err(Fault::Different(why.into()));
     }
     if oracle::original().is_none() {
@@ -142,29 +144,71 @@ fn table(
     Ok(Table { call, size, rows })
 }
 
+/// The address search on a record, and its answer's record read.
+fn address_search(record: &[u8]) -> Result<AddrLayout, Refusal> {
+    let mut layout = [0; addr::LENGTH];
+    match Refusal::of(Call::Address, derive_addr_layout_into(record, &mut layout)) {
+        None => Ok(AddrLayout::read(&layout)),
+        Some(refusal) => Err(refusal),
+    }
+}
+
+/// The same of the select search.
+fn select_search(record: &[u8], addr_layout: &[u8]) -> Result<CsDataLayout, Refusal> {
+    let mut layout = [0; cs_data::LENGTH];
+    let result = derive_cs_data_layout_into(record, addr_layout, &mut layout);
+    match Refusal::of(Call::Select, result) {
+        None => Ok(CsDataLayout::read(&layout)),
+        Some(refusal) => Err(refusal),
+    }
+}
+
+/// The same of the build, with a table as long as it needs.
+fn build(
+    record: &[u8],
+    addr_layout: &[u8],
+    cs_data_layout: &[u8],
+    images: &[Option<&[u8]>],
+) -> Result<Vec<u8>, Refusal> {
+    let (spans, bytes) = images::joined(images);
+    let mut table = vec![0; table_length(record, addr_layout)];
+    let result = build_rom_image_into(
+        record,
+        addr_layout,
+        cs_data_layout,
+        &spans,
+        &bytes,
+        &mut table,
+    );
+    match Refusal::of(Call::Build, result) {
+        None => Ok(table),
+        Some(refusal) => Err(refusal),
+    }
+}
+
 /// The original with its records made; ours decodes its record in every call.
 fn address_pair(slot: &Description) -> Option<Pair> {
     let record = slot.to_bytes();
     let original = oracle::prepared_address_search(&described(&record)?)?;
-    let ours = move || derive_addr_layout(black_box(&record));
+    let ours = move || address_search(black_box(&record));
     agreeing("layout", original, ours, plain::address)
 }
 
 /// The same of the select search, which is given the found address layout.
 fn select_pair(slot: &Description) -> Option<Pair> {
     let record = slot.to_bytes();
-    let layout = derive_addr_layout(&record).ok()?;
+    let layout = derive_addr_layout(slot).ok()?;
     let handed_in = layout.to_bytes();
     let layout = plain::address(layout);
     let original = oracle::prepared_select_search(&described(&record)?, Some(&layout))?;
-    let ours = move || derive_cs_data_layout(black_box(&record), black_box(&handed_in));
+    let ours = move || select_search(black_box(&record), black_box(&handed_in));
     agreeing("layout", original, ours, plain::select)
 }
 
 /// The same of the build, which is given both found layouts and bytes for each chip.
 fn build_pair(slot: &Description) -> Option<Pair> {
     let record = slot.to_bytes();
-    let (addr, cs_data) = laid_out(&record).ok()?;
+    let (addr, cs_data) = laid_out(slot).ok()?;
     let (addr_record, cs_data_record) = (addr.to_bytes(), cs_data.to_bytes());
     let images = chip_bytes(slot);
     let job = Job {
@@ -177,7 +221,7 @@ fn build_pair(slot: &Description) -> Option<Pair> {
     let images = images.map(|image| image.bytes());
     let ours = move || {
         let images = images.each_ref().map(|image| Some(&image[..]));
-        build_rom_image(
+        build(
             black_box(&record),
             black_box(&addr_record),
             black_box(&cs_data_record),
@@ -190,11 +234,11 @@ fn build_pair(slot: &Description) -> Option<Pair> {
 /// The same of the read-back, which is given that table and the slot of those layouts.
 fn read_back_pair(slot: &Description) -> Option<Pair> {
     let record = slot.to_bytes();
-    let (addr, cs_data) = laid_out(&record).ok()?;
+    let (addr, cs_data) = laid_out(slot).ok()?;
     let stored = StoredSlot::of_layouts(slot, &addr, &cs_data);
     let images = chip_bytes(slot).map(|image| image.bytes());
     let images = images.each_ref().map(|image| Some(&image[..]));
-    let table = build_rom_image(&record, &addr.to_bytes(), &cs_data.to_bytes(), &images).ok()?;
+    let table = build_rom_image(slot, &addr, &cs_data, &images).ok()?;
     let (address, select) = (plain::address(addr), plain::select(cs_data));
     let theirs = fitted(&described(&record)?, &address, &select, table.len());
     let original = oracle::prepared_read_back(&theirs, &table)?;

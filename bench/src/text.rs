@@ -9,10 +9,10 @@ mod write;
 
 use std::fmt;
 
-use crate::description::Description;
-use crate::slot::StoredSlot;
 use described::DescriptionDraft;
 use facts::grown;
+use onerom::description::Description;
+use onerom::slot::StoredSlot;
 use stored::StoredDraft;
 use words::Words;
 

@@ -3,14 +3,14 @@
 
 use std::collections::BTreeSet;
 
-use onerom_bench::description::{Candidates, Chip, Kind, SetType};
-use onerom_bench::{AddrLayout, Description, well_wired};
+use onerom::description::{Candidates, Chip, Kind, SetType};
+use onerom::{AddrLayout, Description, well_wired};
 
 use crate::ending::Fault;
 
 /// What is wrong with the wiring, a line each; nothing of a slot that is well wired.
 pub fn complaints(slot: &Description, addr: &AddrLayout) -> Result<String, Fault> {
-    if well_wired(&slot.to_bytes(), &addr.to_bytes())? {
+    if well_wired(slot, addr)? {
         return Ok(String::new());
     }
     let mut reasons = shared_gpios(slot);

@@ -1,10 +1,10 @@
-//! `bench build`: from a description and the chips' files to a table's file.
+//! `onerom-bench build`: from a description and the chips' files to a table's file.
 
 use std::ffi::OsString;
 use std::path::Path;
 use std::process::ExitCode;
 
-use onerom_bench::build_rom_image;
+use onerom::build_rom_image;
 
 use super::verify::verified;
 use super::{Command, Flags};
@@ -39,7 +39,7 @@ back, or words of a chip are not reached; 2 other words, or a file that cannot
 be used.
 
 Example:
-    bench build 2764.txt table.bin 2764.bin
+    onerom-bench build 2764.txt table.bin 2764.bin
 ",
     flags: &[ANY_LENGTH, PART, UNVERIFIED],
     run,
@@ -73,17 +73,12 @@ fn run(words: &[OsString], flags: &Flags) -> Done {
 
 /// The table, and what is to be said of chips that it serves in part.
 fn built(inputs: &Inputs, flags: &Flags) -> Result<(Vec<u8>, String), Fault> {
-    let record = inputs.slot.to_bytes();
-    let (addr, cs_data) = laid_out(&record)?;
-    let parts = parts_served(&inputs.slot, &addr, flags.has(PART))?;
+    let (slot, images) = (&inputs.slot, inputs.images());
+    let (addr, cs_data) = laid_out(slot)?;
+    let parts = parts_served(slot, &addr, flags.has(PART))?;
     if !flags.has(UNVERIFIED) {
-        verified(&inputs.slot, &inputs.images())?;
+        verified(slot, &images)?;
     }
-    let table = build_rom_image(
-        &record,
-        &addr.to_bytes(),
-        &cs_data.to_bytes(),
-        &inputs.images(),
-    )?;
+    let table = build_rom_image(slot, &addr, &cs_data, &images)?;
     Ok((table, parts))
 }

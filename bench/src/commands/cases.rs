@@ -1,4 +1,4 @@
-//! `bench compare`, `bench compare-large`, `bench replay` and `bench speed`: the library beside the
+//! `onerom-bench compare`, `onerom-bench compare-large`, `onerom-bench replay` and `onerom-bench speed`: the library beside the
 //! original.
 
 use std::ffi::{OsStr, OsString};
@@ -24,7 +24,7 @@ Exit codes: 0 no difference that is not listed; 1 one that is not; 2 other
 words.
 
 Example, some three minutes:
-    bench compare 1 100000
+    onerom-bench compare 1 100000
 ",
     flags: &[],
     run: |words, _| on_cases(words, compare),
@@ -41,7 +41,7 @@ Exit codes: 0 no difference that is not listed; 1 one that is not; 2 other
 words.
 
 Example, a dozen seconds:
-    bench compare-large 1 100
+    onerom-bench compare-large 1 100
 ",
     flags: &[],
     run: |words, _| on_cases(words, compare_large),
@@ -61,7 +61,7 @@ Exit codes: 0 no difference; 1 one, or a line that is no case with its answer; 2
 other words, or a file that cannot be used.
 
 Example:
-    bench replay crates/replay/stdin
+    onerom-bench replay crates/replay/stdin
 ",
     flags: &[],
     run: |words, _| match words {
@@ -83,7 +83,7 @@ Exit codes: 0 measured; 1 the two disagree, or no release build; 2 other words,
 or a file that cannot be used.
 
 Example, a minute or two:
-    bench speed docs/PERFORMANCE.md
+    onerom-bench speed docs/PERFORMANCE.md
 ",
     flags: &[],
     run: |words, _| match words {

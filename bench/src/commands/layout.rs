@@ -1,14 +1,14 @@
-//! `bench layout`: both layouts of a described slot and the drawing of its socket, and the slot that
+//! `onerom-bench layout`: both layouts of a described slot and the drawing of its socket, and the slot that
 //! stores its table.
 
 use std::ffi::OsString;
 use std::path::Path;
 use std::process::ExitCode;
 
-use onerom_bench::{
+use onerom::{
     AddrLayout, CsDataLayout, Description, StoredSlot, derive_addr_layout, derive_cs_data_layout,
-    show, socket, text,
 };
+use onerom_bench::{show, socket, text};
 
 use super::{Command, Flags};
 use crate::ending::{Done, Fault, say};
@@ -24,9 +24,9 @@ pub const LAYOUT: Command = Command {
     help: "\
 Reads FILE, a description. Writes the GPIOs of the address lines, those of the
 data and select lines and a drawing of the socket to the standard output; to
-SLOT, if it is given, the slot that stores the table, for `bench read-back`.
-SLOT is written when both layouts are found, whole or not at all, and may
-replace a file that is there, but not FILE.
+SLOT, if it is given, the slot that stores the table, for `read-back`. SLOT is
+written when both layouts are found, whole or not at all, and may replace a
+file that is there, but not FILE.
 
 Where the slot is not well wired it says why: what is built may not read back.
 Where the address lines in use do not reach all words of a chip, and no excess
@@ -36,7 +36,7 @@ Exit codes: 0 laid out; 1 a search refuses, or words of a chip are not reached;
 2 other words, or a file that cannot be used.
 
 Example:
-    bench layout 2764.txt slot.txt
+    onerom-bench layout 2764.txt slot.txt
 ",
     flags: &[PART],
     run,
@@ -85,12 +85,11 @@ fn lay_out_to(file: &Path, stored: &Path, part: bool) -> Result<(), Fault> {
 
 /// Prints each layout as soon as it is found: an address layout without the other is of use too.
 pub fn print_layouts(slot: &Description) -> Result<(AddrLayout, CsDataLayout), Fault> {
-    let record = slot.to_bytes();
-    let addr = derive_addr_layout(&record)?;
+    let addr = derive_addr_layout(slot)?;
     say(&show::addr_summary(slot, &addr))?;
     say(&show::addr_table(&addr))?;
     say("\n")?;
-    let cs_data = derive_cs_data_layout(&record, &addr.to_bytes())?;
+    let cs_data = derive_cs_data_layout(slot, Some(&addr))?;
     say(&show::cs_data_summary(&cs_data))?;
     say(&show::cs_data_table(&cs_data))?;
     say("\n")?;

@@ -1,11 +1,11 @@
-//! `bench read-back`: from a slot and its table's file to the ROMs' files.
+//! `onerom-bench read-back`: from a slot and its table's file to the ROMs' files.
 
 use std::ffi::OsString;
 use std::path::Path;
 use std::process::ExitCode;
 
+use onerom::{Description, StoredSlot, unscramble_slot};
 use onerom_bench::text::{self, TextError};
-use onerom_bench::{Description, StoredSlot, unscramble_slot};
 
 use super::{Command, Flags};
 use crate::ending::{Done, Fault, say};
@@ -19,12 +19,12 @@ pub const READ_BACK: Command = Command {
     words: "[--part] FILE TABLE CHIP..",
     summary: "Reads a table back into a file for each ROM",
     help: "\
-Reads FILE, a description or a stored slot of `bench layout`, and TABLE, the
-bytes that are stored. From a description both searches run, and the table is
-taken to be built by what they find. Writes each ROM's bytes to its CHIP file,
-in order, a plugin's to the only one; `-` is a ROM that is not written. The
-files are written when all ROMs are read, each whole or not at all. They may
-replace files that are there, but none that is read.
+Reads FILE, a description or a stored slot of `layout`, and TABLE, the bytes
+that are stored. From a description both searches run, and the table is taken
+to be built by what they find. Writes each ROM's bytes to its CHIP file, in
+order, a plugin's to the only one; `-` is a ROM that is not written. The files
+are written when all ROMs are read, each whole or not at all. They may replace
+files that are there, but none that is read.
 
 Where a ROM has more words than its address lines reach, and no excess line of
 the description explains it, nothing is written; --part accepts it.
@@ -33,7 +33,7 @@ Exit codes: 0 read back; 1 a search or the read-back refuses, or a ROM comes
 back in part; 2 other words, or a file that cannot be used.
 
 Example:
-    bench read-back slot.txt table.bin rom.bin
+    onerom-bench read-back slot.txt table.bin rom.bin
 ",
     flags: &[PART],
     run,
@@ -104,7 +104,7 @@ fn stored_slot(file: &Path, part: bool) -> Result<(StoredSlot, Option<String>), 
     Ok(match text_of(file, told)? {
         Told::Slot(slot) => (slot, None),
         Told::Described(slot) => {
-            let (addr, cs_data) = laid_out(&slot.to_bytes())?;
+            let (addr, cs_data) = laid_out(&slot)?;
             let parts = parts_served(&slot, &addr, part)?;
             (StoredSlot::of_layouts(&slot, &addr, &cs_data), Some(parts))
         }

@@ -1,11 +1,12 @@
-//! The sample: run through from its description to a table that reads back, and `bench sample`, which
+//! The sample: run through from its description to a table that reads back, and `onerom-bench sample`, which
 //! writes its files.
 
 use std::ffi::OsString;
 use std::path::Path;
 use std::process::ExitCode;
 
-use onerom_bench::{Description, text};
+use onerom::Description;
+use onerom_bench::text;
 
 use super::layout::print_layouts;
 use super::verify::verified;
@@ -31,7 +32,7 @@ there already, none is written.
 Exit codes: 0 written; 2 other words, or a file that cannot be written.
 
 Example:
-    bench sample
+    onerom-bench sample
 ",
     flags: &[],
     run,
@@ -90,10 +91,10 @@ fn next_commands(folder: &Path) -> String {
     format!(
         "
 next:
-    bench layout {description} {slot}
-    bench build {description} {table} {rom}
-    bench read-back {slot} {table} {back}
-    bench verify {description} {rom}
+    onerom-bench layout {description} {slot}
+    onerom-bench build {description} {table} {rom}
+    onerom-bench read-back {slot} {table} {back}
+    onerom-bench verify {description} {rom}
 "
     )
 }

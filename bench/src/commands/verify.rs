@@ -1,14 +1,14 @@
-//! `bench verify`: whether the table of a description and its chips' files reads back as the chips.
+//! `onerom-bench verify`: whether the table of a description and its chips' files reads back as the chips.
 
 use std::ffi::OsString;
 use std::fmt;
 use std::path::Path;
 use std::process::ExitCode;
 
-use onerom_bench::slot::words;
-use onerom_bench::{
+use onerom::slot::words;
+use onerom::{
     Description, Refusal, RoundTrip, StoredSlot, build_rom_image, derive_addr_layout, round_trip,
-    table_length, unscramble_slot,
+    unscramble_slot,
 };
 
 use super::{Command, Flags};
@@ -39,7 +39,7 @@ as another, or words of a chip are not reached; 2 other words, or a file that
 cannot be used.
 
 Example:
-    bench verify 2764.txt 2764.bin
+    onerom-bench verify 2764.txt 2764.bin
 ",
     flags: &[ANY_LENGTH, PART],
     run,
@@ -56,7 +56,7 @@ fn run(words: &[OsString], flags: &Flags) -> Done {
     }
     let inputs = Inputs::read(Path::new(file), chips, flags.has(ANY_LENGTH))?;
     let verified = verified(&inputs.slot, &inputs.images())?;
-    let addr = derive_addr_layout(&inputs.slot.to_bytes())?;
+    let addr = derive_addr_layout(&inputs.slot)?;
     let wrong = complaints(&inputs.slot, &addr)?;
     let parts = parts_served(&inputs.slot, &addr, flags.has(PART))?;
     say(&format!("{verified}\n{wrong}{parts}"))?;
@@ -82,12 +82,11 @@ impl fmt::Display for Verified {
 /// as another.
 pub fn verified(slot: &Description, images: &[Option<&[u8]>]) -> Result<Verified, Fault> {
     let trip = round_trip(slot, images).map_err(|refusal| of_step(slot, images, refusal))?;
-    let record = slot.to_bytes();
-    let addr = derive_addr_layout(&record)?;
+    let addr = derive_addr_layout(slot)?;
     let words = compared(slot, addr.lines.len(), images, &trip)
         .map_err(|difference| Fault::Different(format!("does not read back: {difference}")))?;
     Ok(Verified {
-        table_bytes: table_length(&record, &addr.to_bytes()),
+        table_bytes: trip.table.len(),
         words,
         chips: images.len(),
     })
@@ -102,9 +101,8 @@ fn of_step(slot: &Description, images: &[Option<&[u8]>], refusal: Refusal) -> Re
 
 /// The calls of a round trip one by one.
 fn in_turn(slot: &Description, images: &[Option<&[u8]>]) -> Result<(), Refusal> {
-    let record = slot.to_bytes();
-    let (addr, cs_data) = laid_out(&record)?;
-    let table = build_rom_image(&record, &addr.to_bytes(), &cs_data.to_bytes(), images)?;
+    let (addr, cs_data) = laid_out(slot)?;
+    let table = build_rom_image(slot, &addr, &cs_data, images)?;
     let stored = StoredSlot::of_layouts(slot, &addr, &cs_data);
     unscramble_slot(&stored, &table).map(drop)
 }

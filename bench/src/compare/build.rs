@@ -1,7 +1,7 @@
 //! The build, with what a case of kind 7 hands in.
 
-use onerom_bench::layout::{addr, cs_data};
-use onerom_bench::{build_rom_image_into, description, table_length};
+use onerom::layout::{addr, cs_data};
+use onerom::{build_rom_image_into, description, table_length};
 use oracle::answer::table_fields;
 use oracle::case::{self, Case};
 use oracle::random::Random;

@@ -1,6 +1,6 @@
 //! Records put wrong.
 
-use onerom_bench::interface::{addr_layout, cs_data_layout, description, stored_slot};
+use onerom::interface::{addr_layout, cs_data_layout, description, stored_slot};
 use oracle::case::Case;
 use oracle::random::Random;
 

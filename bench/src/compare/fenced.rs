@@ -1,6 +1,6 @@
 //! A call with every slice between guard pages, and the answer that it comes to.
 
-use onerom_bench::fence::{Lent, Shown, Side};
+use onerom::fence::{Lent, Shown, Side};
 use oracle::case::line_of;
 
 use super::calls::{Answer, Call};

@@ -1,6 +1,6 @@
 //! The chips' bytes as a case hands them in, with the record of where they stand.
 
-use onerom_bench::images::{self, SPAN, Span, spans_record};
+use onerom::images::{self, SPAN, Span, spans_record};
 use oracle::random::Random;
 use oracle::slot::ChipBytes;
 

@@ -1,6 +1,6 @@
 //! The read-back, with what a case of kind 8 hands in.
 
-use onerom_bench::{StoredSlot, slot, unscramble_slot_into};
+use onerom::{StoredSlot, slot, unscramble_slot_into};
 use oracle::answer::recovered_fields;
 use oracle::case::{self, Case};
 use oracle::engine::Recovered;

@@ -2,13 +2,11 @@
 
 use std::ops::Range;
 
-use onerom_bench::images::{self, SPAN};
-use onerom_bench::interface::{
-    addr_layout, cs_data_layout, image_span, stored_rom, stored_slot as at,
-};
-use onerom_bench::layout::{addr, cs_data};
-use onerom_bench::slot;
-use onerom_bench::{AddrLayout, CsDataLayout};
+use onerom::images::{self, SPAN};
+use onerom::interface::{addr_layout, cs_data_layout, image_span, stored_rom, stored_slot as at};
+use onerom::layout::{addr, cs_data};
+use onerom::slot;
+use onerom::{AddrLayout, CsDataLayout};
 use oracle::layout::{AddressLayout, SelectLayout};
 use oracle::slot::{ChipBytes, Rom, Slot};
 

@@ -1,10 +1,10 @@
 //! All four in turn, with what a case of kind 9 hands in.
 
-use onerom_bench::description;
-use onerom_bench::interface::{addr_layout, chip, description as at};
-use onerom_bench::layout::{addr, cs_data};
-use onerom_bench::slot::words;
-use onerom_bench::{
+use onerom::description;
+use onerom::interface::{addr_layout, chip, description as at};
+use onerom::layout::{addr, cs_data};
+use onerom::slot::words;
+use onerom::{
     AddrLayout, CsDataLayout, build_rom_image_into, derive_addr_layout_into,
     derive_cs_data_layout_into, round_trip_into, table_length, unscramble_slot_into,
 };

@@ -1,8 +1,8 @@
 //! The two searches, with what cases of kinds 5 and 6 hand in.
 
-use onerom_bench::description;
-use onerom_bench::layout::{addr, cs_data};
-use onerom_bench::{AddrLayout, CsDataLayout, derive_addr_layout_into, derive_cs_data_layout_into};
+use onerom::description;
+use onerom::layout::{addr, cs_data};
+use onerom::{AddrLayout, CsDataLayout, derive_addr_layout_into, derive_cs_data_layout_into};
 use oracle::case::Case;
 use oracle::random::Random;
 

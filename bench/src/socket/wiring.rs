@@ -1,8 +1,8 @@
 //! What the pins of a socket serve under the layouts that were found, and on which GPIOs.
 
-use crate::description::{Candidates, Chip, Description, SetType};
-use crate::layout::addr::AddrLayout;
-use crate::layout::cs_data::{CsDataLayout, Line, Role};
+use onerom::description::{Candidates, Chip, Description, SetType};
+use onerom::layout::addr::AddrLayout;
+use onerom::layout::cs_data::{CsDataLayout, Line, Role};
 
 /// What a pin serves, and the GPIOs that are taken for it.
 #[derive(Debug, Clone, Default)]

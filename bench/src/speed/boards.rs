@@ -1,7 +1,7 @@
 //! The boards that the searches are measured on.
 
-use onerom_bench::Description;
-use onerom_bench::description::{Candidates, Chip, Kind};
+use onerom::Description;
+use onerom::description::{Candidates, Chip, Kind};
 use onerom_bench::text;
 
 use super::{Input, tables};

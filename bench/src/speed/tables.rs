@@ -1,8 +1,8 @@
 //! The boards whose tables the clock sees: known chips by their published pinouts, GPIOs going to
 //! the socket's pins in order.
 
-use onerom_bench::description::{Candidates, Chip, Kind, Multi, SetType};
-use onerom_bench::{Description, derive_addr_layout};
+use onerom::description::{Candidates, Chip, Kind, Multi, SetType};
+use onerom::{Description, derive_addr_layout};
 
 use super::Input;
 use super::boards::{ADDRESS_27C040, DATA_27C040, sample};
@@ -150,7 +150,7 @@ fn single(chip: Pinout) -> Description {
 
 /// Entries and bytes of the table are those of the layout that is found; 0 if none is.
 fn input(name: &'static str, slot: Description) -> Input {
-    let found = derive_addr_layout(&slot.to_bytes()).ok();
+    let found = derive_addr_layout(&slot).ok();
     let bytes = found.and_then(|layout| layout.table_bytes(slot.word_bytes));
     let bytes = bytes.unwrap_or(0);
     Input {

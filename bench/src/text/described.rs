@@ -3,7 +3,7 @@
 use super::TextError;
 use super::facts::{Draft, Told, add_part, missing};
 use super::words::{KINDS, Words};
-use crate::description::{
+use onerom::description::{
     Candidates, Chip, Description, Kind, Multi, SOCKET_PINS, SetType, Setting, Settings,
 };
 

@@ -4,8 +4,8 @@ use std::collections::BTreeMap;
 
 use super::TextError;
 use super::words::Words;
-use crate::description::MOST_CHIPS;
-use crate::images::LARGEST_CHIP;
+use onerom::description::MOST_CHIPS;
+use onerom::images::LARGEST_CHIP;
 
 /// A value that grows line by line.
 pub trait Draft: Default {

@@ -3,9 +3,9 @@
 use super::TextError;
 use super::facts::{Draft, Told, add_part, missing};
 use super::words::{NO_NUMBERS, OVERRIDES, SLOT_KINDS, Words};
-use crate::description::Candidates;
-use crate::interface::values::GPIO_NONE;
-use crate::slot::{Layout, MOST_LINES, MOST_OVERRIDES, Map, Rom, SlotKind, StoredSlot};
+use onerom::description::Candidates;
+use onerom::interface::values::GPIO_NONE;
+use onerom::slot::{Layout, MOST_LINES, MOST_OVERRIDES, Map, Rom, SlotKind, StoredSlot};
 
 const LINES: &str = "slot, size, address, data, dma, bit-mode, select, override, x1, x2 or rom";
 

@@ -4,8 +4,8 @@ use std::ops::RangeInclusive;
 use std::str::SplitWhitespace;
 
 use super::TextError;
-use crate::description::{Candidates, Kind, Setting};
-use crate::slot::SlotKind;
+use onerom::description::{Candidates, Kind, Setting};
+use onerom::slot::SlotKind;
 
 pub const KINDS: [(&str, Kind); 7] = [
     ("ce", Kind::Ce),

@@ -1,9 +1,9 @@
 //! A stored slot's lines.
 
 use super::words::{NO_NUMBERS, OVERRIDES, SLOT_KINDS};
-use crate::description::Candidates;
-use crate::interface::values::GPIO_NONE;
-use crate::slot::{Layout, MOST_LINES, Rom, SlotKind, StoredSlot};
+use onerom::description::Candidates;
+use onerom::interface::values::GPIO_NONE;
+use onerom::slot::{Layout, MOST_LINES, Rom, SlotKind, StoredSlot};
 
 /// GPIO of an override, below its kind.
 const GPIO: u8 = 0x3f;
