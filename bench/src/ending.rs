@@ -16,6 +16,8 @@ pub enum Fault {
     /// A file that cannot be used: its name and why.
     File(String),
     Refused(Refusal),
+    /// The same, with what more there is to say of it.
+    Hinted(Refusal, String),
     /// What comes out is not what was expected.
     Different(String),
 }
@@ -42,9 +44,14 @@ pub fn ended(done: Done, usage: &str) -> ExitCode {
         Ok(code) => code,
         Err(Fault::Words) => unread(usage),
         Err(Fault::File(why)) => unread(&why),
-        Err(Fault::Refused(refusal)) => failed(&format!("{} refused: {refusal}", refusal.call)),
+        Err(Fault::Refused(refusal)) => failed(&refused(&refusal)),
+        Err(Fault::Hinted(refusal, hint)) => failed(&format!("{}; {hint}", refused(&refusal))),
         Err(Fault::Different(what)) => failed(&what),
     }
+}
+
+fn refused(refusal: &Refusal) -> String {
+    format!("{} refused: {refusal}", refusal.call)
 }
 
 /// Says why there is nothing to be done.

@@ -4,9 +4,9 @@
 use std::collections::BTreeMap;
 use std::fmt::Write;
 
-use onerom::description::Description;
+use onerom::description::{Description, SetType, Setting, Settings};
 use onerom::layout::addr::AddrLayout;
-use onerom::layout::cs_data::CsDataLayout;
+use onerom::layout::cs_data::{CsDataLayout, Role};
 
 /// The roles of each GPIO; one GPIO can serve two lines where the wiring shares it.
 #[derive(Default)]
@@ -78,17 +78,27 @@ pub fn addr_summary(slot: &Description, layout: &AddrLayout) -> String {
 }
 
 /// The select and data layout as a table: a row for each GPIO of a line, for the one that is ignored
-/// among the selects, and for each qualifier, with its number from the base on.
-pub fn cs_data_table(layout: &CsDataLayout) -> String {
+/// among the selects, and for each qualifier, with its number from the base on. Select lines have
+/// their polarity, and in a Multi set the chip that they select.
+pub fn cs_data_table(slot: &Description, layout: &CsDataLayout) -> String {
     let mut roles = Roles::default();
     for (line, &gpio) in layout.data.iter().enumerate() {
         roles.add(gpio, format!("D{line}"));
     }
-    for line in &layout.select {
-        roles.add(line.gpio, line.role.to_string());
+    for (number, line) in layout.select.iter().enumerate() {
+        let chip = match line.role {
+            _ if slot.set_type != SetType::Multi => "",
+            Role::X1 => ", selects chip 1",
+            Role::X2 => ", selects chip 2",
+            _ if number == 0 => ", selects chip 0",
+            _ => "",
+        };
+        let polarity = polarity(&slot.settings, line.role);
+        roles.add(line.gpio, format!("{}{chip}{polarity}", line.role));
     }
     for line in &layout.commoned {
-        roles.add(line.gpio, format!("{}, commoned", line.role));
+        let polarity = polarity(&slot.settings, line.role);
+        roles.add(line.gpio, format!("{}, commoned{polarity}", line.role));
     }
     if let Some(gpio) = layout.ignored_gpio() {
         roles.add(gpio, "no select, ignored".into());
@@ -97,6 +107,35 @@ pub fn cs_data_table(layout: &CsDataLayout) -> String {
         roles.add(gpio, "qualifier".into());
     }
     roles.table("base pin", |gpio| layout.base_pin(gpio))
+}
+
+/// Which level of a control line selects, as it is set. A line whose setting is not given counts as
+/// active low.
+fn polarity(settings: &Settings, role: Role) -> &'static str {
+    let setting = match (*settings, role) {
+        (_, Role::X1 | Role::X2 | Role::HalfSelect | Role::Unknown(_)) => return "",
+        (Settings::ChipSelects { cs1, .. }, Role::Cs1) => cs1,
+        (Settings::ChipSelects { others, .. }, Role::Cs2 | Role::Cs3 | Role::Cs4) => {
+            let other = others[usize::from(role.number() - Role::Cs2.number())];
+            other.unwrap_or(Setting::ActiveLow)
+        }
+        (Settings::Explicit { ce, .. }, Role::Ce) => ce,
+        (Settings::Explicit { oe, .. }, Role::Oe) => oe,
+        (Settings::Explicit { ce, oe }, Role::Cs1 | Role::Cs2) => {
+            // cs1 reads ce, or oe if ce is ignored; cs2 reads the other.
+            if (ce == Setting::Ignored) == (role == Role::Cs1) {
+                oe
+            } else {
+                ce
+            }
+        }
+        _ => Setting::ActiveLow,
+    };
+    match setting {
+        Setting::ActiveLow => ", active low",
+        Setting::ActiveHigh => ", active high",
+        Setting::Ignored => ", set as ignored",
+    }
 }
 
 /// The select and data layout in a line, and an empty line to go before its table: where data and

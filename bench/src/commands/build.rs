@@ -9,6 +9,7 @@ use onerom::build_rom_image;
 use super::verify::verified;
 use super::{Command, Flags};
 use crate::ending::{Done, Fault, complain, say};
+use crate::hints::hinted;
 use crate::inputs::{ANY_LENGTH, Inputs, NO_FILE};
 use crate::laid_out;
 use crate::outputs::{keep, write_out, write_whole};
@@ -74,11 +75,12 @@ fn run(words: &[OsString], flags: &Flags) -> Done {
 /// The table, and what is to be said of chips that it serves in part.
 fn built(inputs: &Inputs, flags: &Flags) -> Result<(Vec<u8>, String), Fault> {
     let (slot, images) = (&inputs.slot, inputs.images());
-    let (addr, cs_data) = laid_out(slot)?;
+    let of_slot = |refusal| hinted(slot, &images, refusal);
+    let (addr, cs_data) = laid_out(slot).map_err(of_slot)?;
     let parts = parts_served(slot, &addr, flags.has(PART))?;
     if !flags.has(UNVERIFIED) {
         verified(slot, &images)?;
     }
-    let table = build_rom_image(slot, &addr, &cs_data, &images)?;
+    let table = build_rom_image(slot, &addr, &cs_data, &images).map_err(of_slot)?;
     Ok((table, parts))
 }

@@ -1,14 +1,17 @@
 //! `onerom-bench read-back`: from a slot and its table's file to the ROMs' files.
 
 use std::ffi::OsString;
+use std::fs;
 use std::path::Path;
 use std::process::ExitCode;
 
+use onerom::interface::refusals::WRONG_SIZE;
 use onerom::{Description, StoredSlot, unscramble_slot};
 use onerom_bench::text::{self, TextError};
 
 use super::{Command, Flags};
 use crate::ending::{Done, Fault, say};
+use crate::hints::hinted;
 use crate::inputs::{NO_FILE, bytes_up_to, expect_files, text_of};
 use crate::laid_out;
 use crate::outputs::{Output, is_same, keep, write_whole};
@@ -53,7 +56,11 @@ fn run(words: &[OsString], flags: &Flags) -> Done {
     expect_files(file, "ROMs", wanted, chips)?;
     let chips: Vec<&Path> = chips.iter().map(Path::new).collect();
     keep_apart(&[file, table], &chips)?;
-    let roms = unscramble_slot(&slot, &stored_bytes(table, &slot)?)?;
+    let stored = stored_bytes(table, &slot)?;
+    let roms = unscramble_slot(&slot, &stored).map_err(|refusal| match refusal.number {
+        WRONG_SIZE => Fault::Hinted(refusal, lengths(table, &slot, &stored)),
+        _ => refusal.into(),
+    })?;
     if !flags.has(PART) && parts.is_none() {
         expect_whole(&slot, &roms)?;
     }
@@ -104,7 +111,8 @@ fn stored_slot(file: &Path, part: bool) -> Result<(StoredSlot, Option<String>), 
     Ok(match text_of(file, told)? {
         Told::Slot(slot) => (slot, None),
         Told::Described(slot) => {
-            let (addr, cs_data) = laid_out(&slot)?;
+            let of_slot = |refusal| hinted(&slot, &[], refusal);
+            let (addr, cs_data) = laid_out(&slot).map_err(of_slot)?;
             let parts = parts_served(&slot, &addr, part)?;
             (StoredSlot::of_layouts(&slot, &addr, &cs_data), Some(parts))
         }
@@ -121,6 +129,20 @@ fn stored_bytes(table: &Path, slot: &StoredSlot) -> Result<Vec<u8>, Fault> {
         return Err(Fault::of_file(table, why));
     }
     Ok(bytes)
+}
+
+/// The declared length beside the one that is found. Of a file that is longer no more is read than
+/// shows it, but a plain file's length is known.
+fn lengths(table: &Path, slot: &StoredSlot, stored: &[u8]) -> String {
+    let declared = slot.size;
+    let plain = fs::metadata(table).ok().filter(|found| found.is_file());
+    let found = match plain {
+        Some(plain) => plain.len().to_string(),
+        None if stored.len() > declared as usize => "more".into(),
+        None => stored.len().to_string(),
+    };
+    let name = table.display();
+    format!("{declared} bytes are declared, and {name} has {found}")
 }
 
 /// No ROM's file takes the place of one that is read, nor of another ROM's.

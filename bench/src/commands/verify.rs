@@ -13,6 +13,7 @@ use onerom::{
 
 use super::{Command, Flags};
 use crate::ending::{Done, Fault, counted, say};
+use crate::hints::hinted;
 use crate::inputs::{ANY_LENGTH, Inputs};
 use crate::laid_out;
 use crate::reach::{PART, parts_served};
@@ -81,7 +82,8 @@ impl fmt::Display for Verified {
 /// Builds a slot's table and reads it back: all that comes back, or the first word that comes back
 /// as another.
 pub fn verified(slot: &Description, images: &[Option<&[u8]>]) -> Result<Verified, Fault> {
-    let trip = round_trip(slot, images).map_err(|refusal| of_step(slot, images, refusal))?;
+    let of_slot = |refusal| hinted(slot, images, of_step(slot, images, refusal));
+    let trip = round_trip(slot, images).map_err(of_slot)?;
     let addr = derive_addr_layout(slot)?;
     let words = compared(slot, addr.lines.len(), images, &trip)
         .map_err(|difference| Fault::Different(format!("does not read back: {difference}")))?;

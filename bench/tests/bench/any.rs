@@ -195,7 +195,7 @@ fn any_description_is_answered() {
             show::addr_summary(&slot, &addr),
             show::addr_table(&addr),
             show::cs_data_summary(&cs_data),
-            show::cs_data_table(&cs_data),
+            show::cs_data_table(&slot, &cs_data),
             socket::drawing(&slot, &addr, &cs_data),
             text::write_slot(&StoredSlot::of_layouts(&slot, &addr, &cs_data)),
         ];

@@ -127,9 +127,10 @@ fn roles_have_numbers_and_names() {
 
 #[test]
 fn any_bytes_are_read_and_shown() {
+    let slot = sample();
     let try_out = |record: [u8; 100]| {
         let layout = CsDataLayout::read(&record);
-        show::cs_data_summary(&layout) + &show::cs_data_table(&layout)
+        show::cs_data_summary(&layout) + &show::cs_data_table(&slot, &layout)
     };
     for byte in 0..=255 {
         try_out([byte; 100]);

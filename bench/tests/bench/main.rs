@@ -6,6 +6,7 @@ mod build;
 mod compare;
 mod cs_data;
 mod folder;
+mod hints;
 mod layout;
 mod make;
 mod program;

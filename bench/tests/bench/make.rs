@@ -53,7 +53,7 @@ fn refusals_name_the_call() {
     folder.write("short.bin", &[0; 8191]);
     let names = folder.names();
     let short = "build refused: 15 ShortImageData, place 0 (chip 0): \
-        a chip has fewer bytes than its size\n";
+        a chip has fewer bytes than its size; its size is 8192, and there are 8191 bytes\n";
     assert_eq!(
         folder.refused(&["--any-length", "slot.txt", "table.bin", "short.bin"]),
         short

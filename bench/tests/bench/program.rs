@@ -54,9 +54,9 @@ fn the_sample() {
     assert!(told.contains("\n   9  A10           0\n"));
     assert!(told.contains("\n  21  A0           12\n"));
     let select = "\n\nselect and data: base GPIO 0, 8 data lines from base pin 0, \
-        2 select pins from base pin 22\n\nGPIO  role  base pin\n   0  D0           0\n";
+        2 select pins from base pin 22\n\nGPIO  role            base pin\n   0  D0                     0\n";
     assert!(told.contains(select));
-    let select = "\n   7  D7           7\n  22  ce          22\n  23  oe          23\n";
+    let select = "\n   7  D7                     7\n  22  ce, active low        22\n  23  oe, active low        23\n";
     let socket = "\nsocket of 28 pins from above\n\nrole     GPIO  +---\\__/---+  GPIO     role\n";
     assert!(told.contains(&(select.to_string() + socket)));
     assert!(told.contains("\n A12  11 (26)  |  2    27 |  -        -\n"));
@@ -94,8 +94,9 @@ fn commoned_lines() {
     ];
     let told = changed_sample("multi.txt", &changes);
     let told = text(&told.stdout);
-    let wanted = "\n  22  ce                  22\n  23  oe, commoned        23\n  \
-        24  X1                  24\n\nsocket of 28 pins";
+    let wanted = "\n  22  ce, selects chip 0, active low        22\n  \
+        23  oe, commoned, active low              23\n  \
+        24  X1, selects chip 1                    24\n\nsocket of 28 pins";
     assert!(told.contains(wanted));
     assert!(told.ends_with("\nX1  24  selects chip 1\nX2  25  not used\n"));
 }

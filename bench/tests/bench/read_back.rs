@@ -106,7 +106,7 @@ fn refusals_write_nothing() {
     };
     let size = said(&slot.replace("size 8192\naddress a", "size 8193\naddress a"));
     let wrong_size = "read-back refused: 17 WrongSize, place 0: \
-        the data's length is not the declared size\n";
+        the data's length is not the declared size; 8193 bytes are declared, and table.bin has 8192\n";
     assert_eq!(size, wrong_size);
     let kind = said(&slot.replace("single-rom", "9"));
     assert!(kind.starts_with("read-back refused: 18 UnknownSlotType, place 0: "));
