@@ -14,12 +14,12 @@ static uint8_t *socket_pin(uint8_t *description, int pin)
 }
 
 /* Socket pins 1 to 8 are the address lines, on GPIOs 0 to 7; 9 to 16 the data lines, on 16 to 23; 20 is cs1, on 8. */
-static void describe(uint8_t d[ONEROM_DESCRIPTION_SIZE])
+static void describe(uint8_t d[ONEROM_DESCRIPTION_RECORD_SIZE])
 {
     uint8_t *chip = d + ONEROM_DESCRIPTION_CHIPS;
     int k;
 
-    memset(d, 0, ONEROM_DESCRIPTION_SIZE);
+    memset(d, 0, ONEROM_DESCRIPTION_RECORD_SIZE);
     d[ONEROM_DESCRIPTION_BOARD_PINS] = 24;
     d[ONEROM_DESCRIPTION_SET_TYPE] = ONEROM_SET_SINGLE;
     d[ONEROM_DESCRIPTION_WORD_BYTES] = 1;
@@ -48,13 +48,15 @@ static int refused(const char *call, uint64_t result)
 {
     if (result == 0)
         return 0;
-    printf("%s refused: number %u, place %" PRIu64 "\n", call, onerom_number(result), onerom_place(result));
+    printf("%s refused: %u %s, place %" PRIu64 "\n", call, onerom_number(result),
+           onerom_refusal_name(onerom_number(result)), onerom_place(result));
     return 1;
 }
 
 int main(void)
 {
-    static uint8_t description[ONEROM_DESCRIPTION_SIZE], layout[ONEROM_ADDR_LAYOUT_SIZE], spans[ONEROM_IMAGE_SPANS_SIZE];
+    static uint8_t description[ONEROM_DESCRIPTION_RECORD_SIZE], layout[ONEROM_ADDR_LAYOUT_RECORD_SIZE];
+    static uint8_t spans[ONEROM_IMAGE_SPANS_RECORD_SIZE];
     static uint8_t rom[BYTES], table[BYTES], output[BYTES], marks[BYTES];
     int k;
 

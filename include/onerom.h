@@ -17,10 +17,13 @@
 extern "C" {
 #endif
 
+/* The version of this interface: an older caller is answered as before while it stays. */
+#define ONEROM_INTERFACE_VERSION 1
+
 /* A call returns one number of 64 bits: 0 if it succeeded, else the refusal's number times 2^48 plus its place.
    (onerom_well_wired returns 1, which is no refusal's, where the answer is no.) So the number is the result
-   shifted right by 48, and the place its low 48 bits (onerom_number and onerom_place in C, Refusal in Rust). A
-   refusal that names no place has place 0. */
+   shifted right by 48, and the place its low 48 bits (onerom_number and onerom_place in C, Refusal in Rust;
+   onerom_refusal_name gives a number's name in C). A refusal that names no place has place 0. */
 enum {
     /* A record of another length, or a number in it that no board or chip can have. */
     ONEROM_OUT_OF_DOMAIN = 1,
@@ -84,6 +87,65 @@ static inline unsigned onerom_number(uint64_t result)
 static inline uint64_t onerom_place(uint64_t result)
 {
     return result & ((UINT64_C(1) << 48) - 1);
+}
+
+/* The name of a refusal by its number; Unknown where no refusal has it. */
+static inline const char *onerom_refusal_name(unsigned number)
+{
+    switch (number) {
+    case ONEROM_OUT_OF_DOMAIN:
+        return "OutOfDomain";
+    case ONEROM_NO_SELECT_LINE:
+        return "NoSelectLine";
+    case ONEROM_UNMAPPED_PIN:
+        return "UnmappedPin";
+    case ONEROM_MISSING_X_PIN:
+        return "MissingXPin";
+    case ONEROM_MISSING_ADDR_PIN_GPIOS:
+        return "MissingAddrPinGpios";
+    case ONEROM_ROM_TOO_LARGE_NO_CS_CONFIG:
+        return "RomTooLargeNoCsConfig";
+    case ONEROM_NON_CONTIGUOUS_SELECT:
+        return "NonContiguousSelect";
+    case ONEROM_INTERIOR_IGNORED_LINE:
+        return "InteriorIgnoredLine";
+    case ONEROM_NO_VALID_LAYOUT:
+        return "NoValidLayout";
+    case ONEROM_INCOMPATIBLE_PIN_COUNT:
+        return "IncompatiblePinCount";
+    case ONEROM_ROM_TABLE_TOO_LARGE:
+        return "RomTableTooLarge";
+    case ONEROM_INVALID_CONFIG:
+        return "InvalidConfig";
+    case ONEROM_BAD_POSITION:
+        return "BadPosition";
+    case ONEROM_MISSING_IMAGE_DATA:
+        return "MissingImageData";
+    case ONEROM_SHORT_IMAGE_DATA:
+        return "ShortImageData";
+    case ONEROM_SHORT_BUFFER:
+        return "ShortBuffer";
+    case ONEROM_WRONG_SIZE:
+        return "WrongSize";
+    case ONEROM_UNKNOWN_SLOT_TYPE:
+        return "UnknownSlotType";
+    case ONEROM_MISSING_LAYOUT:
+        return "MissingLayout";
+    case ONEROM_UNKNOWN_ALGORITHM:
+        return "UnknownAlgorithm";
+    case ONEROM_BAD_LAYOUT:
+        return "BadLayout";
+    case ONEROM_X_PIN:
+        return "XPin";
+    case ONEROM_INCONSISTENT:
+        return "Inconsistent";
+    case ONEROM_UNSERVED:
+        return "Unserved";
+    case ONEROM_NO_ACTIVE_LINE:
+        return "NoActiveLine";
+    default:
+        return "Unknown";
+    }
 }
 
 /* Anywhere. */
@@ -216,7 +278,7 @@ enum {
    in Multi, the X pins that select and the commoned lines. A build lists none. */
 enum {
     /* Bytes of the record. */
-    ONEROM_DESCRIPTION_SIZE = 424,
+    ONEROM_DESCRIPTION_RECORD_SIZE = 424,
     /* Pins of the board's socket. Values: 24, 28, 32 or 40. */
     ONEROM_DESCRIPTION_BOARD_PINS = 0,
     /* Package. Values: 0 (kept for the package's name). */
@@ -275,7 +337,7 @@ enum {
 /* The chip record, place by place. A chip of a description, at place 136 + 72 * n for chip n. */
 enum {
     /* Bytes of the record. */
-    ONEROM_CHIP_SIZE = 72,
+    ONEROM_CHIP_RECORD_SIZE = 72,
     /* 4 bytes: size in bytes. Values: 0 to 2^24. */
     ONEROM_CHIP_BYTES = 0,
     /* Number of address pins. Values: 1 to 24, in 16-bit mode 2 to 24. */
@@ -300,7 +362,7 @@ enum {
    the places kept; anything else is refusal 1. */
 enum {
     /* Bytes of the record. */
-    ONEROM_ADDR_LAYOUT_SIZE = 36,
+    ONEROM_ADDR_LAYOUT_RECORD_SIZE = 36,
     /* Lowest GPIO of the window, bit 0 of the table's index. Values: 0 to 47. */
     ONEROM_ADDR_LAYOUT_BASE = 0,
     /* Number of GPIOs that the address PIO reads, the bits of the table's index. Values: 0 to 48. */
@@ -327,7 +389,7 @@ enum {
    1. The three places after it count for nothing where it is 0. */
 enum {
     /* Bytes of the record. */
-    ONEROM_CS_DATA_LAYOUT_SIZE = 100,
+    ONEROM_CS_DATA_LAYOUT_RECORD_SIZE = 100,
     /* First GPIO of the PIO window. Values: 0 or 16 if found; 0 to 47 if handed in. */
     ONEROM_CS_DATA_LAYOUT_BASE = 0,
     /* Lowest data GPIO less the base. Values: 0 to 47. */
@@ -366,7 +428,7 @@ enum {
    to 3, an image span each. Another length is refusal 1. */
 enum {
     /* Bytes of the record. */
-    ONEROM_IMAGE_SPANS_SIZE = 48,
+    ONEROM_IMAGE_SPANS_RECORD_SIZE = 48,
     /* 48 bytes: chips 0 to 3, 12 bytes a chip. Values: an image span each. */
     ONEROM_IMAGE_SPANS_CHIPS = 0,
 };
@@ -376,7 +438,7 @@ enum {
    lent bytes the chip has the bytes that are there. Spans may overlap. */
 enum {
     /* Bytes of the record. */
-    ONEROM_IMAGE_SPAN_SIZE = 12,
+    ONEROM_IMAGE_SPAN_RECORD_SIZE = 12,
     /* Whether the chip has bytes; if not, start and length count for nothing. Values: 0 no, 1 yes. */
     ONEROM_IMAGE_SPAN_GIVEN = 0,
     /* 3 bytes: nothing. Values: 0 (kept). */
@@ -393,7 +455,7 @@ enum {
    refusal 1; a size is looked at in the ROMs below that number only. */
 enum {
     /* Bytes of the record. */
-    ONEROM_STORED_SLOT_SIZE = 376,
+    ONEROM_STORED_SLOT_RECORD_SIZE = 376,
     /* 4 bytes: declared size in bytes. Values: any. */
     ONEROM_STORED_SLOT_BYTES = 0,
     /* Slot kind. Values: 0 Single ROM, 1 Single RAM, 2 Banked, 3 Multi, 4 to 6 plugin, any other: unknown. */
@@ -442,7 +504,7 @@ enum {
    for nothing; a list that fills its 32 places has no 255. */
 enum {
     /* Bytes of the record. */
-    ONEROM_STORED_ROM_SIZE = 72,
+    ONEROM_STORED_ROM_RECORD_SIZE = 72,
     /* Whether the ROM has a pin map. Values: 0 no, 1 yes. */
     ONEROM_STORED_ROM_MAP_GIVEN = 0,
     /* 3 bytes: nothing. Values: 0 (kept). */

@@ -34,8 +34,22 @@ impl fmt::Display for TextError {
 
 impl std::error::Error for TextError {}
 
+/// Marks that editors put before a text, and what is to be said of each.
+const MARKS: [(&[u8], &str); 3] = [
+    (
+        b"\xEF\xBB\xBF",
+        "a byte order mark before it; save it without one",
+    ),
+    (b"\xFF\xFE", "UTF-16; save it as UTF-8"),
+    (b"\xFE\xFF", "UTF-16; save it as UTF-8"),
+];
+
 /// A file's bytes as text. Where they are none the error names the line.
 pub fn of_bytes(bytes: &[u8]) -> Result<&str, TextError> {
+    if let Some((_, found)) = MARKS.iter().find(|(mark, _)| bytes.starts_with(mark)) {
+        let what = format!("expected text in plain UTF-8, found {found}");
+        return Err(TextError { line: 1, what });
+    }
     std::str::from_utf8(bytes).map_err(|why| {
         let good = &bytes[..why.valid_up_to()];
         TextError {

@@ -5,13 +5,13 @@ use crate::interface::values::{self, GPIO_NONE, NOT_GIVEN};
 use crate::interface::{chip as chip_at, description as at};
 
 /// Bytes of the description record.
-pub const LENGTH: usize = at::SIZE;
+pub const LENGTH: usize = at::RECORD_SIZE;
 
 /// How many pins the record has places for; a smaller socket uses the first of them.
 pub const SOCKET_PINS: usize = (at::SOCKET.end - at::SOCKET.start) / 2;
 
 /// How many chips the record has places for.
-pub const MOST_CHIPS: usize = (at::CHIPS.end - at::CHIPS.start) / chip_at::SIZE;
+pub const MOST_CHIPS: usize = (at::CHIPS.end - at::CHIPS.start) / chip_at::RECORD_SIZE;
 
 /// The GPIOs that can serve a pin: those that the board connects to it, 0 to 47.
 #[derive(Debug, Clone, Copy, PartialEq, Eq, Default)]
@@ -214,8 +214,8 @@ fn kinds(kinds: &[Kind]) -> impl Iterator<Item = u8> + '_ {
     kinds.iter().map(|&kind| kind as u8)
 }
 
-fn chip(chip: &Chip) -> [u8; chip_at::SIZE] {
-    let mut bytes = [0; chip_at::SIZE];
+fn chip(chip: &Chip) -> [u8; chip_at::RECORD_SIZE] {
+    let mut bytes = [0; chip_at::RECORD_SIZE];
     put(&mut bytes[chip_at::BYTES], chip.size.to_le_bytes());
     bytes[chip_at::ADDRESS_COUNT] = count(&chip.address_pins);
     bytes[chip_at::DATA_COUNT] = count(&chip.data_pins);

@@ -5,10 +5,10 @@ use crate::description::MOST_CHIPS;
 use crate::interface::{image_span as at, image_spans};
 
 /// Bytes of the image spans record.
-pub const LENGTH: usize = image_spans::SIZE;
+pub const LENGTH: usize = image_spans::RECORD_SIZE;
 
 /// Bytes of the record for one chip.
-pub const SPAN: usize = at::SIZE;
+pub const SPAN: usize = at::RECORD_SIZE;
 
 /// No chip has more bytes.
 pub const LARGEST_CHIP: usize = 1 << 24;

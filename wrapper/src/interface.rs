@@ -1,5 +1,8 @@
 //! The numbers and calls of docs/INTERFACE.md. Rendered from that page: edit it, and see README.md.
 
+/// The version of the interface: an older caller is answered as before while it stays.
+pub const INTERFACE_VERSION: u32 = 1;
+
 /// Numbers of the refusals.
 pub mod refusals {
     /// A record of another length, or a number in it that no board or chip can have.
@@ -159,7 +162,7 @@ pub mod description {
     use std::ops::Range;
 
     /// Bytes of the record.
-    pub const SIZE: usize = 424;
+    pub const RECORD_SIZE: usize = 424;
     /// Pins of the board's socket. Values: 24, 28, 32 or 40.
     pub const BOARD_PINS: usize = 0;
     /// Package. Values: 0 (kept for the package's name).
@@ -223,7 +226,7 @@ pub mod chip {
     use std::ops::Range;
 
     /// Bytes of the record.
-    pub const SIZE: usize = 72;
+    pub const RECORD_SIZE: usize = 72;
     /// 4 bytes: size in bytes. Values: 0 to 2^24.
     pub const BYTES: Range<usize> = 0..4;
     /// Number of address pins. Values: 1 to 24, in 16-bit mode 2 to 24.
@@ -251,7 +254,7 @@ pub mod addr_layout {
     use std::ops::Range;
 
     /// Bytes of the record.
-    pub const SIZE: usize = 36;
+    pub const RECORD_SIZE: usize = 36;
     /// Lowest GPIO of the window, bit 0 of the table's index. Values: 0 to 47.
     pub const BASE: usize = 0;
     /// Number of GPIOs that the address PIO reads, the bits of the table's index. Values: 0 to 48.
@@ -280,7 +283,7 @@ pub mod cs_data_layout {
     use std::ops::Range;
 
     /// Bytes of the record.
-    pub const SIZE: usize = 100;
+    pub const RECORD_SIZE: usize = 100;
     /// First GPIO of the PIO window. Values: 0 or 16 if found; 0 to 47 if handed in.
     pub const BASE: usize = 0;
     /// Lowest data GPIO less the base. Values: 0 to 47.
@@ -321,7 +324,7 @@ pub mod image_spans {
     use std::ops::Range;
 
     /// Bytes of the record.
-    pub const SIZE: usize = 48;
+    pub const RECORD_SIZE: usize = 48;
     /// 48 bytes: chips 0 to 3, 12 bytes a chip. Values: an image span each.
     pub const CHIPS: Range<usize> = 0..48;
 }
@@ -333,7 +336,7 @@ pub mod image_span {
     use std::ops::Range;
 
     /// Bytes of the record.
-    pub const SIZE: usize = 12;
+    pub const RECORD_SIZE: usize = 12;
     /// Whether the chip has bytes; if not, start and length count for nothing. Values: 0 no, 1 yes.
     pub const GIVEN: usize = 0;
     /// 3 bytes: nothing. Values: 0 (kept).
@@ -352,7 +355,7 @@ pub mod stored_slot {
     use std::ops::Range;
 
     /// Bytes of the record.
-    pub const SIZE: usize = 376;
+    pub const RECORD_SIZE: usize = 376;
     /// 4 bytes: declared size in bytes. Values: any.
     pub const BYTES: Range<usize> = 0..4;
     /// Slot kind. Values: 0 Single ROM, 1 Single RAM, 2 Banked, 3 Multi, 4 to 6 plugin, any other:
@@ -406,7 +409,7 @@ pub mod stored_rom {
     use std::ops::Range;
 
     /// Bytes of the record.
-    pub const SIZE: usize = 72;
+    pub const RECORD_SIZE: usize = 72;
     /// Whether the ROM has a pin map. Values: 0 no, 1 yes.
     pub const MAP_GIVEN: usize = 0;
     /// 3 bytes: nothing. Values: 0 (kept).

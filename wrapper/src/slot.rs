@@ -9,13 +9,13 @@ use crate::layout::addr::AddrLayout;
 use crate::layout::cs_data::CsDataLayout;
 
 /// Bytes of the stored slot record.
-pub const LENGTH: usize = at::SIZE;
+pub const LENGTH: usize = at::RECORD_SIZE;
 
 /// Where the ROMs begin.
 pub const ROMS: usize = at::ROMS.start;
 
 /// Bytes of the record for one ROM.
-pub const ROM: usize = rom_at::SIZE;
+pub const ROM: usize = rom_at::RECORD_SIZE;
 
 /// How many GPIOs each list of a map has places for.
 pub const MOST_LINES: usize = rom_at::ADDRESS.end - rom_at::ADDRESS.start;

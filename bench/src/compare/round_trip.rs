@@ -48,7 +48,9 @@ impl RoundTrip {
     fn words(&self, layout: &[u8; addr::LENGTH]) -> Vec<usize> {
         let lines = usize::from(layout[addr_layout::LINE_COUNT]);
         let count = usize::from(self.description[at::CHIP_COUNT]);
-        let chips = self.description[at::CHIPS].chunks(chip::SIZE).take(count);
+        let chips = self.description[at::CHIPS]
+            .chunks(chip::RECORD_SIZE)
+            .take(count);
         chips
             .map(|chip| words(four(chip, chip::BYTES), self.word_bytes(), lines))
             .collect()

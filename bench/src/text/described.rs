@@ -88,7 +88,7 @@ impl Draft for DescriptionDraft {
             "settings" => slot.settings = settings(words)?,
             "qualifiers" => slot.qualifiers = words.bytes("an address line", 0..=23, 8)?,
             "multi" => slot.multi = Some(multi(words)?),
-            _ => return Err(words.error(format!("expected {LINES}, found `{head}`"))),
+            _ => return Err(words.expected(LINES, Some(head))),
         }
         Ok(())
     }

@@ -49,7 +49,7 @@ impl Draft for StoredDraft {
 
     fn line(&mut self, head: &str, words: &mut Words) -> Result<(), TextError> {
         if self.kind.is_none() && head != "slot" {
-            return Err(words.error(format!("expected `slot`, found `{head}`")));
+            return Err(words.expected("`slot`", Some(head)));
         }
         match head {
             "rom" => return self.rom(words),
@@ -64,7 +64,7 @@ impl Draft for StoredDraft {
             "x1" => self.x[0] = words.candidates()?,
             "x2" => self.x[1] = words.candidates()?,
             "address" | "data" | "dma" | "bit-mode" | "select" => self.layout(head, words)?,
-            _ => return Err(words.error(format!("expected {LINES}, found `{head}`"))),
+            _ => return Err(words.expected(LINES, Some(head))),
         }
         Ok(())
     }

@@ -44,6 +44,22 @@ pub const OVERRIDES: [(&str, u8); 4] = [
 /// In place of a list that has no numbers.
 pub const NO_NUMBERS: &str = "none";
 
+/// How much of a word an error shows.
+const SHOWN: usize = 40;
+
+/// A word as an error shows it: cut if it is long, and signs that a terminal would obey as numbers.
+fn shown(word: &str) -> String {
+    let plain = |sign: char| match sign.is_control() {
+        true => sign.escape_unicode().to_string(),
+        false => sign.to_string(),
+    };
+    let front: String = word.chars().take(SHOWN).map(plain).collect();
+    match word.chars().count() {
+        ..=SHOWN => format!("`{front}`"),
+        length => format!("`{front}..`, a word of {length} characters"),
+    }
+}
+
 pub struct Words<'a> {
     pub line: usize,
     rest: SplitWhitespace<'a>,
@@ -70,11 +86,9 @@ impl<'a> Words<'a> {
         }
     }
 
-    fn expected(&self, what: &str, found: Option<&str>) -> TextError {
-        match found {
-            Some(word) => self.error(format!("expected {what}, found `{word}`")),
-            None => self.error(format!("expected {what}, found the end of the line")),
-        }
+    pub fn expected(&self, what: &str, found: Option<&str>) -> TextError {
+        let found = found.map_or("the end of the line".into(), shown);
+        self.error(format!("expected {what}, found {found}"))
     }
 
     fn peek(&self) -> Option<&'a str> {

@@ -126,3 +126,20 @@ fn too_much_is_told_at_its_line() {
         "line 3: expected at most 24 numbers, found 25"
     );
 }
+
+#[test]
+fn what_an_editor_or_a_slip_leaves_is_readable() {
+    let marked = read_bytes(b"\xEF\xBB\xBFsocket 24\n").expect_err("a mark");
+    let said = "line 1: expected text in plain UTF-8, found a byte order mark before it; \
+        save it without one";
+    assert_eq!(marked.to_string(), said);
+    for wide in [&b"\xFF\xFEs\0o\0"[..], b"\xFE\xFF\0s\0o"] {
+        let told = read_bytes(wide).expect_err("UTF-16").to_string();
+        assert!(told.ends_with("found UTF-16; save it as UTF-8"), "{told}");
+    }
+    let long = format!("socket {}\n", "9".repeat(100_000));
+    let cut = format!("found `{}..`, a word of 100000 characters", "9".repeat(40));
+    assert!(error(&long).ends_with(&cut));
+    assert!(error("socket 2\u{1b}[2J\n").ends_with("found `2\\u{1b}[2J`"));
+    assert!(error(&format!("{}\n", "x".repeat(41))).ends_with("..`, a word of 41 characters"));
+}

@@ -6,7 +6,7 @@ use crate::interface::addr_layout as at;
 use crate::interface::values::GPIO_NONE;
 
 /// Bytes of the address layout record.
-pub const LENGTH: usize = at::SIZE;
+pub const LENGTH: usize = at::RECORD_SIZE;
 
 /// How many lines the record has places for, excess lines among them.
 pub const MOST_LINES: usize = at::LINES.end - at::LINES.start;

@@ -8,7 +8,7 @@ use crate::interface::cs_data_layout as at;
 use crate::interface::values::{self, NO_IGNORE_INDEX};
 
 /// Bytes of the select layout record.
-pub const LENGTH: usize = at::SIZE;
+pub const LENGTH: usize = at::RECORD_SIZE;
 
 /// What a select or commoned line is.
 #[derive(Debug, Clone, Copy, PartialEq, Eq)]

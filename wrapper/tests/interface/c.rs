@@ -33,6 +33,19 @@ static inline uint64_t onerom_place(uint64_t result)
 }
 ";
 
+const NAME: &str = "
+/* The name of a refusal by its number; Unknown where no refusal has it. */
+static inline const char *onerom_refusal_name(unsigned number)
+{
+    switch (number) {
+";
+
+const NAME_END: &str = "    default:
+        return \"Unknown\";
+    }
+}
+";
+
 const END: &str = "
 #ifdef __cplusplus
 }
@@ -44,12 +57,33 @@ const END: &str = "
 pub fn header(page: &Page) -> String {
     let mut text = comment(&head(page));
     text += GUARD;
+    text += &version(page);
     text += &refusals(page);
     text += RESULT;
+    text += &refusal_names(page);
     text.extend(page.groups.iter().map(group));
     text.extend(page.records.iter().map(record));
     text.extend(page.calls.iter().map(|it| call(page, it)));
     text + END
+}
+
+fn version(page: &Page) -> String {
+    let about = "/* The version of this interface: an older caller is answered as before while it stays. */";
+    format!(
+        "\n{about}\n#define ONEROM_INTERFACE_VERSION {}\n",
+        page.version
+    )
+}
+
+fn refusal_names(page: &Page) -> String {
+    let row = |name: &str| {
+        format!(
+            "    case ONEROM_{}:\n        return \"{name}\";\n",
+            upper(name)
+        )
+    };
+    let rows: String = page.refusals.iter().map(|it| row(&it.name)).collect();
+    format!("{NAME}{rows}{NAME_END}")
 }
 
 fn head(page: &Page) -> Vec<String> {
@@ -117,7 +151,7 @@ fn group(group: &Group) -> String {
 
 fn record(record: &Record) -> String {
     let named = |name: &str| format!("{}_{name}", record.name);
-    let size = constant(&named("SIZE"), record.size, "Bytes of the record.");
+    let size = constant(&named("RECORD_SIZE"), record.size, "Bytes of the record.");
     let place = |place: &Place| constant(&named(&place.name), place.from, &told(place));
     let places = record.places.iter().map(place);
     let title = format!("{}, place by place. {}", record.title, plain(&record.about));

@@ -65,6 +65,7 @@ pub struct Call {
 }
 
 pub struct Page {
+    pub version: u32,
     pub result: Vec<String>,
     pub refusals: Vec<Refusal>,
     pub groups: Vec<Group>,
@@ -86,6 +87,7 @@ impl Page {
         };
         let result = head("The result");
         Self {
+            version: version(text),
             result: result.before_table(),
             refusals: refusals(result),
             groups: under("The values").into_iter().map(group).collect(),
@@ -94,6 +96,13 @@ impl Page {
             calls: under("The calls").into_iter().map(call).collect(),
         }
     }
+}
+
+/// The number behind the version's name.
+fn version(text: &str) -> u32 {
+    let (_, rest) = text.split_once("`INTERFACE_VERSION`: ").expect("a version");
+    let digits = rest.split(|sign: char| !sign.is_ascii_digit()).next();
+    number(digits.unwrap_or_default())
 }
 
 fn number<T: std::str::FromStr>(cell: &str) -> T {
@@ -141,7 +150,10 @@ fn record(section: &Section) -> Record {
     let table = section.table(&["place", "name", "what", "values"]);
     Record {
         title: section.title.clone(),
-        name: size_name.strip_suffix("_SIZE").expect("a size").into(),
+        name: size_name
+            .strip_suffix("_RECORD_SIZE")
+            .expect("a size")
+            .into(),
         size: number(size),
         about: about.into(),
         places: table.rows().map(place).collect(),

@@ -10,10 +10,21 @@ const HEAD: &str = "//! The numbers and calls of docs/INTERFACE.md. Rendered fro
 
 pub fn module(page: &Page) -> String {
     let mut text = HEAD.to_string();
+    text += &version(page);
     text += &refusals(page);
     text += &values(page);
     text.extend(page.records.iter().map(record));
     text + &declarations(page)
+}
+
+fn version(page: &Page) -> String {
+    let about =
+        "The version of the interface: an older caller is answered as before while it stays.";
+    let version = page.version;
+    format!(
+        "\n{}pub const INTERFACE_VERSION: u32 = {version};\n",
+        comment(about, 0)
+    )
 }
 
 /// A comment on what follows, behind so many blanks.
@@ -63,7 +74,7 @@ fn values(page: &Page) -> String {
 fn record(record: &Record) -> String {
     let size = constant(
         "Bytes of the record.",
-        "SIZE",
+        "RECORD_SIZE",
         "usize",
         &record.size.to_string(),
     );
