@@ -118,13 +118,15 @@ fn run(root: &Path, what: &str, names: &[String]) {
 const NO_RT: &str = "`rt` is not on the path. Rattle's toolchain proves the library and builds it; \
     put its bin folder on the path and build again, or name a ready archive in ONEROM_ARCHIVE";
 
-/// What is said, read to its end. Lines that name a proved crate go to the terminal meanwhile, if
-/// there is one: cargo shows a build script's output only when it fails, and proofs take minutes.
+/// What is said, read to its end. Lines that name a crate which is proved just now go to the
+/// terminal meanwhile, if there is one: cargo shows a build script's output only when it fails, and
+/// proofs take minutes.
 fn shown(said: impl Read) -> String {
     let mut terminal = File::options().write(true).open("/dev/tty").ok();
     let mut text = String::new();
     for line in BufReader::new(said).lines().map_while(Result::ok) {
-        if let Some(terminal) = terminal.as_mut().filter(|_| line.starts_with("rt: ")) {
+        let is_news = line.starts_with("rt: ") && !line.contains("unchanged");
+        if let Some(terminal) = terminal.as_mut().filter(|_| is_news) {
             // A terminal that is gone keeps nobody from building.
             let _ = writeln!(terminal, "\r\x1b[K{line}");
         }
