@@ -3,6 +3,7 @@
 mod build;
 mod cases;
 mod layout;
+mod pairings;
 mod read_back;
 mod sample;
 mod verify;
@@ -21,18 +22,24 @@ pub struct Command {
     pub summary: &'static str,
     /// What it reads and writes, its exit codes and an example.
     pub help: &'static str,
-    /// The flags that it takes, anywhere among its words.
+    /// The flags that it takes, anywhere among its words; `--flag WORD` is one with a word behind.
     pub flags: &'static [&'static str],
     /// Runs it on the words that follow its name, its flags aside.
     pub run: fn(&[OsString], &Flags) -> Done,
 }
 
-/// The flags that were given.
-pub struct Flags(Vec<&'static str>);
+/// The flags that were given, each as the command has it, and the words behind them.
+pub struct Flags(Vec<(&'static str, Option<OsString>)>);
 
 impl Flags {
     pub fn has(&self, flag: &str) -> bool {
-        self.0.contains(&flag)
+        self.0.iter().any(|(own, _)| *own == flag)
+    }
+
+    /// The word behind a flag.
+    pub fn word(&self, flag: &str) -> Option<&OsStr> {
+        let own = self.0.iter().find(|(own, _)| *own == flag)?;
+        own.1.as_deref()
     }
 }
 
@@ -45,6 +52,7 @@ const COMMANDS: &[&Command] = &[
     &build::BUILD,
     &read_back::READ_BACK,
     &verify::VERIFY,
+    &pairings::PAIRINGS,
     &sample::SAMPLE_FILES,
     &cases::COMPARE,
     &cases::COMPARE_LARGE,
@@ -99,11 +107,36 @@ impl Command {
             } else if !is_flag(word) {
                 plain.push(word.clone());
             } else {
-                let own = self.flags.iter().copied().find(|flag| word == flag);
-                flags.push(own.ok_or_else(|| Fault::File(self.no_flag(word)))?);
+                let flag = self.flag(word, &mut words)?;
+                if flag.1.is_some() && flags.iter().any(|(own, _)| *own == flag.0) {
+                    return Err(Fault::File(self.twice(word)));
+                }
+                flags.push(flag);
             }
         }
         Ok((plain, Flags(flags)))
+    }
+
+    /// The flag that a word is, and the word behind it if it takes one.
+    fn flag<'a>(
+        &self,
+        word: &OsStr,
+        mut behind: impl Iterator<Item = &'a OsString>,
+    ) -> Result<(&'static str, Option<OsString>), Fault> {
+        let name = |flag: &&str| flag.split(' ').next().is_some_and(|name| word == name);
+        let own = self.flags.iter().copied().find(name);
+        let own = own.ok_or_else(|| Fault::File(self.no_flag(word)))?;
+        if !own.contains(' ') {
+            return Ok((own, None));
+        }
+        let next = behind.next().cloned();
+        let next = next.ok_or_else(|| Fault::File(self.no_flag(word)))?;
+        Ok((own, Some(next)))
+    }
+
+    fn twice(&self, word: &OsStr) -> String {
+        let (name, word) = (self.name, word.display());
+        format!("onerom-bench {name}: expected `{word}` once, found it twice")
     }
 
     fn no_flag(&self, word: &OsStr) -> String {

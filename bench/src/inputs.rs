@@ -2,13 +2,13 @@
 
 use std::ffi::OsString;
 use std::fs::File;
-use std::io::Read;
-use std::path::Path;
+use std::io::{self, Read};
+use std::path::{Path, PathBuf};
 
 use onerom::Description;
 use onerom::images::LARGEST_CHIP;
 use onerom_bench::text;
-use onerom_bench::text::TextError;
+use onerom_bench::text::{Included, TextError};
 
 use crate::ending::Fault;
 
@@ -23,6 +23,8 @@ type Image = Option<Vec<u8>>;
 /// A slot and its chips' bytes.
 pub struct Inputs {
     pub slot: Description,
+    /// All that is read: the description, what it includes, and the chips' files.
+    pub files: Vec<PathBuf>,
     images: Vec<Image>,
 }
 
@@ -33,14 +35,19 @@ impl Inputs {
     /// From a description's file and one for each chip, which has just the chip's bytes unless any
     /// length will do.
     pub fn read(file: &Path, chips: &[OsString], any_length: bool) -> Result<Self, Fault> {
-        let slot = described(file)?;
+        let (slot, mut files) = described(file)?;
         expect_files(file, "chips", slot.chips.len(), chips)?;
         let sizes = slot.chips.iter().map(|chip| chip.size as usize);
         let expected = sizes.map(|size| (!any_length).then_some(size));
         let images = chips.iter().zip(expected);
         let images = images.map(|(chip, expected)| image(chip, expected));
         let images = images.collect::<Result<_, _>>()?;
-        Ok(Self { slot, images })
+        files.extend(chips.iter().map(PathBuf::from));
+        Ok(Self {
+            slot,
+            files,
+            images,
+        })
     }
 
     pub fn images(&self) -> Vec<Option<&[u8]>> {
@@ -48,30 +55,63 @@ impl Inputs {
     }
 }
 
-/// The slot that a file describes.
-pub fn described(file: &Path) -> Result<Description, Fault> {
-    let described = |text: &str| {
+/// The slot that a file describes, and all files that it is read from.
+pub fn described(file: &Path) -> Result<(Description, Vec<PathBuf>), Fault> {
+    let (slot, files) = text_of(file, |text, files| {
         if text::is_slot(text) {
             return Ok(None);
         }
-        text::read(text).map(Some)
-    };
-    text_of(file, described)?.ok_or_else(|| {
+        text::read_with(text, &mut |name| files.open(name)).map(Some)
+    })?;
+    let slot = slot.ok_or_else(|| {
         let why =
             "expected a description, found a stored slot, which `onerom-bench read-back` takes";
         Fault::of_file(file, why)
-    })
+    })?;
+    Ok((slot, files))
 }
 
-/// What a text file says.
-pub fn text_of<T>(file: &Path, read: impl Fn(&str) -> Result<T, TextError>) -> Result<T, Fault> {
-    let bytes = bytes_up_to(file, LONGEST_TEXT + 1)?;
+/// The files that a text is read from.
+pub struct Files(Vec<PathBuf>);
+
+impl Files {
+    /// A file that the first one includes, by its name from that one's folder.
+    pub fn open(&mut self, name: &str) -> Result<Included, String> {
+        let folder = self.0.first().and_then(|file| file.parent());
+        let file = folder.unwrap_or(Path::new("")).join(name);
+        let bytes = text_bytes(&file)?;
+        let name = file.display().to_string();
+        self.0.push(file);
+        Ok(Included { name, bytes })
+    }
+}
+
+/// What a text file says, and all files that it is read from.
+pub fn text_of<T>(
+    file: &Path,
+    read: impl FnOnce(&str, &mut Files) -> Result<T, TextError>,
+) -> Result<(T, Vec<PathBuf>), Fault> {
+    let bytes = text_bytes(file).map_err(Fault::File)?;
+    let mut files = Files(vec![file.into()]);
+    match text::of_bytes(&bytes).and_then(|text| read(text, &mut files)) {
+        Ok(told) => Ok((told, files.0)),
+        Err(why) => {
+            let own = || file.display().to_string();
+            let name = why.file.clone().unwrap_or_else(own);
+            Err(Fault::File(format!("{name}, {why}")))
+        }
+    }
+}
+
+/// The bytes of a text file; else why it is none, its name first.
+fn text_bytes(file: &Path) -> Result<Vec<u8>, String> {
+    let named = |why: String| format!("{}: {why}", file.display());
+    let bytes = first_bytes(file, LONGEST_TEXT + 1).map_err(|why| named(why.to_string()))?;
     if bytes.len() > LONGEST_TEXT {
         let why = format!("expected at most {LONGEST_TEXT} bytes of text");
-        return Err(Fault::of_file(file, why));
+        return Err(named(why));
     }
-    let told = text::of_bytes(&bytes).and_then(read);
-    told.map_err(|why| Fault::File(format!("{}, {why}", file.display())))
+    Ok(bytes)
 }
 
 /// A file for each chip or ROM of the slot that a file has.
@@ -145,10 +185,12 @@ fn text_form(bytes: &[u8]) -> Option<&'static str> {
 
 /// A file's first bytes. The rest is left in the file, which may have no end.
 pub fn bytes_up_to(file: &Path, most: usize) -> Result<Vec<u8>, Fault> {
+    first_bytes(file, most).map_err(|why| Fault::of_file(file, why))
+}
+
+fn first_bytes(file: &Path, most: usize) -> io::Result<Vec<u8>> {
     let mut bytes = Vec::new();
-    let read = File::open(file).and_then(|file| file.take(most as u64).read_to_end(&mut bytes));
-    match read {
-        Ok(_) => Ok(bytes),
-        Err(why) => Err(Fault::of_file(file, why)),
-    }
+    let file = File::open(file)?;
+    file.take(most as u64).read_to_end(&mut bytes)?;
+    Ok(bytes)
 }

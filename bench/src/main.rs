@@ -7,6 +7,7 @@ mod ending;
 mod hints;
 mod inputs;
 mod outputs;
+mod pairings;
 mod plain;
 mod progress;
 mod reach;

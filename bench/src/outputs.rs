@@ -122,7 +122,7 @@ pub fn write_out(bytes: &[u8]) -> Result<(), Fault> {
 }
 
 /// Tells a file that would be lost: one that is read cannot be written too.
-pub fn keep(read: &[&Path], what: &str, file: &Path) -> Result<(), Fault> {
+pub fn keep(read: &[PathBuf], what: &str, file: &Path) -> Result<(), Fault> {
     if read.iter().any(|one| is_same(one, file)) {
         let why = format!("the {what} would replace a file that it is made from");
         return Err(Fault::of_file(file, why));

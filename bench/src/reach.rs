@@ -17,23 +17,28 @@ pub fn parts_served(
     addr: &AddrLayout,
     accepted: bool,
 ) -> Result<String, Fault> {
-    let parts = (slot.chips.iter().enumerate())
-        .filter_map(|(number, chip)| Some((number, Part::of(slot, addr, chip)?)));
-    let (mut explained, mut missing) = (String::new(), Vec::new());
-    for (number, part) in parts {
-        if part.explained || accepted {
-            explained += &format!("chip {number}: {}\n", part.served(addr));
-        } else {
-            missing.push(format!("chip {number}: {}", part.lost()));
-        }
-    }
-    if missing.is_empty() {
-        return Ok(explained);
+    let lost = words_lost(slot, addr);
+    if lost.is_empty() || accepted {
+        let served =
+            |(number, part): (usize, Part)| format!("chip {number}: {}\n", part.served(addr));
+        return Ok(parts(slot, addr).map(served).collect());
     }
     Err(Fault::Different(format!(
         "{}\n{PART} accepts it",
-        missing.join("\n")
+        lost.join("\n")
     )))
+}
+
+/// The chips of which words are not reached and no excess line explains it, a line each.
+pub fn words_lost(slot: &Description, addr: &AddrLayout) -> Vec<String> {
+    let lost = parts(slot, addr).filter(|(_, part)| !part.explained);
+    lost.map(|(number, part)| format!("chip {number}: {}", part.lost()))
+        .collect()
+}
+
+fn parts(slot: &Description, addr: &AddrLayout) -> impl Iterator<Item = (usize, Part)> {
+    (slot.chips.iter().enumerate())
+        .filter_map(|(number, chip)| Some((number, Part::of(slot, addr, chip)?)))
 }
 
 /// A chip that has more words than its lines in use reach.

@@ -3,6 +3,8 @@
 
 mod described;
 mod facts;
+mod halves;
+mod included;
 mod stored;
 mod words;
 mod write;
@@ -11,15 +13,23 @@ use std::fmt;
 
 use described::DescriptionDraft;
 use facts::grown;
+use halves::{BoardDraft, ChipDraft};
+use included::grown_with;
 use onerom::description::Description;
 use onerom::slot::StoredSlot;
 use stored::StoredDraft;
 use words::Words;
 
+pub use described::seat;
+pub use halves::{Board, ChipFacts};
+pub use included::{Included, Open};
+
 /// Why a text is no description or no stored slot. Displayed it reads `line 3: expected ..`; put
 /// the file's name before it.
 #[derive(Debug, Clone, PartialEq, Eq)]
 pub struct TextError {
+    /// The included file that it shows in; none in the text itself.
+    pub file: Option<String>,
     /// Where it shows, from 1; the last line where something is missing in the whole.
     pub line: usize,
     /// What was expected there and what was found.
@@ -48,11 +58,16 @@ const MARKS: [(&[u8], &str); 3] = [
 pub fn of_bytes(bytes: &[u8]) -> Result<&str, TextError> {
     if let Some((_, found)) = MARKS.iter().find(|(mark, _)| bytes.starts_with(mark)) {
         let what = format!("expected text in plain UTF-8, found {found}");
-        return Err(TextError { line: 1, what });
+        return Err(TextError {
+            file: None,
+            line: 1,
+            what,
+        });
     }
     std::str::from_utf8(bytes).map_err(|why| {
         let good = &bytes[..why.valid_up_to()];
         TextError {
+            file: None,
             line: 1 + good.iter().filter(|&&byte| byte == b'\n').count(),
             what: "expected text, found bytes that are none".into(),
         }
@@ -68,7 +83,24 @@ pub fn read_bytes(bytes: &[u8]) -> Result<Description, TextError> {
 /// is an error, and so is a line that is missing or stands twice. What only shows in the whole is
 /// left to the library, which refuses it.
 pub fn read(text: &str) -> Result<Description, TextError> {
-    grown::<DescriptionDraft>(text)
+    read_with(text, &mut |name| {
+        Err(format!("{name}: a text alone includes no file"))
+    })
+}
+
+/// Reads a description that can include files.
+pub fn read_with(text: &str, open: &mut Open) -> Result<Description, TextError> {
+    grown_with::<DescriptionDraft>(text, open)
+}
+
+/// Reads the lines of a description that are a chip's, one chip with its package.
+pub fn read_chip(text: &str, open: &mut Open) -> Result<ChipFacts, TextError> {
+    grown_with::<ChipDraft>(text, open)
+}
+
+/// Reads the lines of a description that are a board's.
+pub fn read_board(text: &str, open: &mut Open) -> Result<Board, TextError> {
+    grown_with::<BoardDraft>(text, open)
 }
 
 /// Whether a text is to be read as a stored slot: only those begin with a `slot` line. Empty lines

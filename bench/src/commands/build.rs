@@ -63,8 +63,7 @@ fn run(words: &[OsString], flags: &Flags) -> Done {
         write_out(&bytes)?;
         return Ok(ExitCode::SUCCESS);
     }
-    let read: Vec<&Path> = chips.iter().map(Path::new).chain([file]).collect();
-    keep(&read, "table", table)?;
+    keep(&inputs.files, "table", table)?;
     let (bytes, parts) = built(&inputs, flags)?;
     write_whole(&[(table, &bytes)])?;
     let (name, length) = (table.display(), bytes.len());

@@ -49,7 +49,7 @@ fn run(words: &[OsString], flags: &Flags) -> Done {
     let part = flags.has(PART);
     match words {
         [file] => {
-            let slot = described(Path::new(file))?;
+            let (slot, _) = described(Path::new(file))?;
             let (addr, cs_data) = print_layouts(&slot)?;
             say_slips(&slot, &addr, part)?;
             expect_built(&slot, &addr, &cs_data)?;
@@ -93,8 +93,8 @@ fn lay_out_to(file: &Path, stored: &Path, part: bool) -> Result<(), Fault> {
         let why = "expected a file's name: the layouts go to the standard output";
         return Err(Fault::of_file(stored, why));
     }
-    let slot = described(file)?;
-    keep(&[file], "slot", stored)?;
+    let (slot, files) = described(file)?;
+    keep(&files, "slot", stored)?;
     let (addr, cs_data) = print_layouts(&slot)?;
     say_slips(&slot, &addr, part)?;
     expect_built(&slot, &addr, &cs_data)?;

@@ -2,7 +2,7 @@
 
 use std::ffi::OsString;
 use std::fs;
-use std::path::Path;
+use std::path::{Path, PathBuf};
 use std::process::ExitCode;
 
 use onerom::interface::refusals::WRONG_SIZE;
@@ -12,7 +12,7 @@ use onerom_bench::text::{self, TextError};
 use super::{Command, Flags};
 use crate::ending::{Done, Fault, say};
 use crate::hints::hinted;
-use crate::inputs::{NO_FILE, bytes_up_to, expect_files, text_of};
+use crate::inputs::{Files, NO_FILE, bytes_up_to, expect_files, text_of};
 use crate::laid_out;
 use crate::outputs::{Output, is_same, keep, write_whole};
 use crate::reach::{PART, parts_served};
@@ -51,11 +51,12 @@ fn run(words: &[OsString], flags: &Flags) -> Done {
         return Err(Fault::Words);
     };
     let (file, table) = (Path::new(file), Path::new(table));
-    let (slot, parts) = stored_slot(file, flags.has(PART))?;
+    let (slot, parts, mut files) = stored_slot(file, flags.has(PART))?;
     let wanted = slot.lengths(0).len();
     expect_files(file, "ROMs", wanted, chips)?;
     let chips: Vec<&Path> = chips.iter().map(Path::new).collect();
-    keep_apart(&[file, table], &chips)?;
+    files.push(table.into());
+    keep_apart(&files, &chips)?;
     let stored = stored_bytes(table, &slot)?;
     let roms = unscramble_slot(&slot, &stored).map_err(|refusal| match refusal.number {
         WRONG_SIZE => Fault::Hinted(refusal, lengths(table, &slot, &stored)),
@@ -98,23 +99,29 @@ enum Told {
     Described(Box<Description>),
 }
 
-fn told(text: &str) -> Result<Told, TextError> {
+fn told(text: &str, files: &mut Files) -> Result<Told, TextError> {
     if text::is_slot(text) {
         return text::read_slot(text).map(Told::Slot);
     }
-    text::read(text).map(Box::new).map(Told::Described)
+    let slot = text::read_with(text, &mut |name| files.open(name))?;
+    Ok(Told::Described(Box::new(slot)))
 }
 
 /// The slot and, where it is found from a description, what is to be said of chips that it serves
-/// in part.
-fn stored_slot(file: &Path, part: bool) -> Result<(StoredSlot, Option<String>), Fault> {
-    Ok(match text_of(file, told)? {
-        Told::Slot(slot) => (slot, None),
+/// in part; then all files that it is read from.
+fn stored_slot(
+    file: &Path,
+    part: bool,
+) -> Result<(StoredSlot, Option<String>, Vec<PathBuf>), Fault> {
+    let (told, files) = text_of(file, told)?;
+    Ok(match told {
+        Told::Slot(slot) => (slot, None, files),
         Told::Described(slot) => {
             let of_slot = |refusal| hinted(&slot, &[], refusal);
             let (addr, cs_data) = laid_out(&slot).map_err(of_slot)?;
             let parts = parts_served(&slot, &addr, part)?;
-            (StoredSlot::of_layouts(&slot, &addr, &cs_data), Some(parts))
+            let stored = StoredSlot::of_layouts(&slot, &addr, &cs_data);
+            (stored, Some(parts), files)
         }
     })
 }
@@ -146,7 +153,7 @@ fn lengths(table: &Path, slot: &StoredSlot, stored: &[u8]) -> String {
 }
 
 /// No ROM's file takes the place of one that is read, nor of another ROM's.
-fn keep_apart(read: &[&Path], chips: &[&Path]) -> Result<(), Fault> {
+fn keep_apart(read: &[PathBuf], chips: &[&Path]) -> Result<(), Fault> {
     let written = chips.iter().enumerate();
     for (number, chip) in written.filter(|(_, chip)| is_written(chip)) {
         keep(read, "ROM", chip)?;

@@ -68,7 +68,7 @@ pub struct Page<'a> {
 
 impl<'a> Page<'a> {
     pub fn read(file: &'a Path) -> Result<Self, Fault> {
-        let text = text_of(file, |text| Ok(text.to_string()))?;
+        let (text, _) = text_of(file, |text, _| Ok(text.to_string()))?;
         let rest = text.split_once(FIRST);
         let parts = rest.and_then(|(before, rest)| Some((before, rest.split_once(LAST)?.1)));
         let (before, after) = parts.ok_or_else(|| {

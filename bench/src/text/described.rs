@@ -2,13 +2,14 @@
 
 use super::TextError;
 use super::facts::{Draft, Told, add_part, missing};
+use super::included::Place;
 use super::words::{KINDS, Words};
 use onerom::description::{
     Candidates, Chip, Description, Kind, Multi, SOCKET_PINS, SetType, Setting, Settings,
 };
 
-const LINES: &str = "socket, pin, x1, x2, set, word, offset, limit, chip, address, data, control, \
-    settings, qualifiers or multi";
+const LINES: &str = "socket, pin, x1, x2, set, word, offset, limit, chip, package, address, data, \
+    control, settings, qualifiers, multi or include";
 
 /// The original's largest table.
 const USUAL_LIMIT: u32 = 512 * 1024;
@@ -35,11 +36,19 @@ const FORMS: [(&str, Form); 3] = [
 /// How many kinds of lines a Multi set can name: all but the other lines. A list has no more.
 const NAMED: usize = 6;
 
+/// Pins that a socket or a package has.
+const PIN_COUNTS: [(&str, u8); 4] = [("24", 24), ("28", 28), ("32", 32), ("40", 40)];
+
+/// The highest pin of any package.
+const HIGHEST_PIN: u8 = 40;
+
 pub struct DescriptionDraft {
-    slot: Description,
-    told: Told,
+    pub slot: Description,
+    pub told: Told,
+    /// Pins of each chip's package, where they are told.
+    pub packages: Vec<Option<u8>>,
     /// The line on which each chip begins.
-    chip_lines: Vec<usize>,
+    pub chip_lines: Vec<Place>,
 }
 
 impl Default for DescriptionDraft {
@@ -60,6 +69,7 @@ impl Default for DescriptionDraft {
         Self {
             slot,
             told: Told::default(),
+            packages: Vec::new(),
             chip_lines: Vec::new(),
         }
     }
@@ -72,20 +82,19 @@ impl Draft for DescriptionDraft {
         match head {
             "pin" => return self.pin(words),
             "chip" => return self.chip(words),
-            "address" | "data" | "control" => return self.chip_pins(head, words),
+            "package" | "address" | "data" | "control" => return self.chip_pins(head, words),
+            "word" | "settings" => return self.shared(head, words),
             _ => {}
         }
         self.told.once(head.into(), words)?;
         let slot = &mut self.slot;
         match head {
-            "socket" => slot.board_pins = socket_pins(words)?,
+            "socket" => slot.board_pins = words.one_of("the socket's pins", &PIN_COUNTS)?,
             "x1" => slot.x[0] = words.candidates()?,
             "x2" => slot.x[1] = words.candidates()?,
             "set" => slot.set_type = words.one_of("a set type", &SET_TYPES)?,
-            "word" => slot.word_bytes = words.byte("bytes in a word", 1..=2)?,
             "offset" => slot.pin_offset = words.number("an offset", -4..=4)? as i8,
             "limit" => slot.largest_table = words.number("bytes", 256..=1 << 20)? as u32,
-            "settings" => slot.settings = settings(words)?,
             "qualifiers" => slot.qualifiers = words.bytes("an address line", 0..=23, 8)?,
             "multi" => slot.multi = Some(multi(words)?),
             _ => return Err(words.expected(LINES, Some(head))),
@@ -93,31 +102,90 @@ impl Draft for DescriptionDraft {
         Ok(())
     }
 
-    fn finished(self, last: usize) -> Result<Description, TextError> {
+    fn finished(mut self, last: usize) -> Result<Description, TextError> {
         let slot = &self.slot;
         if slot.board_pins == 0 {
             return missing(last, "a `socket` line");
         }
-        if slot.chips.is_empty() {
-            return missing(last, "a `chip` line");
-        }
-        for (chip, &line) in slot.chips.iter().zip(&self.chip_lines) {
-            if chip.address_pins.is_empty() {
-                return missing(line, "an `address` line of this chip");
-            }
-            if chip.data_pins.is_empty() {
-                return missing(line, "a `data` line of this chip");
-            }
-        }
+        self.whole_chips(last)?;
         if slot.set_type == SetType::Multi && slot.multi.is_none() {
-            let set = self.told.line("set");
-            return missing(set.unwrap_or(last), "a `multi` line for this set");
+            let set = self.told.place("set");
+            return missing(
+                set.unwrap_or_else(|| last.into()),
+                "a `multi` line for this set",
+            );
         }
+        self.slot.pin_offset = self.offset()?;
         Ok(self.slot)
     }
 }
 
+/// Socket pin less chip pin where a package sits at the bottom of a socket, or hangs over both ends
+/// of a smaller one. With 40 pins only 40 go: the power is elsewhere there.
+pub fn seat(socket: u8, package: u8) -> Option<i8> {
+    let mixed = (socket == 40) != (package == 40);
+    let difference = i16::from(socket) - i16::from(package);
+    (!mixed).then_some((difference / 2) as i8)
+}
+
 impl DescriptionDraft {
+    /// Tells what is missing of the chips.
+    pub fn whole_chips(&self, last: usize) -> Result<(), TextError> {
+        let chips = &self.slot.chips;
+        if chips.is_empty() {
+            return missing(last, "a `chip` line");
+        }
+        for (chip, place) in chips.iter().zip(&self.chip_lines) {
+            if chip.address_pins.is_empty() {
+                return missing(place.clone(), "an `address` line of this chip");
+            }
+            if chip.data_pins.is_empty() {
+                return missing(place.clone(), "a `data` line of this chip");
+            }
+        }
+        Ok(())
+    }
+
+    /// The offset that is told, else the one of the first chip's package, else none.
+    fn offset(&self) -> Result<i8, TextError> {
+        let package = self.packages.first().copied().flatten();
+        let place = self.told.place("package of chip 0");
+        let (None, Some(package), Some(place)) = (self.told.place("offset"), package, place) else {
+            return Ok(self.slot.pin_offset);
+        };
+        let socket = self.slot.board_pins;
+        seat(socket, package).map_or_else(
+            || {
+                let what = format!(
+                    "an `offset` line, since {package} pins have no place of their own in a \
+                     socket of {socket}"
+                );
+                missing(place, &what)
+            },
+            Ok,
+        )
+    }
+
+    /// A fact that each chip's file has: the chips of a set share it.
+    fn shared(&mut self, head: &str, words: &mut Words) -> Result<(), TextError> {
+        let elsewhere = self.told.elsewhere(head, words)?;
+        let slot = &mut self.slot;
+        let before = (slot.word_bytes, slot.settings);
+        match head {
+            "word" => slot.word_bytes = words.byte("bytes in a word", 1..=2)?,
+            _ => slot.settings = settings(words)?,
+        }
+        match elsewhere {
+            Some(place) if (slot.word_bytes, slot.settings) != before => {
+                let place = place.seen_from(&words.part);
+                Err(words.error(format!(
+                    "expected `{head}` as on {place}: the chips of a set share it"
+                )))
+            }
+            _ => Ok(()),
+        }
+    }
+
     fn pin(&mut self, words: &mut Words) -> Result<(), TextError> {
         let pin = words.byte("a socket pin", 1..=SOCKET_PINS as u8)?;
         self.told.once(format!("pin {pin}"), words)?;
@@ -130,12 +198,15 @@ impl DescriptionDraft {
             size,
             ..Chip::default()
         };
+        let before = self.packages.last().copied().flatten();
+        self.packages
+            .push(before.filter(|_| words.is_next("again")));
         add_part(&mut self.slot.chips, "chip", words, of_size)?;
-        self.chip_lines.push(words.line);
+        self.chip_lines.push(words.place());
         Ok(())
     }
 
-    /// The pins of the last chip.
+    /// The pins of the last chip, and how many its package has.
     fn chip_pins(&mut self, head: &str, words: &mut Words) -> Result<(), TextError> {
         let Some(last) = self.slot.chips.len().checked_sub(1) else {
             return Err(words.error(format!("expected a `chip` line before `{head}`")));
@@ -143,27 +214,36 @@ impl DescriptionDraft {
         if head != "control" {
             self.told.once(format!("{head} of chip {last}"), words)?;
         }
+        let highest = self.packages[last].unwrap_or(HIGHEST_PIN);
         let chip = &mut self.slot.chips[last];
         match head {
-            "address" => chip.address_pins = words.bytes("a chip pin", 1..=40, 24)?,
-            "data" => chip.data_pins = words.bytes("a chip pin", 1..=40, 16)?,
+            "package" => self.packages[last] = Some(package(chip, words)?),
+            "address" => chip.address_pins = words.bytes("a chip pin", 1..=highest, 24)?,
+            "data" => chip.data_pins = words.bytes("a chip pin", 1..=highest, 16)?,
             _ if chip.control.len() == 8 => {
                 return Err(words.error("expected at most 8 control lines on a chip"));
             }
             _ => {
                 let kind = words.one_of("a control line", &KINDS)?;
-                chip.control.push((kind, words.byte("a chip pin", 1..=40)?));
+                let pin = words.byte("a chip pin", 1..=highest)?;
+                chip.control.push((kind, pin));
             }
         }
         Ok(())
     }
 }
 
-fn socket_pins(words: &mut Words) -> Result<u8, TextError> {
-    words.one_of(
-        "the socket's pins",
-        &[("24", 24), ("28", 28), ("32", 32), ("40", 40)],
-    )
+/// The pins of a package: no line that was told before lies above them.
+fn package(chip: &Chip, words: &mut Words) -> Result<u8, TextError> {
+    let pins = words.one_of("the package's pins", &PIN_COUNTS)?;
+    let lines = chip.address_pins.iter().chain(&chip.data_pins);
+    let highest = lines.chain(chip.control.iter().map(|(_, pin)| pin)).max();
+    match highest {
+        Some(&pin) if pin > pins => Err(words.error(format!(
+            "expected a package with pin {pin}, which a line of the chip is on, found `{pins}`"
+        ))),
+        _ => Ok(pins),
+    }
 }
 
 fn settings(words: &mut Words) -> Result<Settings, TextError> {

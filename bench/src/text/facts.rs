@@ -3,6 +3,7 @@
 use std::collections::BTreeMap;
 
 use super::TextError;
+use super::included::Place;
 use super::words::Words;
 use onerom::description::MOST_CHIPS;
 use onerom::images::LARGEST_CHIP;
@@ -22,39 +23,59 @@ pub trait Draft: Default {
 pub fn grown<D: Draft>(text: &str) -> Result<D::Whole, TextError> {
     let mut draft = D::default();
     for (number, line) in (1..).zip(text.lines()) {
-        let mut words = Words::of(number, line);
-        if let Some(head) = words.head() {
-            draft.line(head, &mut words)?;
-            words.end()?;
-        }
+        take_line(&mut draft, Words::of(number, line))?;
     }
     draft.finished(text.lines().count().max(1))
 }
 
+/// Takes in a line, all of it.
+pub fn take_line<D: Draft>(draft: &mut D, mut words: Words) -> Result<(), TextError> {
+    if let Some(head) = words.head() {
+        draft.line(head, &mut words)?;
+        words.end()?;
+    }
+    Ok(())
+}
+
 /// Where each fact that can stand only once was told.
 #[derive(Default)]
-pub struct Told(BTreeMap<String, usize>);
+pub struct Told(BTreeMap<String, Place>);
 
 impl Told {
     pub fn once(&mut self, fact: String, words: &Words) -> Result<(), TextError> {
         match self.0.get(&fact) {
-            Some(line) => Err(words.error(format!("`{fact}` stands on line {line} already"))),
+            Some(place) => {
+                let place = place.seen_from(&words.part);
+                Err(words.error(format!("`{fact}` stands on {place} already")))
+            }
             None => {
-                self.0.insert(fact, words.line);
+                self.0.insert(fact, words.place());
                 Ok(())
             }
         }
     }
 
-    /// The line on which a fact was told.
-    pub fn line(&self, fact: &str) -> Option<usize> {
-        self.0.get(fact).copied()
+    /// Where another file told the fact, which can stand once in each.
+    pub fn elsewhere(&mut self, fact: &str, words: &Words) -> Result<Option<Place>, TextError> {
+        match self.0.get(fact) {
+            Some(place) if place.part != words.part => Ok(Some(place.clone())),
+            _ => self.once(fact.into(), words).map(|()| None),
+        }
+    }
+
+    /// Where a fact was told.
+    pub fn place(&self, fact: &str) -> Option<Place> {
+        self.0.get(fact).cloned()
     }
 }
 
-pub fn missing<T>(line: usize, what: &str) -> Result<T, TextError> {
-    let what = format!("expected {what}, found none");
-    Err(TextError { line, what })
+pub fn missing<T>(place: impl Into<Place>, what: &str) -> Result<T, TextError> {
+    let Place { part, line } = place.into();
+    Err(TextError {
+        file: part.file.as_deref().map(str::to_owned),
+        line,
+        what: format!("expected {what}, found none"),
+    })
 }
 
 /// Adds a chip or a ROM: `again` is the last one once more, `size` and a number a new one.

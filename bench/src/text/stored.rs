@@ -116,7 +116,7 @@ impl StoredDraft {
     }
 
     fn whole_layout(&self, last: usize) -> Result<Option<Layout>, TextError> {
-        let untold = LAYOUT.iter().filter(|fact| self.told.line(fact).is_none());
+        let untold = LAYOUT.iter().filter(|fact| self.told.place(fact).is_none());
         let untold: Vec<&&str> = untold.collect();
         match untold[..] {
             [] => Ok(Some(self.layout)),

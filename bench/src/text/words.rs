@@ -4,6 +4,7 @@ use std::ops::RangeInclusive;
 use std::str::SplitWhitespace;
 
 use super::TextError;
+use super::included::{Part, Place};
 use onerom::description::{Candidates, Kind, Setting};
 use onerom::slot::SlotKind;
 
@@ -62,6 +63,7 @@ fn shown(word: &str) -> String {
 
 pub struct Words<'a> {
     pub line: usize,
+    pub part: Part,
     rest: SplitWhitespace<'a>,
 }
 
@@ -70,8 +72,20 @@ impl<'a> Words<'a> {
         let told = text.split('#').next().unwrap_or_default();
         Self {
             line,
+            part: Part::default(),
             rest: told.split_whitespace(),
         }
+    }
+
+    /// The same line in an included file.
+    pub fn in_part(self, part: &Part) -> Self {
+        let part = part.clone();
+        Self { part, ..self }
+    }
+
+    pub fn place(&self) -> Place {
+        let (part, line) = (self.part.clone(), self.line);
+        Place { part, line }
     }
 
     /// The line's first word; none on an empty line.
@@ -81,6 +95,7 @@ impl<'a> Words<'a> {
 
     pub fn error(&self, what: impl Into<String>) -> TextError {
         TextError {
+            file: self.part.file.as_deref().map(str::to_owned),
             line: self.line,
             what: what.into(),
         }

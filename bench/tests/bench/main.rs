@@ -3,12 +3,15 @@
 mod any;
 mod boundary;
 mod build;
+mod chips;
 mod compare;
 mod cs_data;
 mod folder;
 mod hints;
+mod include;
 mod layout;
 mod make;
+mod pairings;
 mod program;
 mod progress;
 mod read_back;

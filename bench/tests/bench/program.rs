@@ -9,11 +9,12 @@ use std::process::{Command, Output};
 
 use super::slots::changed;
 
-const COMMANDS: [&str; 9] = [
+const COMMANDS: [&str; 10] = [
     "layout",
     "build",
     "read-back",
     "verify",
+    "pairings",
     "sample",
     "compare",
     "compare-large",
@@ -167,6 +168,7 @@ fn no_file_and_no_command() {
         "build",
         "read-back",
         "verify",
+        "pairings",
         "compare",
         "compare-large",
         "replay",
