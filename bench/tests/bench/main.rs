@@ -9,6 +9,7 @@ mod cs_data;
 mod folder;
 mod hints;
 mod include;
+mod jobs;
 mod layout;
 mod make;
 mod pairings;
