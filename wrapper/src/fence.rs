@@ -6,7 +6,7 @@
 //! written, and tell whether anything else was. Both keep their pages and use them again, which
 //! makes a call on them cheap.
 
-use std::ffi::{c_int, c_void};
+use std::ffi::{CStr, c_char, c_int, c_uint, c_void};
 use std::io;
 use std::ops::Range;
 use std::ptr::{self, NonNull};
@@ -18,9 +18,14 @@ const PAGE: usize = 4096;
 const PROT_NONE: c_int = 0;
 const PROT_READ: c_int = 1;
 const PROT_WRITE: c_int = 2;
+const MAP_SHARED: c_int = 1;
 const MAP_PRIVATE: c_int = 2;
+const MAP_FIXED: c_int = 16;
 const MAP_ANONYMOUS: c_int = 32;
 const NO_FILE: c_int = -1;
+
+/// How `/proc` shows the memory of rooms that are only read.
+const NAME: &CStr = c"onerom fence";
 
 unsafe extern "C" {
     fn mmap(
@@ -33,6 +38,9 @@ unsafe extern "C" {
     ) -> *mut c_void;
     fn mprotect(start: *mut c_void, length: usize, protection: c_int) -> c_int;
     fn munmap(start: *mut c_void, length: usize) -> c_int;
+    fn memfd_create(name: *const c_char, flags: c_uint) -> c_int;
+    fn ftruncate(file: c_int, length: i64) -> c_int;
+    fn close(file: c_int) -> c_int;
 }
 
 /// Which guard page bytes stand against.
@@ -62,32 +70,48 @@ impl Side {
 struct Room {
     /// Behind the lower guard page.
     start: NonNull<u8>,
+    /// Where the pages are written: of a room that is only read they stand a second time.
+    written: NonNull<u8>,
     length: usize,
 }
 
 impl Room {
     /// So many pages, to be read and written.
-    fn of(pages: usize) -> Self {
+    fn lent(pages: usize) -> Self {
         let length = pages * PAGE;
-        let (whole, flags) = (length + 2 * PAGE, MAP_PRIVATE | MAP_ANONYMOUS);
-        // SAFETY: a new mapping where the system finds room takes no memory that is in use.
-        let guard = unsafe { mmap(ptr::null_mut(), whole, PROT_NONE, flags, NO_FILE, 0) };
-        // A failure is the place -1.
-        let failed = guard.addr() == usize::MAX;
-        assert!(!failed, "mmap: {}", io::Error::last_os_error());
-        // SAFETY: the mapping has three pages or more.
-        let start = unsafe { guard.cast::<u8>().add(PAGE) };
-        let start = NonNull::new(start).expect("no mapping ends at 0");
-        let mut room = Self { start, length };
-        room.protect(PROT_READ | PROT_WRITE);
-        room
+        let start = between_guards(length);
+        // SAFETY: these are whole pages of a mapping that nobody else knows yet.
+        let told = unsafe { mprotect(start.as_ptr().cast(), length, PROT_READ | PROT_WRITE) };
+        expect(told == 0, "mprotect");
+        Self {
+            start,
+            written: start,
+            length,
+        }
     }
 
-    fn protect(&mut self, protection: c_int) {
-        // SAFETY: these are whole pages of this room's own mapping, and while it is borrowed here
-        // nobody has a reference into them.
-        let told = unsafe { mprotect(self.start.as_ptr().cast(), self.length, protection) };
-        assert!(told == 0, "mprotect: {}", io::Error::last_os_error());
+    /// So many pages that can only be read there. The same memory stands elsewhere too, to be
+    /// written: to change the protection around each writing would take longer than most calls.
+    fn shown(pages: usize) -> Self {
+        let length = pages * PAGE;
+        let file = memory(length);
+        let start = between_guards(length);
+        let fixed = MAP_SHARED | MAP_FIXED;
+        // SAFETY: the pages that it takes the place of are a mapping that nobody else knows yet.
+        let read = unsafe { mmap(start.as_ptr().cast(), length, PROT_READ, fixed, file, 0) };
+        expect(read.addr() != usize::MAX, "mmap");
+        let both = PROT_READ | PROT_WRITE;
+        // SAFETY: a new mapping where the system finds room takes no memory that is in use.
+        let written = unsafe { mmap(ptr::null_mut(), length, both, MAP_SHARED, file, 0) };
+        expect(written.addr() != usize::MAX, "mmap");
+        // SAFETY: the file is our own, and the mappings keep its memory.
+        unsafe { close(file) };
+        let written = NonNull::new(written.cast()).expect("no mapping begins at 0");
+        Self {
+            start,
+            written,
+            length,
+        }
     }
 
     fn bytes(&self) -> &[u8] {
@@ -95,10 +119,9 @@ impl Room {
         unsafe { std::slice::from_raw_parts(self.start.as_ptr(), self.length) }
     }
 
-    /// Of a room that can be written now.
     fn bytes_mut(&mut self) -> &mut [u8] {
-        // SAFETY: as above.
-        unsafe { std::slice::from_raw_parts_mut(self.start.as_ptr(), self.length) }
+        // SAFETY: as above; while the room is borrowed here nobody reads its pages at either place.
+        unsafe { std::slice::from_raw_parts_mut(self.written.as_ptr(), self.length) }
     }
 
     fn place(&self, length: usize, side: Side) -> Range<usize> {
@@ -111,12 +134,42 @@ impl Room {
 
 impl Drop for Room {
     fn drop(&mut self) {
-        // SAFETY: this is the whole mapping, guard pages included, and nobody uses it any more.
+        // SAFETY: these are whole mappings, guard pages included, and nobody uses them any more.
         unsafe {
+            if self.written != self.start {
+                munmap(self.written.as_ptr().cast(), self.length);
+            }
             let guard = self.start.as_ptr().sub(PAGE);
             munmap(guard.cast(), self.length + 2 * PAGE);
         }
     }
+}
+
+fn expect(done: bool, what: &str) {
+    assert!(done, "{what}: {}", io::Error::last_os_error());
+}
+
+/// A mapping of so many bytes with a page on each side, none of which may be touched yet; where the
+/// bytes begin.
+fn between_guards(length: usize) -> NonNull<u8> {
+    let (whole, flags) = (length + 2 * PAGE, MAP_PRIVATE | MAP_ANONYMOUS);
+    // SAFETY: a new mapping where the system finds room takes no memory that is in use.
+    let guard = unsafe { mmap(ptr::null_mut(), whole, PROT_NONE, flags, NO_FILE, 0) };
+    // A failure is the place -1.
+    expect(guard.addr() != usize::MAX, "mmap");
+    // SAFETY: the mapping has three pages or more.
+    let start = unsafe { guard.cast::<u8>().add(PAGE) };
+    NonNull::new(start).expect("no mapping ends at 0")
+}
+
+/// Memory of so many bytes, all 0, that can be mapped in several places.
+fn memory(length: usize) -> c_int {
+    // SAFETY: the name ends with 0, and the file that is made is our own.
+    let file = unsafe { memfd_create(NAME.as_ptr(), 0) };
+    expect(file >= 0, "memfd_create");
+    // SAFETY: as above.
+    expect(unsafe { ftruncate(file, length as i64) } == 0, "ftruncate");
+    file
 }
 
 /// Rooms of 1, 2, 4 pages and so on, each made when it is first needed: what is watched is never
@@ -131,11 +184,11 @@ impl Rooms {
         pages.next_power_of_two().trailing_zeros() as usize
     }
 
-    fn room(&mut self, number: usize) -> &mut Room {
+    fn room(&mut self, number: usize, made: fn(usize) -> Room) -> &mut Room {
         if self.0.len() <= number {
             self.0.resize_with(number + 1, || None);
         }
-        self.0[number].get_or_insert_with(|| Room::of(1 << number))
+        self.0[number].get_or_insert_with(|| made(1 << number))
     }
 
     /// None before the room is made.
@@ -158,12 +211,10 @@ impl Shown {
     /// before is gone.
     pub fn put(&mut self, bytes: &[u8], side: Side) {
         self.room = Rooms::number(bytes.len());
-        let room = self.rooms.room(self.room);
+        let room = self.rooms.room(self.room, Room::shown);
         self.place = room.place(bytes.len(), side);
-        room.protect(PROT_READ | PROT_WRITE);
         room.bytes_mut().fill(side.watch());
         room.bytes_mut()[self.place.clone()].copy_from_slice(bytes);
-        room.protect(PROT_READ);
     }
 
     /// The copy, to be handed to a call; no bytes if none was taken.
@@ -186,7 +237,7 @@ impl Lent {
     /// side's watch byte, as is all around them.
     pub fn lend(&mut self, length: usize, side: Side) -> &mut [u8] {
         self.room = Rooms::number(length);
-        let room = self.rooms.room(self.room);
+        let room = self.rooms.room(self.room, Room::lent);
         self.place = room.place(length, side);
         self.watch = side.watch();
         let bytes = room.bytes_mut();
