@@ -1,12 +1,13 @@
 //! What a refusal's number and place leave open, by a look at what was asked for: which GPIOs no
 //! window holds, which line is off the socket, how many bytes were expected.
 
-use onerom::description::{Candidates, Chip, Description, Kind, SetType};
+use onerom::description::{Candidates, Chip, Description, Kind, SetType, Setting};
 use onerom::interface::refusals::{
     INVALID_CONFIG, NO_VALID_LAYOUT, ROM_TABLE_TOO_LARGE, SHORT_IMAGE_DATA,
 };
 use onerom::layout::cs_data::Role;
 use onerom::{Call, Refusal, derive_addr_layout};
+use onerom_bench::show::setting;
 
 use crate::ending::Fault;
 
@@ -123,44 +124,49 @@ fn no_address_layout(slot: &Description, chip: &Chip) -> String {
 
 /// The lines that the table's index spans.
 fn spanned(slot: &Description, chip: &Chip) -> Vec<Line> {
+    let (mut lines, _) = address_candidates(slot, chip);
+    lines.extend(picking_pins(slot));
+    let first = |line: Line| Line {
+        gpios: line.gpios.into_iter().take(1).collect(),
+        ..line
+    };
+    let multi = slot.multi.iter();
+    let multi = multi.filter(|_| slot.set_type == SetType::Multi);
+    let kinds = multi.flat_map(|multi| [&[multi.select], &multi.commoned[..]].concat());
+    lines.extend(kinds.filter_map(|kind| control_line(slot, chip, kind).map(first)));
+    lines
+}
+
+/// The address lines in range, then the excess ones. A line off the socket takes X1, the next X2.
+fn address_candidates(slot: &Description, chip: &Chip) -> (Vec<Line>, Vec<Line>) {
     let words = slot.largest_table / u32::from(slot.word_bytes.max(1));
     let in_range = words.max(1).ilog2() as usize;
     let mut x = slot.x.into_iter();
-    let mut lines = Vec::new();
-    for (line, pin) in address_lines(slot, chip) {
-        // A line off the socket takes X1, the next X2, excess lines too.
-        let candidates = under(slot, pin).or_else(|| x.next()).unwrap_or_default();
-        if line < in_range {
-            lines.push(Line::of(format!("A{line}"), candidates));
-        }
-    }
-    let picking = match (slot.set_type, slot.chips.len()) {
+    let mut lines: Vec<Line> = address_lines(slot, chip)
+        .map(|(line, pin)| {
+            let candidates = under(slot, pin).or_else(|| x.next()).unwrap_or_default();
+            Line::of(format!("A{line}"), candidates)
+        })
+        .collect();
+    let excess = lines.split_off(in_range.min(lines.len()));
+    (lines, excess)
+}
+
+/// X1 and X2 where they pick a bank or a chip.
+fn picking_pins(slot: &Description) -> impl Iterator<Item = Line> {
+    let count = match (slot.set_type, slot.chips.len()) {
         (SetType::Single, _) => 0,
         (_, ..3) => 1,
         (_, 3..) => 2,
     };
-    let x = (1..).zip(slot.x).take(picking);
-    lines.extend(x.map(|(number, own)| Line::of(format!("X{number}"), own)));
-    lines.extend(multi_lines(slot, chip));
-    lines
+    let x = (1..).zip(slot.x).take(count);
+    x.map(|(number, own)| Line::of(format!("X{number}"), own))
 }
 
-/// Select and commoned lines of a Multi set, of which the address search takes the first candidate.
-fn multi_lines(slot: &Description, chip: &Chip) -> Vec<Line> {
-    let multi = slot
-        .multi
-        .iter()
-        .filter(|_| slot.set_type == SetType::Multi);
-    let kinds = multi.flat_map(|multi| [multi.select].into_iter().chain(multi.commoned.clone()));
-    let first = |candidates| match candidates {
-        Candidates::Two(one, _) => Candidates::One(one),
-        other => other,
-    };
-    let line = |kind| {
-        let &(_, pin) = chip.control.iter().find(|line| line.0 == kind)?;
-        Some(Line::of(name(kind), first(under(slot, pin)?)))
-    };
-    kinds.filter_map(line).collect()
+/// A control line of the chip; none if the chip has it not, or off the socket.
+fn control_line(slot: &Description, chip: &Chip, kind: Kind) -> Option<Line> {
+    let &(_, pin) = chip.control.iter().find(|line| line.0 == kind)?;
+    Some(Line::of(name(kind), under(slot, pin)?))
 }
 
 /// Kinds and roles have the same numbers up to cs4.
@@ -186,18 +192,46 @@ fn no_window(lines: &[Line]) -> Option<String> {
 }
 
 fn no_select_layout(slot: &Description, chip: &Chip) -> Option<String> {
-    let line = |name: String, pin| Some(Line::of(name, under(slot, pin)?));
     let data = (0..).zip(&chip.data_pins);
-    let mut lines: Vec<Line> = data
-        .filter_map(|(number, &pin): (usize, _)| line(format!("D{number}"), pin))
-        .collect();
+    let line = |(number, &pin): (usize, &u8)| {
+        let candidates = under(slot, pin)?;
+        Some(Line::of(format!("D{number}"), candidates))
+    };
+    let mut lines: Vec<Line> = data.filter_map(line).collect();
     if !is_gapless_somehow(&lines) {
         let words: Vec<String> = lines.iter().map(Line::words).collect();
         return Some(format!("the data lines leave a gap: {}", words.join(", ")));
     }
-    let control = chip.control.iter().filter(|line| line.0 != Kind::Other);
-    lines.extend(control.filter_map(|&(kind, pin)| line(name(kind), pin)));
+    lines.extend(selects(slot, chip));
     no_window(&lines)
+}
+
+/// The lines that stand beside the data: selects, commoned and excess lines.
+fn selects(slot: &Description, chip: &Chip) -> Vec<Line> {
+    let kinds = match &slot.multi {
+        Some(multi) if slot.set_type == SetType::Multi => {
+            [&[multi.select], &multi.commoned[..]].concat()
+        }
+        _ => {
+            let kinds = chip.control.iter().map(|line| line.0);
+            let is_select = |kind: &Kind| {
+                let setting = setting(&slot.settings, Role::of(*kind as u8));
+                *kind != Kind::Other && setting != Some(Setting::Ignored)
+            };
+            kinds.filter(is_select).collect()
+        }
+    };
+    let kinds = kinds.into_iter();
+    let mut lines: Vec<Line> = kinds
+        .filter_map(|kind| control_line(slot, chip, kind))
+        .collect();
+    if slot.set_type == SetType::Multi {
+        // One chip needs none of them here, though the address search reads X1.
+        let others = slot.chips.len().saturating_sub(1);
+        lines.extend(picking_pins(slot).take(others));
+    }
+    lines.extend(address_candidates(slot, chip).1);
+    lines
 }
 
 /// Whether some choice of candidates takes GPIOs without a gap between them.

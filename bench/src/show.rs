@@ -109,11 +109,20 @@ pub fn cs_data_table(slot: &Description, layout: &CsDataLayout) -> String {
     roles.table("base pin", |gpio| layout.base_pin(gpio))
 }
 
-/// Which level of a control line selects, as it is set. A line whose setting is not given counts as
-/// active low.
 fn polarity(settings: &Settings, role: Role) -> &'static str {
-    let setting = match (*settings, role) {
-        (_, Role::X1 | Role::X2 | Role::HalfSelect | Role::Unknown(_)) => return "",
+    match setting(settings, role) {
+        Some(Setting::ActiveLow) => ", active low",
+        Some(Setting::ActiveHigh) => ", active high",
+        Some(Setting::Ignored) => ", set as ignored",
+        None => "",
+    }
+}
+
+/// What a control line is set to; nothing of a line that is none. A line whose setting is not given
+/// counts as active low.
+pub fn setting(settings: &Settings, role: Role) -> Option<Setting> {
+    Some(match (*settings, role) {
+        (_, Role::X1 | Role::X2 | Role::HalfSelect | Role::Unknown(_)) => return None,
         (Settings::ChipSelects { cs1, .. }, Role::Cs1) => cs1,
         (Settings::ChipSelects { others, .. }, Role::Cs2 | Role::Cs3 | Role::Cs4) => {
             let other = others[usize::from(role.number() - Role::Cs2.number())];
@@ -130,12 +139,7 @@ fn polarity(settings: &Settings, role: Role) -> &'static str {
             }
         }
         _ => Setting::ActiveLow,
-    };
-    match setting {
-        Setting::ActiveLow => ", active low",
-        Setting::ActiveHigh => ", active high",
-        Setting::Ignored => ", set as ignored",
-    }
+    })
 }
 
 /// The select and data layout in a line, and an empty line to go before its table: where data and
