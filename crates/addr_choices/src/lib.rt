@@ -1,19 +1,16 @@
 // The address search's choices of candidates: the GPIOs that one spans, its score, and which choice is the best.
 use addr_lines::num_lines;
 use addr_lines::range::in_range;
-use gpio::candidates::Candidates;
 use gpio::span::Span;
 use gpio::window::Window;
 use listing::Listing;
 use listing::choice::in_part;
 use listing::choice::pick;
-use listing::lines::commoned_kind;
-use listing::lines::kind_pin;
-use listing::lines::pin_candidates;
 use search::Found;
 use search::Trial;
 use search::better;
 use search::row_bits;
+use select_span::fixed_span;
 use slot::description::Description;
 ghost use mathlib.Core.Path.{_≡_};
 ghost use mathlib.Core.Bool.{true, cond};
@@ -25,55 +22,8 @@ ghost use Rattle.gpio.specs.design.Span.{spansJoined};
 ghost use Rattle.listing.specs.design.Packed.{listOf};
 ghost use Rattle.search.specs.Search.{best};
 ghost use Rattle.search.specs.design.Rows.{bestOnward};
-ghost use Rattle.addr_choices.specs.Choices.{widenedFirst, kindCandidates, selectSpan, fixedSpan, spanningOf, choiceSpan, spanWidth, paddedPins, spanTrial};
+ghost use Rattle.addr_choices.specs.Choices.{spanningOf, choiceSpan, spanWidth, paddedPins, spanTrial};
 ghost use Rattle.addr_choices.specs.design.Parts.{partSpan, pastSpans};
-
-fn widen_first(s: Span, gpios: Candidates) -> Span
-    ensures { λ r. ⌜ r ≡ widenedFirst s gpios ⌝ }
-{
-    match gpios {
-        Candidates::Absent => s,
-        Candidates::One(g) => s.widen(g),
-        Candidates::Two(g, _) => s.widen(g),
-    }
-}
-
-// The candidates of chip 0's line of a kind: none where it is not on the chip or off the socket.
-fn kind_candidates(d: Description, kind: u8) -> Candidates
-    ensures { λ r. ⌜ r ≡ kindCandidates d kind ⌝ }
-{
-    let pin = kind_pin(d, kind);
-    if pin == 0 {
-        return Candidates::Absent;
-    }
-    pin_candidates(d, pin)
-}
-
-// The select and commoned lines of a Multi set, each by its first candidate: the index reads them too.
-fn select_span(d: Description) -> Span
-    ensures { λ r. ⌜ r ≡ selectSpan d (d .multi .«num_commoned») ⌝ }
-{
-    let multi = d.multi;
-    let count = multi.num_commoned as usize;
-    let mut s = widen_first(Span::empty(), kind_candidates(d, multi.select));
-    let mut k: usize = 0;
-    while k < count {
-        s = widen_first(s, kind_candidates(d, commoned_kind(d, k)));
-        k += 1;
-    }
-    s
-}
-
-// The GPIOs that every choice spans.
-fn fixed_span(d: Description) -> Span
-    ensures { λ r. ⌜ r ≡ fixedSpan d ⌝ }
-{
-    let set_type = d.set_type;
-    if set_type.is_multi() {
-        return select_span(d);
-    }
-    Span::empty()
-}
 
 // What no choice changes: of `lines` lines the first `in_range` are spanned, and some GPIOs by every choice.
 pub struct Spanning {

@@ -22,7 +22,8 @@ use Rattle.listing.specs.Choice.{gpioAt}
 use Rattle.search.specs.declared.Trial.{Trial}
 use Rattle.search.specs.declared.Trial.the-variants.{Misfit, Score}
 use Rattle.addr_lines.specs.Lines.{addrListed}
-use Rattle.addr_choices.specs.Choices.{widenedFirst, kindCandidates, selectSpan, fixedSpan, spanningOf, spanned, spanUpTo, choiceSpan, spanWidth, paddedPins, spanTrial, addrTrial}
+use Rattle.select_span.specs.Selects.{widenedFirst, kindCandidates, selectSpan, fixedSpan}
+use Rattle.addr_choices.specs.Choices.{spanningOf, spanned, spanUpTo, choiceSpan, spanWidth, paddedPins, spanTrial, addrTrial}
 use Rattle.addr_law.specs.Law.{FirstOf, Spanned, of-pin, of-select, of-commoned, Extent, Fit, scoreOf}
 
 -- a GPIO within a span

@@ -16,7 +16,8 @@ use Rattle.refusal.specs.declared.Refusal.the-variants.{NoValidLayout}
 use Rattle.refusal.specs.declared.first.FirstFault.the-variants.{None}
 use Rattle.addr_lines.specs.Lines.{lineListed, addrListed}
 use Rattle.addr_lines.specs.Range.{inRange}
-use Rattle.addr_choices.specs.Choices.{kindCandidates, spanningOf, spanned}
+use Rattle.select_span.specs.Selects.{kindCandidates}
+use Rattle.addr_choices.specs.Choices.{spanningOf, spanned}
 use Rattle.addr_layout.specs.Layout.{addrRefused}
 use Rattle.addr_layout.specs.Layouts.{addrLayoutOf}
 use Rattle.addr_layout.specs.Search.{addrSearchIn, addrAnswer}

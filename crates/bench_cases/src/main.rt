@@ -1,10 +1,10 @@
 // Document 01's bench cases for the leaf modules, with some of its sentences besides: each is run and its answer written.
 use control::alg_preference::cs_alg_preference;
 use control::cs_config::control_line_logic;
-use control::multi_cs_config::MultiAnswer;
-use control::multi_cs_config::MultiOutcome;
-use control::multi_cs_config::derive_multi_cs_config;
 use gpio::window::Window;
+use multi_select::MultiAnswer;
+use multi_select::MultiOutcome;
+use multi_select::derive_multi_cs_config;
 use say::say;
 use say::say_number;
 use say::say_refusal;

@@ -1,6 +1,8 @@
-// The bytes that are lent for the chips: one slice, and for each chip where its bytes stand in it.
+// The bytes that are lent for the chips: one slice, and for each chip where its bytes stand in it and how many it should have.
+use slot::description::Description;
 ghost use mathlib.Core.Path.{_≡_};
-ghost use lib.ListN.{length};
+ghost use lib.ListN.{length, getD};
+ghost use Rattle.slot.specs.Description.{noChip};
 ghost use Rattle.build_args.specs.Images.{chipBytes, chipSpan};
 
 // Where a chip's bytes stand in the lent ones; those past the end are not there.
@@ -39,4 +41,16 @@ pub fn bytes_lent(images: &[u8], span: ImageSpan) -> usize
         return rest;
     }
     length
+}
+
+// A chip's size in bytes; 0 past the last.
+pub fn chip_size(d: Description, k: u8) -> u32
+    ensures { λ r. ⌜ r ≡ getD (d .chips) k noChip .size ⌝ }
+{
+    if 4 <= k {
+        return 0;
+    }
+    let chips = d.chips;
+    let chip = chips[k as usize];
+    chip.size
 }

@@ -3,6 +3,7 @@ use addr_layout::layout::AddrLayout;
 use build_args::BuildArgs;
 use build_args::images::ImageSpan;
 use build_args::images::bytes_lent;
+use build_args::images::chip_size;
 use build_args::images::span_at;
 use build_args::lines::picks_in;
 use build_args::positions::data_base;
@@ -75,18 +76,6 @@ fn missing(spans: [ImageSpan; 4], chips: u8) -> FirstFault
         k += 1;
     }
     fault
-}
-
-// A chip's size in bytes; 0 past the last.
-pub fn chip_size(d: Description, k: u8) -> u32
-    ensures { λ r. ⌜ r ≡ getD (d .chips) k noChip .size ⌝ }
-{
-    if 4 <= k {
-        return 0;
-    }
-    let chips = d.chips;
-    let chip = chips[k as usize];
-    chip.size
 }
 
 // The first chip with fewer bytes than its size.

@@ -1,4 +1,2 @@
 pub mod CsConfig
 pub mod AlgPreference
-pub mod MultiCsConfig
-pub mod design

@@ -14,7 +14,8 @@ use Rattle.listing.specs.Lines.{pinCandidates}
 use Rattle.addr_lines.specs.Lines.{lineSocket, lineListed, addrListed}
 use Rattle.addr_layout.specs.Layout.{layoutIn}
 use Rattle.addr_lines.specs.Range.{reach}
-use Rattle.addr_choices.specs.Choices.{fixedSpan, spanUpTo, spanTrial}
+use Rattle.select_span.specs.Selects.{fixedSpan}
+use Rattle.addr_choices.specs.Choices.{spanUpTo, spanTrial}
 use Rattle.addr_layout.specs.Search.{addrBest}
 use Rattle.cs_pins.specs.Pins.{pinListed, dataListed, activeListed, selectListed, commonedListed, numbered, csSearchIn}
 use Rattle.cs_checked.specs.Checked.{orNoActive, checked}

@@ -13,7 +13,7 @@ use Rattle.slot.specs.declared.description.Chip.{Chip}
 use Rattle.slot.specs.declared.description.ChipSetType.the-variants.{Single}
 use Rattle.slot.specs.declared.description.CsConfig.the-variants.{CeOe}
 use Rattle.slot.specs.declared.description.Description.{Description}
-use Rattle.control.specs.MultiCsConfig.{nothing}
+use Rattle.multi_select.specs.MultiCsConfig.{nothing}
 use Rattle.addr_layout.specs.Layout.{noLayout}
 use Rattle.gpio.specs.declared.line.LineGpio.the-variants.{Unused}
 use Rattle.addr_layout.specs.declared.layout.AddrLayout.{AddrLayout}

@@ -1,6 +1,6 @@
 // The round trip, from the records of a caller that has no structs to its answer as one number.
 use calls::refused::result;
-use round_trip::round_trip;
+use four_calls::round_trip;
 use slot::description::Description;
 ghost use mathlib.Core.Path.{_≡_};
 ghost use Rattle.calls.specs.Calls.{readReturned};

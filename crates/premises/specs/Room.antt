@@ -4,7 +4,7 @@ use Prim.Native.Nat.{ℕ, zero, suc, _+_, _*_, _^_, _≤_, min}
 use lib.ListN.{length}
 use Rattle.slot.specs.declared.description.Description.{Description}
 use Rattle.addr_layout.specs.declared.layout.AddrLayout.{AddrLayout}
-use Rattle.rom_image.specs.Entry.{wordCount}
+use Rattle.build_wiring.specs.Counts.{wordCount}
 
 -- 00 Demand 3: a chip's words are the whole ones of its size, but at most 2^lines; excess lines are not counted in
 abbrev pub chipWords : Description → AddrLayout → ℕ → ℕ

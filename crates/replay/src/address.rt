@@ -1,23 +1,9 @@
 // Kind 5: the address search, by the call that a bench makes. The case has the bytes of the description record.
-use crate::answer::returned;
-use crate::case::byte_at;
-use crate::case::has_bytes;
-use crate::layouts::put_addr_layout;
+use case_list::answer::returned;
+use case_list::case::has_bytes;
+use case_list::case::record_bytes;
+use case_list::layouts::put_addr_layout;
 use onerom::onerom_derive_addr_layout;
-ghost use Prim.Native.Nat.{_≤_};
-
-// The record, whose first byte stands at a place of the case.
-pub(crate) fn record_bytes(case: &[u64], at: usize) -> [u8; 424]
-    requires { ⌜ at ≤ 2 ⌝ }
-{
-    let mut out = [0u8; 424];
-    let mut k: usize = 0;
-    while k < 424 {
-        out[k] = byte_at(case, at + k);
-        k += 1;
-    }
-    out
-}
 
 pub(crate) fn answer(case: &[u64], ours: &mut [u64]) -> usize {
     if !has_bytes(case, 425) {

@@ -19,8 +19,9 @@ use Rattle.build_args.specs.Images.{chipSpan, chipBytes}
 use Rattle.build_args.specs.declared.images.ImageSpan.{ImageSpan}
 use Rattle.picks.specs.declared.Picked.{Picked}
 use Rattle.picks.specs.declared.Picked.the-variants.{NoChip, Chip}
-use Rattle.rom_image.specs.Entry.{wordCount, powerOfTwo, padOf, wordOf}
-use Rattle.rom_image.specs.design.Wiring.{sourceOf}
+use Rattle.build_wiring.specs.Counts.{wordCount, powerOfTwo}
+use Rattle.rom_image.specs.Entry.{padOf, wordOf}
+use Rattle.build_wiring.specs.design.Wiring.{sourceOf}
 
 pub power-some : (n : ℕ) → powerOfTwo n ≡ true → 0 < n
 unfolding ones onesIn

@@ -22,7 +22,7 @@ use Rattle.build_args.specs.Faults.{entriesOf, tableSize}
 use Rattle.build_args.specs.declared.images.ImageSpan.{ImageSpan}
 use Rattle.picks.proofs.Picking.{picks-three, picked-below}
 use Rattle.rom_image.specs.Entry.{chipAddress, chipPicked, padOf, scrambled, entryAt, tableOf}
-use Rattle.rom_image.specs.design.Wiring.{wiringOf, sourceOf, sourcesOf}
+use Rattle.build_wiring.specs.design.Wiring.{wiringOf, sourceOf, sourcesOf}
 use Rattle.rom_image.proofs.Buildable.{Buildable}
 use Rattle.rom_image.proofs.Chips.{Lent, raw-word, source-in}
 

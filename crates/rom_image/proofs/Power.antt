@@ -6,7 +6,7 @@ use native.Mathlib.Omega.{arith}
 use lib.Count.{ones, ones-step, ones-cat}
 use lib.Pow.{pow-mono}
 use borrow.Author.Tests.{eqb-true, eq-eqb}
-use Rattle.rom_image.specs.Entry.{powerOfTwo}
+use Rattle.build_wiring.specs.Counts.{powerOfTwo}
 use Rattle.rom_image.specs.Law.{PowerLaw}
 
 power-one : (k : ℕ) → ones (2 ^ k) ≡ 1

@@ -1,13 +1,10 @@
 -- rom_image.rs, `build_rom_image`: what each entry of the table holds. Assumes nothing.
-use Prim.Native.Nat.{ℕ, _*_, _/_, _%_}
-use mathlib.Core.Bool.{Bool, cond}
+use Prim.Native.Nat.{ℕ, _*_, _%_}
+use mathlib.Core.Bool.{cond}
 use mathlib.Core.List.{List}
-use lib.Count.{ones}
-use lib.Dec.{ltb, eqb}
-use lib.ListN.{getD}
+use lib.Dec.{ltb}
 use Rattle.bits.specs.Bits.{gather, indexAddress, scatter}
 use Rattle.words.specs.Words.{padWord, chipWord, entriesBytes}
-use Rattle.slot.specs.Description.{noChip}
 use Rattle.slot.specs.declared.description.Description.{Description}
 use Rattle.addr_layout.specs.declared.layout.AddrLayout.{AddrLayout}
 use Rattle.cs_data_layout.specs.declared.layout.CsDataLayout.{CsDataLayout}
@@ -19,6 +16,7 @@ use Rattle.build_args.specs.declared.images.ImageSpan.{ImageSpan}
 use Rattle.picks.specs.declared.Picked.{Picked}
 use Rattle.picks.specs.declared.Picked.the-variants.{NoChip, Chip}
 use Rattle.build_args.specs.declared.BuildArgs.{BuildArgs}
+use Rattle.build_wiring.specs.Counts.{wordCount, powerOfTwo}
 
 -- 01 rom_image 2: a chip's address is read by the positions of the lines in use
 unfoldable pub chipAddress : AddrLayout → ℕ → ℕ
@@ -27,14 +25,6 @@ chipAddress a i = indexAddress (a .«num_lines») (linePosition a) i
 -- the chip that an index picks
 unfoldable pub chipPicked : Description → AddrLayout → CsDataLayout → ℕ → Picked
 chipPicked d a c i = picked d (gather (numPicks d) (pickPosition d a c) i)
-
--- a chip's words: its size in bytes by the bytes of a word
-abbrev pub wordCount : Description → ℕ → ℕ
-wordCount d k = getD (d .chips) k noChip .size / d .«word_bytes»
-
--- a power of two has one bit
-abbrev pub powerOfTwo : ℕ → Bool
-powerOfTwo n = eqb (ones n) 1
 
 -- 01 rom_image 7: an address not below the number of words counts modulo that number where it is a power of two, and gives the pad
 -- where it is not

@@ -1,7 +1,5 @@
 // The table: for each index the word of the chip that it picks, its bits at the data lines' positions.
-mod wiring; // positions of all lines
-mod sources; // where the words of the chips stand
-mod table; // the entries by them
+mod table; // the entries by the positions of all lines and by where the words of the chips stand
 
 use build_args::BuildArgs;
 use build_args::in_domain::in_domain;

@@ -1,7 +1,7 @@
 // The table, at the front of a buffer.
-use crate::sources::sources;
-use crate::wiring::wiring;
 use build_args::BuildArgs;
+use build_wiring::sources::sources;
+use build_wiring::wiring::wiring;
 use table_fill::fill_by;
 use words::pad_word;
 ghost use mathlib.Core.Path.{_≡_};

@@ -1,10 +1,10 @@
 // Whether the lent buffers have the room that read-back needs. The test stands in premises, with its law.
 use addr_layout::layout::AddrLayout;
-use build_faults::chip_size;
+use build_args::images::chip_size;
 use slot::description::Description;
 ghost use mathlib.Core.Path.{_≡_};
 ghost use Prim.Native.Nat.{_*_, _^_, _≤_, _<_, min};
-ghost use Rattle.rom_image.specs.Entry.{wordCount};
+ghost use Rattle.build_wiring.specs.Counts.{wordCount};
 ghost use Rattle.premises.specs.Room.{chipWords, words};
 ghost use Rattle.premises.specs.Given.{roomy};
 

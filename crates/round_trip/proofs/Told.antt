@@ -17,7 +17,7 @@ use Rattle.slot.specs.declared.slot_context.Socket.the-variants.{On, Off}
 use Rattle.listing.specs.Choice.{CandidateOf, gpioAt}
 use Rattle.listing.specs.Lines.{kindPin, pinSocket, socketCandidates, pinCandidates}
 use Rattle.addr_lines.specs.Lines.{addrListed}
-use Rattle.addr_choices.specs.Choices.{kindCandidates}
+use Rattle.select_span.specs.Selects.{kindCandidates}
 use Rattle.addr_law.specs.Law as addr
 use Rattle.addr_law.specs.Law.Spanned.{of-select}
 use Rattle.gpio.specs.declared.line.LineGpio.the-variants.{At}

@@ -26,7 +26,8 @@ use Rattle.build_args.specs.Faults.{entriesOf}
 use Rattle.build_args.specs.declared.images.ImageSpan.{ImageSpan}
 use Rattle.picks.specs.declared.Picked.the-variants.{Chip}
 use Rattle.rom_image.specs.Build.{padByte}
-use Rattle.rom_image.specs.Entry.{chipAddress, chipPicked, wordCount, scrambled, entryAt, tableOf}
+use Rattle.build_wiring.specs.Counts.{wordCount}
+use Rattle.rom_image.specs.Entry.{chipAddress, chipPicked, scrambled, entryAt, tableOf}
 use Rattle.stored_slot.specs.Stored as stored
 use Rattle.stored_slot.specs.Words as sizes
 use Rattle.unscramble.specs.Words as read

@@ -5,13 +5,13 @@
 // JUNK before.
 use addr_layout::derive_addr_layout;
 use build_args::images::ImageSpan;
+use four_calls::round_trip;
 use gpio::candidates::Candidates;
 use gpio::candidates::Pin;
 use lists::array::entry;
 use refusal::Answer;
 use refusal::Refusal;
 use room::has_room;
-use round_trip::round_trip;
 use say::say;
 use say::say_number;
 use slot::description::Board;

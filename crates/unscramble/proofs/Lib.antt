@@ -4,9 +4,7 @@ pub mod Flat
 pub mod Entries
 pub mod Joined
 pub mod Same
-pub mod Masks
 pub mod ReadBy
-pub mod Loops
 pub mod Unrefused
 pub mod Finished
 pub mod Places

@@ -33,7 +33,7 @@ use Rattle.stored_slot.specs.declared.stored.StoredSlot.{StoredSlot}
 use Rattle.stored_slot.proofs.Listed.{listed-most}
 use Rattle.unscramble.proofs.Flat.{before-le, before-next}
 use Rattle.unscramble.proofs.Serves.{picked-there}
-use Rattle.unscramble.proofs.Masks.{masked-free}
+use Rattle.forced_bits.proofs.Masks.{masked-free}
 
 -- a table of positions says what the positions do
 gather-tab : (n m : ℕ) (p : ℕ → ℕ) (i : ℕ) → n ≤ m → gather n (λ k. getD (tab m p) k 0) i ≡ gather n p i

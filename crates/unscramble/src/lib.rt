@@ -1,6 +1,5 @@
 // Read-back: the chips' bytes from a stored table, so that a fitted board can be held against the ROMs that it stands for. A word is
 // what the entries for it say; where they disagree, or there is none, the slot is refused.
-mod forced; // the bits that overrides force
 mod reading; // what the entries are read by
 mod place; // a word's ROM and address
 

@@ -1,9 +1,9 @@
 // What the entries are read by: positions of all lines, the words of each ROM among all, and the forced bits, found once a slot.
-use crate::forced::forced;
-use crate::forced::forced_high;
 use entry_words::Extent;
 use entry_words::Map;
 use entry_words::Reading;
+use forced_bits::forced;
+use forced_bits::forced_high;
 use picks::Picked;
 use picks::num_picks;
 use picks::picked_by;

@@ -19,7 +19,8 @@ use Rattle.entry_words.specs.declared.Map.{Map}
 use Rattle.entry_words.specs.declared.Extent.{Extent}
 use Rattle.entry_words.specs.declared.Reading.{Reading}
 use Rattle.rom_turns.specs.design.Rom.{romIndex, turnStart}
-use Rattle.word_read.specs.design.Suits.{Suits, romOf, romValue}
+use Rattle.rom_entries.specs.design.Suits.{Suits, romOf}
+use Rattle.word_read.specs.design.Ordered.{romValue}
 use Rattle.rom_turns.specs.declared.Rom.{Rom}
 use Rattle.word_read.proofs.Split.{address-bits, picked-bits, turn-address, turn-picked, turn-lt, turn-of, turn-count}
 

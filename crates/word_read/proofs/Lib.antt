@@ -1,5 +1,4 @@
 pub mod Split
-pub mod Suited
 pub mod Entries
 pub mod Values
 pub mod Words

@@ -16,7 +16,7 @@ use Rattle.entry_words.specs.declared.Map.{Map}
 use Rattle.entry_words.specs.declared.Reading.{Reading}
 use Rattle.rom_turns.specs.design.Rom.{RomIn, TurnIn, Turn, romIndex, turnStart}
 use Rattle.rom_turns.specs.declared.Rom.{Rom}
-use Rattle.word_read.specs.design.Suits.{InOrder, lowsOf}
+use Rattle.word_read.specs.design.Ordered.{InOrder, lowsOf}
 use Rattle.word_read.specs.design.Words.{ReadIn, wordsOf}
 use Rattle.word_read.proofs.Split.{turn-joins}
 use Rattle.rom_turns.proofs.Turns.{width-two}

@@ -16,7 +16,7 @@ use Rattle.word_rows.specs.design.Wrote.{saidBy}
 use Rattle.entry_words.specs.design.Reading.{gathered}
 use Rattle.entry_words.specs.declared.Map.{Map}
 use Rattle.rom_turns.specs.design.Rom.{romIndex, says}
-use Rattle.word_read.specs.design.Suits.{romValue}
+use Rattle.word_read.specs.design.Ordered.{romValue}
 use Rattle.rom_turns.specs.declared.Rom.{Rom}
 
 -- the two bytes of an entry

@@ -27,7 +27,7 @@ use Rattle.entry_words.specs.declared.Outcome.the-variants.{Whole}
 use Rattle.entry_words.proofs.Bounds.{place, value-few}
 use Rattle.entry_words.proofs.Whole.{disagrees-first}
 use Rattle.rom_turns.specs.design.Rom.{SameTurn, turnStart}
-use Rattle.word_read.specs.design.Suits.{romValue}
+use Rattle.word_read.specs.design.Ordered.{romValue}
 use Rattle.word_read.specs.design.Words.{WordsRead, ReadIn, AllRead, wordsOf}
 use Rattle.rom_turns.proofs.Turns.{first-turn}
 use Rattle.word_read.proofs.Entries.{Placed, counted, rom, index, entry-lt, word-there, value-there, turn, turn-in, turn-is}

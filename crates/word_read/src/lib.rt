@@ -1,15 +1,13 @@
 // Entries of a table back into words, word by word: where each word has entries of its own, the first of them gives it, and the
 // others are held against it.
-mod pick; // whether a ROM's words have entries of their own
-
-use crate::pick::bits_for;
-use crate::pick::rom_of;
-use crate::pick::suits;
 use byte_tables::scatter_table;
 use entry_words::Map;
 use entry_words::Reading;
 use entry_words::byte_table;
 use index_order::order;
+use rom_entries::bits_for;
+use rom_entries::rom_of;
+use rom_entries::suits;
 use rom_turns::Rom;
 use rom_turns::read_turns;
 ghost use mathlib.Core.Path.{_≡_};
@@ -19,7 +17,7 @@ ghost use lib.ListN.{getD, drop};
 ghost use Rattle.word_rows.specs.design.Wrote.{Wrote};
 ghost use Rattle.entry_words.specs.design.Reading.{noMap};
 ghost use Rattle.rom_turns.specs.design.Rom.{SameTurn, turnStart};
-ghost use Rattle.word_read.specs.design.Suits.{InOrder, lowsOf, romValue};
+ghost use Rattle.word_read.specs.design.Ordered.{InOrder, lowsOf, romValue};
 ghost use Rattle.word_read.specs.design.Words.{AllRead, Entries, Next, ReadIn, WordsRead, wordsOf};
 
 // Where the low bits of an order stand.

@@ -1,7 +1,7 @@
 -- What the entries are read by, of a stored slot: positions, extents, forced bits. That this comes to what Words says is proved. Assumes
 -- nothing.
-use Prim.Native.Nat.{ℕ, zero, suc, _+_, _-_, _^_, _≤_, _<_}
-use mathlib.Core.Bool.{Bool, cond, _||_}
+use Prim.Native.Nat.{ℕ, _-_, _^_, _≤_, _<_}
+use mathlib.Core.Bool.{cond}
 use mathlib.Core.List.{List}
 use lib.Dec.{ltb}
 use lib.ListN.{getD, replicate}
@@ -13,9 +13,10 @@ use Rattle.picks.specs.declared.Picked.the-variants.{NoChip, Chip}
 use Rattle.entry_words.specs.declared.Map.{Map}
 use Rattle.entry_words.specs.declared.Extent.{Extent}
 use Rattle.entry_words.specs.declared.Reading.{Reading}
-use Rattle.stored_slot.specs.Stored.{romAt, wordBytes, addrBase, storedDataBase, storedPins, mapLines, names, forceLow, forceHigh}
+use Rattle.stored_slot.specs.Stored.{romAt, wordBytes, addrBase, storedDataBase, storedPins, mapLines}
 use Rattle.stored_slot.specs.Words.{romWords, wordsBefore, allWords, pickGpio, storedPickPosition}
 use Rattle.stored_slot.specs.declared.stored.StoredSlot.{StoredSlot}
+use Rattle.forced_bits.specs.design.Forced.{maskOf, highAt, forcedAt}
 
 -- a slot that no test before the entries refuses: its numbers fit
 pub record Readable (s : StoredSlot) (set : ChipSetType) : Type 0 where
@@ -55,19 +56,6 @@ romPlace (Chip k) = k
 -- a ROM's words among all
 abbrev pub extentOf : StoredSlot → ℕ → Extent
 extentOf s k = cond (ltb k (s .«num_roms»)) (record { start = wordsBefore s k; words = romWords s k }) (record { start = 0; words = 0 })
-
--- the sum of the powers of two at the positions that pass
-unfoldable pub maskOf : ℕ → (ℕ → Bool) → ℕ
-maskOf zero p = 0
-maskOf (suc n) p = maskOf n p + cond (p n) (2 ^ n) 0
-
--- a position is high where any override forces it high, whatever others say of it
-abbrev pub highAt : StoredSlot → ℕ → Bool
-highAt s p = names (s .«num_overrides») (s .overrides) forceHigh (addrBase s + p)
-
--- a position is forced where any override forces it high or low
-abbrev pub forcedAt : StoredSlot → ℕ → Bool
-forcedAt s p = highAt s p || names (s .«num_overrides») (s .overrides) forceLow (addrBase s + p)
 
 unfoldable pub readingOf : StoredSlot → ChipSetType → Reading
 readingOf s set = record {

@@ -6,7 +6,7 @@ use borrow.Author.Needs.{needs}
 use lib.Count.{trailingZeros}
 use Rattle.lists.proofs.Loops.{zero-one}
 use Rattle.byte_tables.proofs.Tables.{one-up}
-use Rattle.word_read.proofs.Suited.{tested, width-of}
+use Rattle.rom_entries.proofs.Suited.{tested, width-of}
 use Rattle.word_read.proofs.read_words.Statement.{statement}
 use Rattle.word_read.proofs.read_words.Tie as tie
 

@@ -19,7 +19,7 @@ use Rattle.build_args.specs.Faults.{entriesOf, tableSize}
 use Rattle.build_args.specs.declared.images.ImageSpan.{ImageSpan}
 use Rattle.rom_image.specs.Entry.{padOf, tableOf}
 use Rattle.rom_image.specs.Build.{padByte}
-use Rattle.rom_image.specs.design.Wiring.{wiringOf, sourcesOf}
+use Rattle.build_wiring.specs.design.Wiring.{wiringOf, sourcesOf}
 use Rattle.rom_image.proofs.Buildable.{Buildable}
 use Rattle.rom_image.proofs.Entries.{wiring-in, sources-in, table-is}
 use Rattle.rom_image.proofs.Past.{entries-few, pins-few, table-fits, buildable}

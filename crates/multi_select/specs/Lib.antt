@@ -1,0 +1,2 @@
+pub mod MultiCsConfig
+pub mod design
