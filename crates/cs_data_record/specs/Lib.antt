@@ -1,1 +1,2 @@
 pub mod CsDataRecord
+pub mod design

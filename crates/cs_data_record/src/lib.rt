@@ -9,9 +9,10 @@ use fields::sixteen_at;
 use lists::array::entry;
 ghost use mathlib.Core.Path.{_≡_};
 ghost use mathlib.Core.List.{_++_};
-ghost use Prim.Native.Nat.{_+_, _<_, _/_, _%_, _≤_};
+ghost use Prim.Native.Nat.{_+_, _≤_};
 ghost use lib.ListN.{length, drop};
-ghost use Rattle.cs_data_record.specs.CsDataRecord.{csDataSize, ignoreByte, qualifierBytes, csDataHead, selectLineAt, lineByte, linesBytes, csDataBytes, ignoreOf, lineFrom, linesFrom, qualifiersAt, csDataAt, csDataFormed};
+ghost use Rattle.cs_data_record.specs.CsDataRecord.{csDataSize, ignoreByte, qualifierBytes, csDataHead, csDataBytes, ignoreOf, lineFrom, linesFrom, qualifiersAt, csDataAt, csDataFormed};
+ghost use Rattle.cs_data_record.specs.design.Pairs.{pairsOf};
 
 // Bytes of a record.
 pub const SIZE: usize = 100;
@@ -66,38 +67,31 @@ fn head(l: CsDataLayout) -> [u8; 12]
     ]
 }
 
-// Select lines, then commoned lines.
-fn line_at(l: CsDataLayout, k: usize) -> SelectLine
-    requires { ⌜ k < 36 ⌝ }
-    ensures { λ r. ⌜ r ≡ selectLineAt l k ⌝ }
+// Two bytes a line, in a loop that reads and writes nothing else: the compiler makes one copy of it.
+fn select_bytes(l: CsDataLayout) -> [u8; 60]
+    ensures { λ r. ⌜ r ≡ pairsOf 60 (l .«select_lines») ⌝ }
 {
-    if k < 30 {
-        let lines = l.select_lines;
-        return lines[k];
+    let mut out = [0u8; 60];
+    let mut k: usize = 0;
+    while k < 30 {
+        let select = l.select_lines[k];
+        out[2 * k] = select.role;
+        out[2 * k + 1] = select.gpio;
+        k += 1;
     }
-    let lines = l.commoned_lines;
-    lines[k - 30]
+    out
 }
 
-fn line_byte(l: CsDataLayout, j: usize) -> u8
-    requires { ⌜ j < 72 ⌝ }
-    ensures { λ r. ⌜ r ≡ lineByte (selectLineAt l (j / 2)) (j % 2) ⌝ }
+fn commoned_bytes(l: CsDataLayout) -> [u8; 12]
+    ensures { λ r. ⌜ r ≡ pairsOf 12 (l .«commoned_lines») ⌝ }
 {
-    let line = line_at(l, j / 2);
-    if j % 2 == 0 {
-        return line.role;
-    }
-    line.gpio
-}
-
-fn lines_bytes(l: CsDataLayout) -> [u8; 72]
-    ensures { λ r. ⌜ r ≡ linesBytes l ⌝ }
-{
-    let mut out = [0u8; 72];
-    let mut j: usize = 0;
-    while j < 72 {
-        out[j] = line_byte(l, j);
-        j += 1;
+    let mut out = [0u8; 12];
+    let mut k: usize = 0;
+    while k < 6 {
+        let commoned = l.commoned_lines[k];
+        out[2 * k] = commoned.role;
+        out[2 * k + 1] = commoned.gpio;
+        k += 1;
     }
     out
 }
@@ -109,10 +103,12 @@ pub fn store(l: CsDataLayout, out: &mut [u8])
 {
     let head = head(l);
     let gpios = l.data_pin_gpios;
-    let lines = lines_bytes(l);
+    let selects = select_bytes(l);
+    let commoned = commoned_bytes(l);
     copy(&head, out);
     copy(&gpios, &mut out[12..]);
-    copy(&lines, &mut out[28..]);
+    copy(&selects, &mut out[28..]);
+    copy(&commoned, &mut out[88..]);
 }
 
 fn ignore_of(x: u8) -> IgnoreIndex
