@@ -1,9 +1,9 @@
-// The parts of a description at their places in the record. Of a record that `shape` refuses each part is still some
-// value, and its caller does not look at it.
-use fields::candidates::pair_at;
+// The parts of a description at their places in a record, which is known to have all of them.
+use fields::whole;
+use fields::whole::entry;
+use fields::whole::pair_at;
 use gpio::candidates::Candidates;
 use gpio::candidates::Pin;
-use lists::array::entry;
 use slot::description::Board;
 use slot::description::Chip;
 use slot::description::ChipSetType;
@@ -16,6 +16,7 @@ use slot::description::MultiCsConfig;
 use slot::description::Setting;
 ghost use mathlib.Core.Path.{_≡_};
 ghost use Prim.Native.Nat.{_+_, _≤_};
+ghost use lib.ListN.{length};
 ghost use Rattle.description_record.specs.Record.{recordSize, setTypeOf, offsetOf, logicFrom, settingOf, csConfigAt, multiAt, socketAt, boardAt, controlLineAt, controlLinesAt, controlAt, chipAt, chipsAt, described};
 
 fn set_type(x: u8) -> ChipSetType
@@ -64,6 +65,7 @@ fn setting(x: u8) -> Setting
 }
 
 fn cs_config(b: &[u8]) -> CsConfig
+    requires { ⌜ recordSize ≤ length (now b) ⌝ }
     ensures { λ r. ⌜ r ≡ csConfigAt (now (b .entry)) ⌝ }
 {
     let form = entry(b, 16);
@@ -85,18 +87,20 @@ fn cs_config(b: &[u8]) -> CsConfig
 }
 
 fn multi(b: &[u8]) -> MultiCsConfig
+    requires { ⌜ recordSize ≤ length (now b) ⌝ }
     ensures { λ r. ⌜ r ≡ multiAt (now (b .entry)) ⌝ }
 {
     MultiCsConfig {
         select: entry(b, 23),
-        commoned: fields::eight_at(b, 28),
+        commoned: whole::eight_at(b, 28),
         num_commoned: entry(b, 24),
-        ignored: fields::eight_at(b, 36),
+        ignored: whole::eight_at(b, 36),
         num_ignored: entry(b, 25),
     }
 }
 
 fn socket(b: &[u8]) -> [Pin; 40]
+    requires { ⌜ recordSize ≤ length (now b) ⌝ }
     ensures { λ r. ⌜ r ≡ socketAt (now (b .entry)) ⌝ }
 {
     let absent = Candidates::Absent;
@@ -113,6 +117,7 @@ fn socket(b: &[u8]) -> [Pin; 40]
 }
 
 fn board(b: &[u8]) -> Board
+    requires { ⌜ recordSize ≤ length (now b) ⌝ }
     ensures { λ r. ⌜ r ≡ boardAt (now (b .entry)) ⌝ }
 {
     Board {
@@ -124,7 +129,7 @@ fn board(b: &[u8]) -> Board
 }
 
 fn line(b: &[u8], p: usize) -> ControlLine
-    requires { ⌜ p + 3 ≤ recordSize ⌝ }
+    requires { ⌜ p + 3 ≤ length (now b) ⌝ }
     ensures { λ r. ⌜ r ≡ controlLineAt (now (b .entry)) p ⌝ }
 {
     ControlLine {
@@ -134,7 +139,7 @@ fn line(b: &[u8], p: usize) -> ControlLine
 }
 
 fn lines(b: &[u8], p: usize) -> [ControlLine; 8]
-    requires { ⌜ p + 72 ≤ recordSize ⌝ }
+    requires { ⌜ p + 72 ≤ length (now b) ⌝ }
     ensures { λ r. ⌜ r ≡ controlLinesAt (now (b .entry)) p ⌝ }
 {
     let mut out = [ControlLine { kind: 0, pin: 0 }; 8];
@@ -147,7 +152,7 @@ fn lines(b: &[u8], p: usize) -> [ControlLine; 8]
 }
 
 fn control_lines(b: &[u8], p: usize) -> ControlLines
-    requires { ⌜ p + 72 ≤ recordSize ⌝ }
+    requires { ⌜ p + 72 ≤ length (now b) ⌝ }
     ensures { λ r. ⌜ r ≡ controlAt (now (b .entry)) p ⌝ }
 {
     ControlLines {
@@ -157,21 +162,22 @@ fn control_lines(b: &[u8], p: usize) -> ControlLines
 }
 
 fn chip(b: &[u8], p: usize) -> Chip
-    requires { ⌜ p + 72 ≤ recordSize ⌝ }
+    requires { ⌜ p + 72 ≤ length (now b) ⌝ }
     ensures { λ r. ⌜ r ≡ chipAt (now (b .entry)) p ⌝ }
 {
     Chip {
-        address_pins: fields::twenty_four_at(b, p + 8),
+        address_pins: whole::twenty_four_at(b, p + 8),
         num_address_pins: entry(b, p + 4),
-        data_pins: fields::sixteen_at(b, p + 32),
+        data_pins: whole::sixteen_at(b, p + 32),
         num_data_pins: entry(b, p + 5),
         control: control_lines(b, p),
-        size: fields::four_at(b, p),
+        size: whole::four_at(b, p),
     }
 }
 
 // Chips 0 to 3, 72 bytes a chip.
 fn chips(b: &[u8]) -> [Chip; 4]
+    requires { ⌜ recordSize ≤ length (now b) ⌝ }
     ensures { λ r. ⌜ r ≡ chipsAt (now (b .entry)) ⌝ }
 {
     [chip(b, 136), chip(b, 208), chip(b, 280), chip(b, 352)]
@@ -179,6 +185,7 @@ fn chips(b: &[u8]) -> [Chip; 4]
 
 // What the record describes.
 pub fn description(b: &[u8]) -> Description
+    requires { ⌜ recordSize ≤ length (now b) ⌝ }
     ensures { λ r. ⌜ r ≡ described (now (b .entry)) ⌝ }
 {
     Description {
@@ -186,13 +193,13 @@ pub fn description(b: &[u8]) -> Description
         set_type: set_type(entry(b, 2)),
         word_bytes: entry(b, 3),
         pin_offset: pin_offset(entry(b, 4)),
-        max_image_size: fields::four_at(b, 8),
+        max_image_size: whole::four_at(b, 8),
         chips: chips(b),
         num_chips: entry(b, 5),
         cs_config: cs_config(b),
         has_multi: entry(b, 7) == 1,
         multi: multi(b),
-        qualifiers: fields::eight_at(b, 44),
+        qualifiers: whole::eight_at(b, 44),
         num_qualifiers: entry(b, 6),
     }
 }

@@ -1,8 +1,10 @@
 // Which records are refused: a wrong length, a place that must be 0 and is not, a code that is none of its values.
-use fields::candidates::pair_in;
-use lists::array::entry;
+use fields::whole;
+use fields::whole::entry;
+use fields::whole::pair_in;
 ghost use mathlib.Core.Path.{_≡_};
 ghost use Prim.Native.Nat.{_+_, _≤_};
+ghost use lib.ListN.{length};
 ghost use Rattle.description_record.specs.Record.{recordSize, offsetIn, logicIn, settingIn, headIn, csConfigIn, pairsIn, levelsIn, chipZeros, chipPlacesIn, wellFormed};
 
 // Bytes of a record.
@@ -27,13 +29,14 @@ fn setting_in(x: u8) -> bool
 }
 
 fn head_in(b: &[u8]) -> bool
+    requires { ⌜ recordSize ≤ length (now b) ⌝ }
     ensures { λ r. ⌜ r ≡ headIn (now (b .entry)) ⌝ }
 {
     let package = entry(b, 1);
     let set_type = entry(b, 2);
     let offset = entry(b, 4);
     let has_multi = entry(b, 7);
-    let inverted = fields::four_at(b, 12);
+    let inverted = whole::four_at(b, 12);
     let spare = entry(b, 26);
     let spare_2 = entry(b, 27);
     (package == 0)
@@ -47,6 +50,7 @@ fn head_in(b: &[u8]) -> bool
 
 // The form is one of three; the settings that it does not use are 255.
 fn cs_config_in(b: &[u8]) -> bool
+    requires { ⌜ recordSize ≤ length (now b) ⌝ }
     ensures { λ r. ⌜ r ≡ csConfigIn (now (b .entry)) ⌝ }
 {
     let form = entry(b, 16);
@@ -68,6 +72,7 @@ fn cs_config_in(b: &[u8]) -> bool
 }
 
 fn pairs_in(b: &[u8]) -> bool
+    requires { ⌜ recordSize ≤ length (now b) ⌝ }
     ensures { λ r. ⌜ r ≡ pairsIn (now (b .entry)) ⌝ }
 {
     let mut ok = true;
@@ -80,7 +85,7 @@ fn pairs_in(b: &[u8]) -> bool
 }
 
 fn levels_in(b: &[u8], p: usize) -> bool
-    requires { ⌜ p + 72 ≤ recordSize ⌝ }
+    requires { ⌜ p + 72 ≤ length (now b) ⌝ }
     ensures { λ r. ⌜ r ≡ levelsIn (now (b .entry)) p ⌝ }
 {
     let mut ok = true;
@@ -93,13 +98,14 @@ fn levels_in(b: &[u8], p: usize) -> bool
 }
 
 fn chip_zeros(b: &[u8], p: usize) -> bool
-    requires { ⌜ p + 72 ≤ recordSize ⌝ }
+    requires { ⌜ p + 72 ≤ length (now b) ⌝ }
     ensures { λ r. ⌜ r ≡ chipZeros (now (b .entry)) p ⌝ }
 {
     (entry(b, p + 7) == 0) & levels_in(b, p)
 }
 
 fn chips_in(b: &[u8]) -> bool
+    requires { ⌜ recordSize ≤ length (now b) ⌝ }
     ensures { λ r. ⌜ r ≡ chipPlacesIn (now (b .entry)) ⌝ }
 {
     let mut ok = true;
@@ -111,9 +117,12 @@ fn chips_in(b: &[u8]) -> bool
     ok
 }
 
-// Whether the bytes are a record.
+// Whether the bytes are a record. The length first: no place behind it is then tested for being there.
 pub fn well_formed(b: &[u8]) -> bool
     ensures { λ r. ⌜ r ≡ wellFormed (now (b .entry)) ⌝ }
 {
-    (b.len() == SIZE) & head_in(b) & cs_config_in(b) & pairs_in(b) & chips_in(b)
+    if b.len() != SIZE {
+        return false;
+    }
+    head_in(b) & cs_config_in(b) & pairs_in(b) & chips_in(b)
 }

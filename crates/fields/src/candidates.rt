@@ -3,7 +3,21 @@ use gpio::candidates::Candidates;
 use lists::array::entry;
 ghost use mathlib.Core.Path.{_≡_};
 ghost use Prim.Native.Nat.{_<_, _^_};
-ghost use Rattle.fields.specs.Candidates.{pairAt, pairIn};
+ghost use Rattle.fields.specs.Candidates.{pairOf, pairAt, pairIn};
+
+// The candidates that two bytes give. One way out, so that what an enum leaves unset is stored with the rest: of pins in a loop the
+// compiler else keeps what stood there before.
+pub(crate) fn pair_of(g: u8, h: u8) -> Candidates
+    ensures { λ r. ⌜ r ≡ pairOf g h ⌝ }
+{
+    if g == 255 {
+        Candidates::Absent
+    } else if h == 255 {
+        Candidates::One(g)
+    } else {
+        Candidates::Two(g, h)
+    }
+}
 
 // The candidates of a pin, two bytes from a place.
 pub fn pair_at(b: &[u8], p: usize) -> Candidates
@@ -12,13 +26,7 @@ pub fn pair_at(b: &[u8], p: usize) -> Candidates
 {
     let g = entry(b, p);
     let h = entry(b, p + 1);
-    if g == 255 {
-        return Candidates::Absent;
-    }
-    if h == 255 {
-        return Candidates::One(g);
-    }
-    Candidates::Two(g, h)
+    pair_of(g, h)
 }
 
 // Whether the two bytes are candidates: no second without a first.

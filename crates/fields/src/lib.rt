@@ -1,10 +1,11 @@
 // Numbers at a place of a byte record. A place past the record's end reads 0, so that each function here answers for any length; a
 // record of another length is refused by whoever reads it. A place is below 2^32, which no record comes near.
 pub mod candidates; // the candidates of a pin, two bytes
+pub mod whole; // the same of a record that reaches so far
 
 use lists::array::entry;
 ghost use mathlib.Core.Path.{_≡_};
-ghost use Prim.Native.Nat.{_+_, _≤_, _<_, _^_};
+ghost use Prim.Native.Nat.{_+_, _*_, _≤_, _<_, _^_};
 ghost use lib.ListN.{length};
 ghost use Rattle.fields.specs.Fields.{bytesAt, fourAt, flagFormed};
 
@@ -15,16 +16,28 @@ fn wide(x: u8) -> u32
     x as u32
 }
 
+// The number that four bytes make, low byte first.
+fn four_of(x0: u8, x1: u8, x2: u8, x3: u8) -> u32
+    ensures { λ r. ⌜ r ≡ x0 + 0x100 * x1 + 0x1_0000 * x2 + 0x100_0000 * x3 ⌝ }
+{
+    let b0 = wide(x0);
+    let b1 = wide(x1);
+    let b2 = wide(x2);
+    let b3 = wide(x3);
+    b0 + 0x100 * b1 + 0x1_0000 * b2 + 0x100_0000 * b3
+}
+
 // The number of four bytes from a place, low byte first.
 pub fn four_at(b: &[u8], p: usize) -> u32
     requires { ⌜ p < 2 ^ 32 ⌝ }
     ensures { λ r. ⌜ r ≡ fourAt (now (b .entry)) p ⌝ }
 {
-    let b0 = wide(entry(b, p));
-    let b1 = wide(entry(b, p + 1));
-    let b2 = wide(entry(b, p + 2));
-    let b3 = wide(entry(b, p + 3));
-    b0 + 0x100 * b1 + 0x1_0000 * b2 + 0x100_0000 * b3
+    four_of(
+        entry(b, p),
+        entry(b, p + 1),
+        entry(b, p + 2),
+        entry(b, p + 3),
+    )
 }
 
 // Fills `out` with bytes that are all there.
@@ -61,16 +74,6 @@ pub fn fill(b: &[u8], p: usize, out: &mut [u8])
     } else {
         copy_padded(b, p, out);
     }
-}
-
-// The eight bytes from a place.
-pub fn eight_at(b: &[u8], p: usize) -> [u8; 8]
-    requires { ⌜ p < 2 ^ 32 ⌝ }
-    ensures { λ r. ⌜ r ≡ bytesAt (now (b .entry)) p 8 ⌝ }
-{
-    let mut out = [0u8; 8];
-    fill(b, p, &mut out);
-    out
 }
 
 // The sixteen bytes from a place.

@@ -8,6 +8,7 @@ use addr_record::given_at;
 use addr_record::given_formed;
 use calls::refused::packed;
 use cs_data_layout::derive_cs_data_layout;
+use description_record::description_at;
 use refusal::Answer;
 use refusal::Refusal;
 use search_calls::addr;
@@ -25,12 +26,11 @@ ghost use Rattle.onerom.specs.Wired.{wiredCall};
 pub extern "C" fn onerom_derive_addr_layout(description: &[u8], layout: &mut [u8]) -> u64
     ensures { λ r. ⌜ returned r (now (layout .exit)) ≡ searchResult (addrCall (now (description .entry)) (now (layout .entry))) ⌝ }
 {
-    let decoded = description_record::decode(description);
-    let outcome = decoded.answer;
-    match outcome {
-        Answer::Done => addr::hand_over(derive_addr_layout(decoded.description), layout),
-        Answer::Refused(why) => packed(why),
+    if !description_record::formed(description) {
+        return packed(Refusal::OutOfDomain);
     }
+    let d = description_at(description);
+    addr::hand_over(derive_addr_layout(d), layout)
 }
 
 // Finds the select and data layout of the slot that the record describes, with an address layout or, by no bytes, without
@@ -47,17 +47,11 @@ pub extern "C" fn onerom_derive_cs_data_layout(
     if !given_formed(addr_layout) {
         return packed(Refusal::OutOfDomain);
     }
-    let decoded = description_record::decode(description);
-    let outcome = decoded.answer;
-    match outcome {
-        Answer::Done => {
-            cs_data::hand_over(
-                derive_cs_data_layout(decoded.description, given_at(addr_layout)),
-                layout,
-            )
-        }
-        Answer::Refused(why) => packed(why),
+    if !description_record::formed(description) {
+        return packed(Refusal::OutOfDomain);
     }
+    let d = description_at(description);
+    cs_data::hand_over(derive_cs_data_layout(d, given_at(addr_layout)), layout)
 }
 
 // Builds the table of the slot that the record describes, from its layouts and the chips' bytes: `images` has them all, and
