@@ -1,10 +1,10 @@
 -- The first fault of lists put together, and what its absence says of each pin. Assumes nothing.
 use mathlib.Core.Path.{_≡_, refl, sym, _∙_, ap}
 use mathlib.Core.List.{List, [], _∷_, _++_}
-use Prim.Native.Nat.{ℕ, zero, suc, _<_}
+use Prim.Native.Nat.{ℕ, zero, suc, _≤_, _<_}
 use native.Mathlib.Nat.{le-of-suc-le-suc}
 use native.Mathlib.Omega.{arith}
-use lib.ListN.{length}
+use lib.ListN.{length, take}
 use Rattle.lists.proofs.Loops.{zero-one}
 use Rattle.gpio.specs.declared.candidates.Candidates.{Candidates}
 use Rattle.gpio.specs.declared.candidates.Candidates.the-variants.{Absent, One, Two}
@@ -28,6 +28,16 @@ found-stays : (r : Refusal) (ls : List Listed) → faultFrom (Of r) ls ≡ Of r
 unfolding faultFrom
 found-stays r [] = refl
 found-stays r (l ∷ ls) = found-stays r ls
+
+pub found-further : (ls : List Listed) (f : FirstFault) (m n : ℕ) (r : Refusal) → m ≤ n → faultFrom f (take m ls) ≡ Of r → faultFrom f (take n ls) ≡ Of r
+unfolding faultFrom
+found-further [] f zero zero r h e = e
+found-further [] f zero (suc n) r h e = e
+found-further [] f (suc m) zero r h e = e
+found-further [] f (suc m) (suc n) r h e = e
+found-further (l ∷ ls) f zero n r h e = rw e (found-stays r (take n (l ∷ ls)))
+found-further (l ∷ ls) f (suc m) zero r h e = absurd (omega arith)
+found-further (l ∷ ls) f (suc m) (suc n) r h e = found-further ls (keepFault f l) m n r (le-of-suc-le-suc h) e
 
 fault-first : (r : Refusal) (ls : List Listed) → faultFrom (Of r) ls ≡ None → ⊥
 fault-first r ls e =

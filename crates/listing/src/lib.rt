@@ -13,7 +13,7 @@ use slot::description::Board;
 ghost use mathlib.Core.Path.{_≡_};
 ghost use mathlib.Core.List.{[], _∷_, _++_};
 ghost use Prim.Native.Nat.{_+_, _≤_, _<_};
-ghost use Rattle.listing.specs.Listing.{candidatesAt, xListed, xPins, twoListed, count, twos, keepFault, firstFault};
+ghost use Rattle.listing.specs.Listing.{candidatesAt, xListed, xPins, twoListed, count, twos, firstFault};
 ghost use Rattle.listing.specs.design.Packed.{listedBy, listOf};
 
 // A listed pin.
@@ -125,36 +125,21 @@ pub fn choice_bits(l: Listing) -> u32
     sum
 }
 
-// The fault found before, else the pin's where it has no candidates.
-fn keep_fault(before: FirstFault, pin: Listed) -> FirstFault
-    ensures { λ r. ⌜ r ≡ keepFault before pin ⌝ }
-{
-    match before {
-        FirstFault::Of(r) => FirstFault::Of(r),
-        FirstFault::None => {
-            let gpios = pin.gpios;
-            let fault = pin.fault;
-            match gpios {
-                Candidates::Absent => FirstFault::Of(fault),
-                Candidates::One(_) => FirstFault::None,
-                Candidates::Two(_, _) => FirstFault::None,
-            }
-        }
-    }
-}
-
-// The fault of the first listed pin without candidates.
+// The fault of the first listed pin without candidates. Pins that have some are passed by their number alone.
 pub fn first_fault(l: Listing) -> FirstFault
     requires { ⌜ l .count ≤ 30 ⌝ }
     ensures { λ r. ⌜ r ≡ firstFault (listOf l) ⌝ }
 {
     let n = l.count;
-    let mut fault = FirstFault::None;
     let mut k: usize = 0;
     while k < n {
         let pin = l.pins[k];
-        fault = keep_fault(fault, pin.listed());
+        if pin.candidates == 0 {
+            let listed = pin.listed();
+            let fault = listed.fault;
+            return FirstFault::Of(fault);
+        }
         k += 1;
     }
-    fault
+    FirstFault::None
 }
