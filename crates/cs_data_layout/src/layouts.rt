@@ -86,14 +86,24 @@ fn select_line(r: Roles, h: AddrLayout, gpio: u8, k: usize) -> SelectLine
     SelectLine { role: 0, gpio: 0 }
 }
 
+// How many of the 30 select lines there are; the others are left as they are filled at first.
+fn num_lines(roles: usize, excess: u8) -> usize
+    requires { ⌜ roles ≤ 8 ⌝ }
+    ensures { λ r. ⌜ (r ≡ cond (ltb (roles + excess) 30) (roles + excess) 30) × (r ≤ 30) ⌝ }
+{
+    let all = roles + excess as usize;
+    if all < 30 { all } else { 30 }
+}
+
 // The select lines with their GPIOs, which stand from `at` on among the resolved ones.
 fn select_lines(r: Roles, h: AddrLayout, gpios: [u8; 30], at: usize) -> [SelectLine; 30]
     requires { ⌜ (r .count ≤ 8) × (at ≤ 64) ⌝ }
     ensures { λ q. ⌜ q ≡ tab 30 (λ k. selectLine (take (r .count) (r .roles)) h (λ j. getD gpios (at + j) 0) k) ⌝ }
 {
+    let count = num_lines(r.count, h.num_excess);
     let mut out = [SelectLine { role: 0, gpio: 0 }; 30];
     let mut k: usize = 0;
-    while k < 30 {
+    while k < count {
         out[k] = select_line(r, h, entry(&gpios, at + k), k);
         k += 1;
     }
