@@ -4,11 +4,12 @@ use addr_layout::layout::AddrLayout;
 use bytes::copy;
 use cs_data_layout::layout::GivenLayout;
 use fields::four_at;
-use fields::twenty_four_at;
+use fields::whole;
 use gpio::line::LineGpio;
 use lists::array::entry;
 ghost use mathlib.Core.Path.{_≡_};
-ghost use mathlib.Core.List.{_++_};
+ghost use mathlib.Core.Bool.{true};
+ghost use mathlib.Core.List.{[], _++_};
 ghost use Prim.Native.Nat.{_≤_};
 ghost use lib.ListN.{length, drop};
 ghost use Rattle.addr_record.specs.AddrRecord.{addrSize, xByte, xOf, addrHead, layoutBytes, layoutAt, layoutFormed, givenAt, givenFormed};
@@ -64,18 +65,19 @@ fn x_of(x: u8) -> LineGpio
     LineGpio::At(x)
 }
 
-// What the record lays out.
+// What a record lays out.
 pub fn layout_at(b: &[u8]) -> AddrLayout
+    requires { ⌜ addrSize ≤ length (now b) ⌝ }
     ensures { λ r. ⌜ r ≡ layoutAt (now (b .entry)) ⌝ }
 {
     AddrLayout {
-        gpio_base: entry(b, 0),
-        num_addr_pins: entry(b, 1),
-        x1_gpio: x_of(entry(b, 2)),
-        x2_gpio: x_of(entry(b, 3)),
-        gpios: twenty_four_at(b, 8),
-        num_lines: entry(b, 4),
-        num_excess: entry(b, 5),
+        gpio_base: whole::entry(b, 0),
+        num_addr_pins: whole::entry(b, 1),
+        x1_gpio: x_of(whole::entry(b, 2)),
+        x2_gpio: x_of(whole::entry(b, 3)),
+        gpios: whole::twenty_four_at(b, 8),
+        num_lines: whole::entry(b, 4),
+        num_excess: whole::entry(b, 5),
     }
 }
 
@@ -89,12 +91,34 @@ pub fn formed(b: &[u8]) -> bool
     (b.len() == SIZE) & (spare == 0) & (spare_2 == 0) & (inverted == 0)
 }
 
+// No bytes, read as a record: 0 at each place.
+fn nothing_at() -> AddrLayout
+    ensures { λ r. ⌜ r ≡ layoutAt [] ⌝ }
+{
+    AddrLayout {
+        gpio_base: 0,
+        num_addr_pins: 0,
+        x1_gpio: LineGpio::At(0),
+        x2_gpio: LineGpio::At(0),
+        gpios: [0u8; 24],
+        num_lines: 0,
+        num_excess: 0,
+    }
+}
+
 // The layout that a record gives; no bytes give none.
 pub fn given_at(b: &[u8]) -> GivenLayout
+    requires { ⌜ givenFormed (now b) ≡ true ⌝ }
     ensures { λ r. ⌜ r ≡ givenAt (now (b .entry)) ⌝ }
 {
+    if b.len() == 0 {
+        return GivenLayout {
+            given: false,
+            layout: nothing_at(),
+        };
+    }
     GivenLayout {
-        given: b.len() != 0,
+        given: true,
         layout: layout_at(b),
     }
 }

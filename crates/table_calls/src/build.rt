@@ -4,6 +4,9 @@ use calls::refused::result;
 use rom_image::build_rom_image;
 use slot::description::Description;
 ghost use mathlib.Core.Path.{_≡_};
+ghost use Prim.Native.Nat.{_≤_};
+ghost use lib.ListN.{length};
+ghost use Rattle.addr_record.specs.AddrRecord.{addrSize};
 ghost use Rattle.calls.specs.Calls.{returned, buildResult, buildFormed, buildFrom};
 
 // Whether the bytes are records of both layouts and of the chips' spans.
@@ -24,6 +27,7 @@ pub fn hand_over(
     images: &[u8],
     table: &mut [u8],
 ) -> u64
+    requires { ⌜ addrSize ≤ length (now «addr_layout») ⌝ }
     ensures { λ r. ⌜ returned r (now (table .exit))
         ≡ buildResult (buildFrom d (now («addr_layout» .entry)) (now («cs_data_layout» .entry)) (now (spans .entry)) (now (images .entry))
         (now (table .entry))) ⌝ }

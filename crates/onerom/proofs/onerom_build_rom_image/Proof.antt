@@ -5,9 +5,11 @@ use borrow.Author.Needs.{needs}
 use Rattle.slot.specs.declared.description.Description.{Description}
 use Rattle.refusal.specs.declared.Refusal.{Refusal}
 use Rattle.refusal.specs.declared.Refusal.the-variants.{OutOfDomain}
+use Rattle.lists.proofs.Bools.{and-left}
+use Rattle.addr_record.proofs.Long.{formed-long}
 use Rattle.rom_image.specs.Build.{Built}
 use Rattle.calls.specs.Calls.{returned, buildFrom, buildRefused, buildCall, buildResult}
-use Rattle.onerom.proofs.Records.{taken, no-record, formed, not-formed}
+use Rattle.onerom.proofs.Records.{taken, no-record, passed, formed, not-formed}
 use Rattle.onerom.proofs.onerom_build_rom_image.Statement.{statement}
 use Rattle.onerom.proofs.onerom_build_rom_image.Tie as tie
 
@@ -24,6 +26,12 @@ returns c =
     let s = c .before .before .before .before .before .before .before .before .before in
     ap (λ (r : ℕ). returned r (s .args .table .now)) (c .packed .ensures)
     ∙ ap buildResult (not-formed _ (refuse s OutOfDomain) _ _ (c .before .before .formed .ensures) (c .before .if1 .taken))
+
+-- the address layout has the length of a record
+hand-over-requires : tie.Need-hand-over-requires
+hand-over-requires c κs =
+    formed-long (c .before .before .before .before .before .before .before .before .before .before .before .before .args .addr-layout .now)
+    (and-left _ _ (and-left _ _ (passed _ _ (c .before .before .before .before .before .formed .ensures) (c .before .before .before .before .if1 .left))))
 
 returns-2 : tie.Need-returns-2
 unfolding buildCall
@@ -52,7 +60,7 @@ onerom-build-rom-image-spec =
     returns
     (λ c κs. search needs)
     (λ c. search needs)
-    (λ c κs. search needs)
+    hand-over-requires
     (λ c. search needs)
     (λ c κs. search needs)
     (λ c. search needs)

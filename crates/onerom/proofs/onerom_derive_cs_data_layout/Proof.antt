@@ -42,6 +42,9 @@ returns-2 c =
 description-at-requires : tie.Need-description-at-requires
 description-at-requires c κs = passed _ _ (c .before .formed .ensures) (c .if2 .left)
 
+given-at-requires : tie.Need-given-at-requires
+given-at-requires c κs = passed _ _ (c .before .before .before .before .given-formed .ensures) (c .before .before .before .if1 .left)
+
 returns-3 : tie.Need-returns-3
 unfolding csDataCall
 returns-3 c =
@@ -66,7 +69,7 @@ onerom-derive-cs-data-layout-spec =
     (λ c κs. search needs)
     returns-2
     description-at-requires
-    (λ c κs. search needs)
+    given-at-requires
     (λ c κs. search needs)
     (λ c κs. search needs)
     (λ c. search needs)

@@ -6,9 +6,10 @@ use borrow.Author.Needs.{needs}
 use Rattle.slot.specs.declared.description.Description.{Description}
 use Rattle.refusal.specs.declared.Refusal.{Refusal}
 use Rattle.refusal.specs.declared.Refusal.the-variants.{OutOfDomain}
+use Rattle.addr_record.proofs.Long.{formed-long}
 use Rattle.calls.specs.Packed.{packed}
 use Rattle.onerom.specs.Wired.{wiredFrom, wiredCall}
-use Rattle.onerom.proofs.Records.{taken, no-record, formed, not-formed}
+use Rattle.onerom.proofs.Records.{taken, no-record, passed, formed, not-formed}
 use Rattle.onerom.proofs.onerom_well_wired.Statement.{statement}
 use Rattle.onerom.proofs.onerom_well_wired.Tie as tie
 
@@ -21,6 +22,12 @@ refuse why = packed why
 returns : tie.Need-returns
 unfolding wiredCall
 returns c = c .packed .ensures ∙ not-formed _ (refuse OutOfDomain) _ _ (c .before .before .formed .ensures) (c .before .if1 .taken)
+
+-- the layout has the length of a record
+tested-requires : tie.Need-tested-requires
+tested-requires c κs =
+    let f = c .before .before .before .before in
+    formed-long (f .before .before .before .args .addr-layout .now) (passed _ _ (f .formed .ensures) (c .before .before .before .if1 .left))
 
 returns-2 : tie.Need-returns-2
 unfolding wiredCall
@@ -49,7 +56,7 @@ onerom-well-wired-spec =
     returns
     (λ c κs. search needs)
     (λ c. search needs)
-    (λ c κs. search needs)
+    tested-requires
     (λ c. search needs)
     (λ c κs. search needs)
     returns-2
