@@ -86,16 +86,6 @@ pub fn sixteen_at(b: &[u8], p: usize) -> [u8; 16]
     out
 }
 
-// The twenty-four bytes from a place.
-pub fn twenty_four_at(b: &[u8], p: usize) -> [u8; 24]
-    requires { ⌜ p < 2 ^ 32 ⌝ }
-    ensures { λ r. ⌜ r ≡ bytesAt (now (b .entry)) p 24 ⌝ }
-{
-    let mut out = [0u8; 24];
-    fill(b, p, &mut out);
-    out
-}
-
 // Whether a flag is 0 or 1, and the three places kept behind it are 0.
 pub fn flag_formed(b: &[u8], p: usize) -> bool
     requires { ⌜ p < 2 ^ 32 ⌝ }
