@@ -15,7 +15,7 @@ fn main() {
         println!("cargo:rerun-if-env-changed={name}");
     }
     check_target();
-    let archive = match env::var_os("ONEROM_ARCHIVE") {
+    let archive = match env::var_os("ONEROM_ARCHIVE").filter(|place| !place.is_empty()) {
         Some(place) => ready(PathBuf::from(place)),
         None => built(&root()),
     };
@@ -124,7 +124,8 @@ const NO_RT: &str = "`rt` is not on the path. Rattle's toolchain proves the libr
 fn shown(said: impl Read) -> String {
     let mut terminal = File::options().write(true).open("/dev/tty").ok();
     let mut text = String::new();
-    for line in BufReader::new(said).lines().map_while(Result::ok) {
+    for line in BufReader::new(said).split(b'\n').map_while(Result::ok) {
+        let line = String::from_utf8_lossy(&line);
         let is_news = line.starts_with("rt: ") && !line.contains("unchanged");
         if let Some(terminal) = terminal.as_mut().filter(|_| is_news) {
             // A terminal that is gone keeps nobody from building.

@@ -86,7 +86,8 @@ impl Command {
     }
 
     fn run(&self, words: &[OsString]) -> ExitCode {
-        if words.iter().any(|word| is_one(word, &HELP)) {
+        let mut flags = words.iter().take_while(|word| *word != NO_MORE_FLAGS);
+        if flags.any(|word| is_one(word, &HELP)) {
             return helped(&self.whole_help());
         }
         let done = match self.flagged(words) {

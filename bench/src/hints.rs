@@ -126,9 +126,12 @@ fn no_address_layout(slot: &Description, chip: &Chip) -> String {
 fn spanned(slot: &Description, chip: &Chip) -> Vec<Line> {
     let (mut lines, _) = address_candidates(slot, chip);
     lines.extend(picking_pins(slot));
-    let first = |line: Line| Line {
-        gpios: line.gpios.into_iter().take(1).collect(),
-        ..line
+    let first = |mut line: Line| {
+        if line.gpios.len() > 1 {
+            line.name += ", of which only the first candidate counts here,";
+            line.gpios.truncate(1);
+        }
+        line
     };
     let multi = slot.multi.iter();
     let multi = multi.filter(|_| slot.set_type == SetType::Multi);
@@ -141,11 +144,14 @@ fn spanned(slot: &Description, chip: &Chip) -> Vec<Line> {
 fn address_candidates(slot: &Description, chip: &Chip) -> (Vec<Line>, Vec<Line>) {
     let words = slot.largest_table / u32::from(slot.word_bytes.max(1));
     let in_range = words.max(1).ilog2() as usize;
-    let mut x = slot.x.into_iter();
+    let mut x = (1..).zip(slot.x);
     let mut lines: Vec<Line> = address_lines(slot, chip)
-        .map(|(line, pin)| {
-            let candidates = under(slot, pin).or_else(|| x.next()).unwrap_or_default();
-            Line::of(format!("A{line}"), candidates)
+        .map(|(line, pin)| match under(slot, pin) {
+            Some(candidates) => Line::of(format!("A{line}"), candidates),
+            None => {
+                let (number, candidates) = x.next().unwrap_or_default();
+                Line::of(format!("A{line} by X{number}"), candidates)
+            }
         })
         .collect();
     let excess = lines.split_off(in_range.min(lines.len()));

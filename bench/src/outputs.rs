@@ -46,6 +46,8 @@ impl Part {
         let mut new = File::create_new(&name)?;
         let part = Self { name, file };
         new.write_all(bytes)?;
+        // Some file systems tell only here that there is no room.
+        new.sync_all()?;
         if let Some(mode) = mode {
             new.set_permissions(mode)?;
         }
@@ -86,8 +88,7 @@ fn replaceable(file: &Path) -> io::Result<Option<Permissions>> {
         old => old?,
     };
     if is_own_output(&old) {
-        let why =
-            "is where this program's own output goes; `-` writes there, if one file is written";
+        let why = "is where this program's own output goes; its help says whether `-` writes there";
         return Err(io::Error::other(why));
     }
     if !old.is_file() {

@@ -54,7 +54,7 @@ pub fn addr_table(layout: &AddrLayout) -> String {
     }
     for gpio in (0..layout.pins).filter_map(|pin| layout.base.checked_add(pin)) {
         let role = roles.0.entry(gpio);
-        role.or_insert_with(|| vec!["no line".into()]);
+        role.or_insert_with(|| vec!["no address line".into()]);
     }
     roles.table("table bit", |gpio| layout.table_bit(gpio))
 }

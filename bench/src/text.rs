@@ -64,6 +64,11 @@ pub fn of_bytes(bytes: &[u8]) -> Result<&str, TextError> {
             what,
         });
     }
+    if let Some(line) = lone_return(bytes) {
+        let what = "expected lines that end in LF or CR LF, found a CR alone".into();
+        let file = None;
+        return Err(TextError { file, line, what });
+    }
     std::str::from_utf8(bytes).map_err(|why| {
         let good = &bytes[..why.valid_up_to()];
         TextError {
@@ -72,6 +77,15 @@ pub fn of_bytes(bytes: &[u8]) -> Result<&str, TextError> {
             what: "expected text, found bytes that are none".into(),
         }
     })
+}
+
+/// The line with a CR that no LF follows: what stands behind would pass for a part of the line, and
+/// behind a remark be lost.
+fn lone_return(bytes: &[u8]) -> Option<usize> {
+    let is_lone = |place: &usize| bytes[*place] == b'\r' && bytes.get(place + 1) != Some(&b'\n');
+    let place = (0..bytes.len()).find(is_lone)?;
+    let ends = bytes[..place].iter().filter(|&&byte| byte == b'\n');
+    Some(1 + ends.count())
 }
 
 /// Reads the bytes of a description's file.

@@ -8,14 +8,16 @@ use onerom::{AddrLayout, Description, well_wired};
 
 use crate::ending::Fault;
 
-/// What is wrong with the wiring, a line each; nothing of a slot that is well wired.
+/// What is wrong with the wiring, a line each; nothing of a slot that is well wired and whose chips
+/// have the same pins.
 pub fn complaints(slot: &Description, addr: &AddrLayout) -> Result<String, Fault> {
+    let others = other_pins(slot);
     if well_wired(slot, addr)? {
-        return Ok(String::new());
+        return Ok(others);
     }
     let mut reasons = shared_gpios(slot);
     if let Some(chip) = slot.chips.first() {
-        reasons.extend(shared_pins(slot, addr, chip));
+        reasons.extend(data_lines(slot, chip));
         reasons.extend(of_multi(slot, chip));
     }
     reasons.extend(x_pins(slot, addr));
@@ -23,7 +25,7 @@ pub fn complaints(slot: &Description, addr: &AddrLayout) -> Result<String, Fault
         reasons.push("a rule of docs/INTERFACE.md, `onerom_well_wired`, is not kept".into());
     }
     let lines = reasons.iter().map(|why| format!("not well wired: {why}\n"));
-    Ok(lines.collect())
+    Ok(lines.chain([others]).collect())
 }
 
 fn gpios(candidates: Candidates) -> Vec<u8> {
@@ -54,41 +56,32 @@ fn shared_gpios(slot: &Description) -> Vec<String> {
     reasons
 }
 
-/// Lines that lie on one chip pin, and a number of data lines that makes no word.
-fn shared_pins(slot: &Description, addr: &AddrLayout, chip: &Chip) -> Vec<String> {
-    // In 16-bit mode the first address pin is no line.
-    let first = usize::from(slot.word_bytes == 2);
-    let lines = chip.address_pins.iter().skip(first).take(addr.lines.len());
-    let mut address: Vec<(String, u8)> = numbered("A", lines);
-    if let Some(select) = select_pin(slot, chip) {
-        address.push(("the select line".into(), select));
-    }
-    let data = numbered("D", chip.data_pins.iter());
-    let mut reasons = on_one_pin(&address);
-    reasons.extend(on_one_pin(&data));
-    let wanted = 8 * usize::from(slot.word_bytes);
-    if data.len() != wanted {
-        let has = data.len();
-        reasons.push(format!(
-            "a word has {wanted} bits, and there are {has} data lines"
-        ));
-    }
-    reasons
+/// A number of data lines that makes no word. That no two lines of a chip lie on one pin is seen to
+/// when a description is read.
+fn data_lines(slot: &Description, chip: &Chip) -> Option<String> {
+    let (wanted, has) = (8 * usize::from(slot.word_bytes), chip.data_pins.len());
+    let why = || format!("a word has {wanted} bits, and there are {has} data lines");
+    (has != wanted).then(why)
 }
 
-fn numbered<'a>(letter: &str, pins: impl Iterator<Item = &'a u8>) -> Vec<(String, u8)> {
-    let line = |(number, &pin): (usize, &u8)| (format!("{letter}{number}"), pin);
-    pins.enumerate().map(line).collect()
-}
-
-fn on_one_pin(lines: &[(String, u8)]) -> Vec<String> {
-    let mut reasons = Vec::new();
-    for (place, (name, pin)) in lines.iter().enumerate() {
-        let others = lines[place + 1..].iter().filter(|(_, other)| other == pin);
-        reasons
-            .extend(others.map(|(other, _)| format!("{name} and {other} lie on chip pin {pin}")));
-    }
-    reasons
+/// Chips whose lines lie elsewhere than the first one's, by which a slot is laid out. Fewer address
+/// lines are no fault: a smaller chip repeats in its place.
+fn other_pins(slot: &Description) -> String {
+    let Some(first) = slot.chips.first() else {
+        return String::new();
+    };
+    let differs = |chip: &Chip| {
+        let lines = chip.address_pins.len().min(first.address_pins.len());
+        chip.address_pins[..lines] != first.address_pins[..lines]
+            || chip.data_pins != first.data_pins
+            || chip.control != first.control
+    };
+    let others = slot.chips.iter().enumerate();
+    let others = others.filter(|(_, chip)| differs(chip));
+    let line = |(number, _)| {
+        format!("chip {number}: its lines lie on other pins than chip 0's, which count for all\n")
+    };
+    others.map(line).collect()
 }
 
 /// The chip pin of the line that tells a Multi set's chips apart.

@@ -196,7 +196,8 @@ const OWN_ROWS: [(Call, u16, Row); 4] = [
         row(
             "NoValidLayout",
             Place::Nothing,
-            "no choice of GPIOs has data and selects without gaps in one PIO window",
+            "no choice of GPIOs has data and selects without gaps, and all of them and the qualifiers in \
+             one PIO window",
         ),
     ),
     (

@@ -14,6 +14,7 @@ use crate::inputs::{ANY_LENGTH, Inputs, NO_FILE};
 use crate::laid_out;
 use crate::outputs::{keep, write_out, write_whole};
 use crate::reach::{PART, parts_served};
+use crate::wiring::complaints;
 
 /// The flag by which a table is written that does not read back.
 const UNVERIFIED: &str = "--unverified";
@@ -71,12 +72,13 @@ fn run(words: &[OsString], flags: &Flags) -> Done {
     Ok(ExitCode::SUCCESS)
 }
 
-/// The table, and what is to be said of chips that it serves in part.
+/// The table, and what is to be said of the wiring and of chips that it serves in part.
 fn built(inputs: &Inputs, flags: &Flags) -> Result<(Vec<u8>, String), Fault> {
     let (slot, images) = (&inputs.slot, inputs.images());
     let of_slot = |refusal| hinted(slot, &images, refusal);
     let (addr, cs_data) = laid_out(slot).map_err(of_slot)?;
-    let parts = parts_served(slot, &addr, flags.has(PART))?;
+    let wrong = complaints(slot, &addr)?;
+    let parts = wrong + &parts_served(slot, &addr, flags.has(PART))?;
     if !flags.has(UNVERIFIED) {
         verified(slot, &images)?;
     }

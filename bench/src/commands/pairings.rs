@@ -33,15 +33,17 @@ names: lines of a description, a board's (socket, pin, x1, x2, offset, limit)
 and a chip's (word, chip, package, address, data, control, settings,
 qualifiers). Lays out each chip on each board, builds a table of made bytes and
 reads it back. A chip sits at the bottom of a larger socket, unless the board
-has an `offset` line; one with more pins than the socket is not tried. A
-board's `set` and `multi` lines are not looked at.
+has an `offset` line; one with more pins than the socket is not tried, unless
+that line is below 0. A board's `set` and `multi` lines are not looked at, and
+how its pins are wired is taken as told.
 
 Writes a table to the standard output, boards down and chips across, and below
 it what its marks mean: `ok` reads back whole, `a3` is refusal 3 of the address
 search. --sets tries two and four of each chip as banks, and two and three as a
-Multi set, whose select is the chip's first control line. --csv writes FILE too,
-a line for each pairing: board, chip, set, result, call, number and place of a
-refusal. FILE may replace a file that is there, but none that is read.
+Multi set, whose select is the chip's first line that is not ignored. --csv
+writes FILE too, a line for each pairing: board, chip, set, result, call, number
+and place of a refusal. FILE may replace a file that is there, but none that is
+read.
 
 Exit codes: 0 tried; 1 a table is built that does not give the chip back, or a
 slot that reads back is not well wired; 2 other words, or a file that cannot be

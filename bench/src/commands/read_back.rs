@@ -10,11 +10,11 @@ use onerom::{Description, StoredSlot, unscramble_slot};
 use onerom_bench::text::{self, TextError};
 
 use super::{Command, Flags};
-use crate::ending::{Done, Fault, say};
+use crate::ending::{Done, Fault, complain, say};
 use crate::hints::hinted;
 use crate::inputs::{Files, NO_FILE, bytes_up_to, expect_files, text_of};
 use crate::laid_out;
-use crate::outputs::{Output, is_same, keep, write_whole};
+use crate::outputs::{Output, is_same, keep, write_out, write_whole};
 use crate::reach::{PART, parts_served};
 
 pub const READ_BACK: Command = Command {
@@ -25,9 +25,10 @@ pub const READ_BACK: Command = Command {
 Reads FILE, a description or a stored slot of `layout`, and TABLE, the bytes
 that are stored. From a description both searches run, and the table is taken
 to be built by what they find. Writes each ROM's bytes to its CHIP file, in
-order, a plugin's to the only one; `-` is a ROM that is not written. The files
-are written when all ROMs are read, each whole or not at all. They may replace
-files that are there, but none that is read.
+order, a plugin's to the only one. Of several, `-` is a ROM that is not written;
+the only one goes to the standard output by it. The files are written when all
+ROMs are read, each whole or not at all. They may replace files that are there,
+but none that is read.
 
 Where a ROM has more words than its address lines reach, and no excess line of
 the description explains it, nothing is written; --part accepts it.
@@ -55,6 +56,7 @@ fn run(words: &[OsString], flags: &Flags) -> Done {
     let wanted = slot.lengths(0).len();
     expect_files(file, "ROMs", wanted, chips)?;
     let chips: Vec<&Path> = chips.iter().map(Path::new).collect();
+    expect_written(&chips)?;
     files.push(table.into());
     keep_apart(&files, &chips)?;
     let stored = stored_bytes(table, &slot)?;
@@ -65,9 +67,26 @@ fn run(words: &[OsString], flags: &Flags) -> Done {
     if !flags.has(PART) && parts.is_none() {
         expect_whole(&slot, &roms)?;
     }
+    let parts = parts.unwrap_or_default();
+    if let ([chip], [rom]) = (&chips[..], &roms[..])
+        && !is_written(chip)
+    {
+        complain(&parts);
+        write_out(rom)?;
+        return Ok(ExitCode::SUCCESS);
+    }
     write(&slot, &chips, &roms)?;
-    say(&parts.unwrap_or_default())?;
+    say(&parts)?;
     Ok(ExitCode::SUCCESS)
+}
+
+/// A ROM at least is wanted: `-` for each of several would write none.
+fn expect_written(chips: &[&Path]) -> Result<(), Fault> {
+    if chips.len() > 1 && !chips.iter().any(|chip| is_written(chip)) {
+        let why = "expected a file for one of the ROMs, found `-` for each";
+        return Err(Fault::File(why.into()));
+    }
+    Ok(())
 }
 
 /// A stored slot has no excess lines that would explain why a ROM comes back in part.

@@ -7,8 +7,8 @@ use std::process::ExitCode;
 
 use onerom::slot::words;
 use onerom::{
-    Description, Refusal, RoundTrip, StoredSlot, build_rom_image, derive_addr_layout, round_trip,
-    unscramble_slot,
+    Call, Description, Refusal, RoundTrip, StoredSlot, build_rom_image, derive_addr_layout,
+    round_trip, unscramble_slot,
 };
 
 use super::{Command, Flags};
@@ -82,6 +82,23 @@ impl fmt::Display for Verified {
 /// Builds a slot's table and reads it back: all that comes back, or the first word that comes back
 /// as another.
 pub fn verified(slot: &Description, images: &[Option<&[u8]>]) -> Result<Verified, Fault> {
+    tried(slot, images).map_err(|fault| because(slot, fault))
+}
+
+/// What does not read back, with what is wrong with the wiring: a well wired slot does.
+fn because(slot: &Description, fault: Fault) -> Fault {
+    let addr = derive_addr_layout(slot).ok();
+    let wrong = addr.and_then(|addr| complaints(slot, &addr).ok());
+    let wrong = wrong.unwrap_or_default().trim_end().to_string();
+    match fault {
+        _ if wrong.is_empty() => fault,
+        Fault::Refused(refusal) if refusal.call == Call::ReadBack => Fault::Hinted(refusal, wrong),
+        Fault::Different(what) => Fault::Different(format!("{what}\n{wrong}")),
+        fault => fault,
+    }
+}
+
+fn tried(slot: &Description, images: &[Option<&[u8]>]) -> Result<Verified, Fault> {
     let of_slot = |refusal| hinted(slot, images, of_step(slot, images, refusal));
     let trip = round_trip(slot, images).map_err(of_slot)?;
     let addr = derive_addr_layout(slot)?;

@@ -1,7 +1,9 @@
 //! The sets that are tried, and the slot that a board, a chip and a set make.
 
 use onerom::Description;
-use onerom::description::{Kind, Multi, SetType};
+use onerom::description::{Kind, Multi, SetType, Setting};
+use onerom::layout::cs_data::Role;
+use onerom_bench::show::setting;
 use onerom_bench::text::{Board, ChipFacts, seat};
 
 /// So many of one chip.
@@ -72,13 +74,17 @@ fn offset(board: &Board, told: &ChipFacts) -> Result<i8, Untried> {
     offset.ok_or(Untried::NoOffset)
 }
 
-/// The chip's first control line selects it, and all chips share the others.
+/// The chip's first control line that is not ignored selects it, and all chips share the others.
 fn multi(told: &ChipFacts) -> Result<Multi, Untried> {
     let lines = told.chip.control.iter().map(|&(kind, _)| kind);
-    let mut lines = lines.filter(|&kind| kind != Kind::Other);
+    let lines = lines.filter(|&kind| kind != Kind::Other);
+    let is_ignored =
+        |kind: &Kind| setting(&told.settings, Role::of(*kind as u8)) == Some(Setting::Ignored);
+    let (ignored, selects): (Vec<Kind>, Vec<Kind>) = lines.partition(is_ignored);
+    let (&select, commoned) = selects.split_first().ok_or(Untried::NoSelect)?;
     Ok(Multi {
-        select: lines.next().ok_or(Untried::NoSelect)?,
-        commoned: lines.collect(),
-        ignored: Vec::new(),
+        select,
+        commoned: commoned.to_vec(),
+        ignored,
     })
 }

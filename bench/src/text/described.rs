@@ -1,7 +1,7 @@
 //! A description that grows line by line.
 
 use super::TextError;
-use super::facts::{Draft, Told, add_part, missing};
+use super::facts::{Draft, Told, add_part, missing, wrong};
 use super::included::Place;
 use super::words::{KINDS, Words};
 use onerom::description::{
@@ -103,11 +103,9 @@ impl Draft for DescriptionDraft {
     }
 
     fn finished(mut self, last: usize) -> Result<Description, TextError> {
-        let slot = &self.slot;
-        if slot.board_pins == 0 {
-            return missing(last, "a `socket` line");
-        }
+        self.whole_socket(last)?;
         self.whole_chips(last)?;
+        let slot = &self.slot;
         if slot.set_type == SetType::Multi && slot.multi.is_none() {
             let set = self.told.place("set");
             return missing(
@@ -129,7 +127,22 @@ pub fn seat(socket: u8, package: u8) -> Option<i8> {
 }
 
 impl DescriptionDraft {
-    /// Tells what is missing of the chips.
+    /// Tells what is wrong with the socket.
+    pub fn whole_socket(&self, last: usize) -> Result<(), TextError> {
+        let pins = self.slot.board_pins;
+        if pins == 0 {
+            return missing(last, "a `socket` line");
+        }
+        for pin in pins + 1..=SOCKET_PINS as u8 {
+            if let Some(place) = self.told.place(&format!("pin {pin}")) {
+                let what = format!("expected a pin of the socket, 1 to {pins}, found `{pin}`");
+                return wrong(place, what);
+            }
+        }
+        Ok(())
+    }
+
+    /// Tells what is missing of the chips, or wrong with one.
     pub fn whole_chips(&self, last: usize) -> Result<(), TextError> {
         let chips = &self.slot.chips;
         if chips.is_empty() {
@@ -142,6 +155,8 @@ impl DescriptionDraft {
             if chip.data_pins.is_empty() {
                 return missing(place.clone(), "a `data` line of this chip");
             }
+            let slip = slip(chip, self.slot.word_bytes);
+            slip.map_or(Ok(()), |what| wrong(place.clone(), what))?;
         }
         Ok(())
     }
@@ -225,12 +240,43 @@ impl DescriptionDraft {
             }
             _ => {
                 let kind = words.one_of("a control line", &KINDS)?;
+                let is_there = chip.control.iter().any(|line| line.0 == kind);
+                if is_there && kind != Kind::Other {
+                    return Err(words.error("expected another control line, this one is told"));
+                }
                 let pin = words.byte("a chip pin", 1..=highest)?;
                 chip.control.push((kind, pin));
             }
         }
         Ok(())
     }
+}
+
+/// What no chip can be: of no bytes or of half a word, or with two lines on one pin.
+fn slip(chip: &Chip, word_bytes: u8) -> Option<String> {
+    let (size, word) = (chip.size, u32::from(word_bytes));
+    if size == 0 || !size.is_multiple_of(word) {
+        return Some(format!(
+            "expected a chip of whole words, found {size} bytes with {word} in a word"
+        ));
+    }
+    // In 16-bit mode the first address pin is no line: it can be that of the last data line.
+    let address = (0..).zip(chip.address_pins.iter().skip(usize::from(word_bytes) - 1));
+    let address = address.map(|(line, &pin): (usize, _)| (format!("A{line}"), pin));
+    let data = (0..).zip(&chip.data_pins);
+    let data = data.map(|(line, &pin): (usize, _)| (format!("D{line}"), pin));
+    let named = |kind: Kind| {
+        let own = KINDS.iter().find(|(_, own)| *own == kind);
+        own.map_or("", |(name, _)| *name).to_string()
+    };
+    let control = chip.control.iter().map(|&(kind, pin)| (named(kind), pin));
+    let lines: Vec<(String, u8)> = address.chain(data).chain(control).collect();
+    lines.iter().enumerate().find_map(|(place, (name, pin))| {
+        let (other, _) = lines[..place].iter().find(|(_, own)| own == pin)?;
+        Some(format!(
+            "expected each line on a pin of its own, found {other} and {name} on chip pin {pin}"
+        ))
+    })
 }
 
 /// The pins of a package: no line that was told before lies above them.

@@ -70,12 +70,14 @@ impl Told {
 }
 
 pub fn missing<T>(place: impl Into<Place>, what: &str) -> Result<T, TextError> {
+    wrong(place, format!("expected {what}, found none"))
+}
+
+/// What is wrong with a line, found when the others are known.
+pub fn wrong<T>(place: impl Into<Place>, what: String) -> Result<T, TextError> {
     let Place { part, line } = place.into();
-    Err(TextError {
-        file: part.file.as_deref().map(str::to_owned),
-        line,
-        what: format!("expected {what}, found none"),
-    })
+    let file = part.file.as_deref().map(str::to_owned);
+    Err(TextError { file, line, what })
 }
 
 /// Adds a chip or a ROM: `again` is the last one once more, `size` and a number a new one.

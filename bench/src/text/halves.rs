@@ -109,10 +109,8 @@ impl Draft for BoardDraft {
     }
 
     fn finished(self, last: usize) -> Result<Board, TextError> {
+        self.0.whole_socket(last)?;
         let DescriptionDraft { slot, told, .. } = self.0;
-        if slot.board_pins == 0 {
-            return missing(last, "a `socket` line");
-        }
         Ok(Board {
             pins: slot.board_pins,
             offset: told.place("offset").map(|_| slot.pin_offset),

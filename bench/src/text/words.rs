@@ -48,11 +48,12 @@ pub const NO_NUMBERS: &str = "none";
 /// How much of a word an error shows.
 const SHOWN: usize = 40;
 
-/// A word as an error shows it: cut if it is long, and signs that a terminal would obey as numbers.
+/// A word as an error shows it: cut if it is long, and signs that a terminal obeys or does not show
+/// as numbers.
 fn shown(word: &str) -> String {
-    let plain = |sign: char| match sign.is_control() {
-        true => sign.escape_unicode().to_string(),
-        false => sign.to_string(),
+    let plain = |sign: char| match sign.is_ascii_graphic() || sign.is_alphanumeric() {
+        true => sign.to_string(),
+        false => sign.escape_unicode().to_string(),
     };
     let front: String = word.chars().take(SHOWN).map(plain).collect();
     match word.chars().count() {

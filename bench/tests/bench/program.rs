@@ -123,7 +123,7 @@ fn x_pins_gaps_and_excess_lines() {
         told.starts_with("base GPIO 10, 11 pins, table of 2048 bytes, past the limit of 256\n")
     );
     assert!(told.contains("\n  18  A8, excess line          8\n"));
-    assert!(told.contains("\n  19  no line                  9\n"));
+    assert!(told.contains("\n  19  no address line          9\n"));
     assert!(told.contains("\n  20  X1                      10\n"));
 }
 

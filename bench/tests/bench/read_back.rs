@@ -148,10 +148,7 @@ fn a_table_of_another_length_is_refused() {
     let said = folder.unread(&["largest.txt", "/dev/zero", "back.bin"]);
     let wanted = "/dev/zero: expected at most 67108864 bytes, more than any board stores\n";
     assert_eq!(said, wanted);
-    assert_eq!(
-        folder.done(&["none.txt", "empty.bin", "-"]),
-        "-: plugin, 0 bytes, not written\n"
-    );
+    assert_eq!(folder.done(&["none.txt", "empty.bin", "-"]), "");
     assert!(!folder.names().contains(&"back.bin".into()));
 }
 
@@ -205,8 +202,16 @@ fn no_file_takes_the_place_of_another() {
     assert_eq!(said, "./back.bin: expected another file for each ROM\n");
     assert_eq!(folder.read("table.bin"), table);
     assert_eq!(folder.names(), names);
-    let said = folder.done(&["two.txt", "table.bin", "-", "-"]);
-    assert_eq!(said.lines().count(), 2);
+    let said = folder.done(&["two.txt", "table.bin", "-", "back.bin"]);
+    assert!(
+        said.starts_with("-: ROM 0, 8192 bytes, not written\n"),
+        "{said}"
+    );
+    let said = folder.unread(&["two.txt", "table.bin", "-", "-"]);
+    assert_eq!(
+        said,
+        "expected a file for one of the ROMs, found `-` for each\n"
+    );
 }
 
 #[test]

@@ -199,7 +199,8 @@ fn bad_wiring_is_told() {
     );
     assert_eq!(build.names(), ["chip.bin", "slot.txt"]);
     let words = ["--unverified", "slot.txt", "table.bin", "chip.bin"];
-    assert_eq!(build.done(&words), "table.bin: table of 8192 bytes\n");
+    let said = format!("table.bin: table of 8192 bytes\n{why}");
+    assert_eq!(build.done(&words), said);
 
     // Ce on the GPIO of A0: the table reads back, and the board answers for half of it.
     let enable = changed(&[("pin 20 gpio 22", "pin 20 gpio 21")]);
@@ -221,19 +222,6 @@ fn each_fault_of_the_wiring_is_named() {
             .filter(|line| line.starts_with("not well wired"));
         wrong.map(|line| format!("{line}\n")).collect::<String>()
     };
-    let two = changed(&[("25 24 21 23 2 ", "25 24 21 2 2 ")]);
-    assert_eq!(
-        told("lines.txt", two),
-        "not well wired: A11 and A12 lie on chip pin 2\n"
-    );
-    let data = changed(&[(
-        "data 11 12 13 15 16 17 18 19",
-        "data 11 12 13 15 16 17 18 18",
-    )]);
-    assert_eq!(
-        told("data.txt", data),
-        "not well wired: D6 and D7 lie on chip pin 18\n"
-    );
     let seven = changed(&[("data 11 12 13 15 16 17 18 19", "data 11 12 13 15 16 17 18")]);
     assert_eq!(
         told("seven.txt", seven),
@@ -255,6 +243,105 @@ fn each_fault_of_the_wiring_is_named() {
     );
     assert_eq!(told("good.txt", banked()), "");
     assert_eq!(told("multi.txt", multi()), "");
+}
+
+/// Half the ROM would be gone with ce on the pin of A0.
+#[test]
+fn two_lines_on_a_chip_pin_are_told() {
+    let folder = Folder::new("verify", "pins");
+    let told = |from: &str, to: &str| {
+        folder.write("slot.txt", changed(&[(from, to)]).as_bytes());
+        folder.unread(&["slot.txt", "chip.bin"])
+    };
+    let line = changed(&[])
+        .lines()
+        .position(|line| line.starts_with("chip size"));
+    let line = 1 + line.expect("a chip");
+    let said = |lines: &str| {
+        format!("slot.txt, line {line}: expected each line on a pin of its own, found {lines}\n")
+    };
+    assert_eq!(
+        told("control ce 20", "control ce 10"),
+        said("A0 and ce on chip pin 10")
+    );
+    assert_eq!(
+        told("control oe 22", "control oe 20"),
+        said("ce and oe on chip pin 20")
+    );
+    let (data, other) = (
+        "data 11 12 13 15 16 17 18 19",
+        "data 11 12 13 15 16 17 18 18",
+    );
+    assert_eq!(told(data, other), said("D6 and D7 on chip pin 18"));
+    let two = told("25 24 21 23 2 ", "25 24 21 2 2 ");
+    assert_eq!(two, said("A11 and A12 on chip pin 2"));
+}
+
+#[test]
+fn a_chip_of_half_a_word_is_told() {
+    let folder = Folder::new("verify", "half");
+    for (size, word) in [("8191", "2"), ("0", "1")] {
+        let size = format!("chip size {size}");
+        let odd = changed(&[
+            ("chip size 8192", &size),
+            ("word 1 ", &format!("word {word} ")),
+        ]);
+        folder.write("slot.txt", odd.as_bytes());
+        let told = folder.unread(&["slot.txt", "chip.bin"]);
+        assert!(
+            told.contains(": expected a chip of whole words, found "),
+            "{told}"
+        );
+    }
+}
+
+#[test]
+fn a_slot_that_is_not_well_wired_is_told_by_build_too() {
+    let folder = Folder::new("build", "told");
+    let enable = changed(&[("pin 20 gpio 22", "pin 20 gpio 21")]);
+    folder.write("slot.txt", enable.as_bytes());
+    let why = "not well wired: GPIO 21 is a candidate of socket pin 10 and socket pin 20\n";
+    let said = folder.done(&["slot.txt", "table.bin", "chip.bin"]);
+    assert_eq!(said, format!("table.bin: table of 8192 bytes\n{why}"));
+    // Two address lines on one GPIO: half of the words have no entry, and the reason is told.
+    let lines = changed(&[("pin 3 gpio 14", "pin 3 gpio 15")]);
+    folder.write("slot.txt", lines.as_bytes());
+    for (command, words) in [
+        ("verify", &["slot.txt", "chip.bin"][..]),
+        ("build", &["slot.txt", "other.bin", "chip.bin"]),
+    ] {
+        let told = folder.run_other(command, words);
+        assert_eq!(told.status.code(), Some(1));
+        let told = text(&told.stderr);
+        let why = "not well wired: GPIO 15 is a candidate of socket pin 3 and socket pin 4\n";
+        assert!(told.starts_with("read-back refused: 24 Unserved"), "{told}");
+        assert!(told.ends_with(&format!("; {why}")), "{told}");
+    }
+}
+
+#[test]
+fn chips_with_other_pins_are_told() {
+    let folder = Folder::new("verify", "others");
+    let other = banked() + "chip size 8192\naddress 10 9\ndata 11\ncontrol cs1 3\n";
+    folder.write("slot.txt", other.as_bytes());
+    let chips = ["slot.txt", "chip.bin", "chip.bin", "chip.bin", "chip.bin"];
+    let said = folder.done(&chips);
+    assert!(
+        said.ends_with("chip 3: its lines lie on other pins than chip 0's, which count for all\n")
+    );
+}
+
+#[test]
+fn one_rom_goes_to_the_standard_output() {
+    let folder = Folder::new("read-back", "out");
+    folder.run_other("layout", &["slot.txt", "stored.txt"]);
+    folder.run_other("build", &["slot.txt", "table.bin", "chip.bin"]);
+    let told = folder.run(&["stored.txt", "table.bin", "-"]);
+    assert_eq!(
+        (told.status.code(), text(&told.stderr)),
+        (Some(0), String::new())
+    );
+    assert!(told.stdout == folder.read("chip.bin"));
 }
 
 #[test]

@@ -28,12 +28,12 @@ fn what_is_not_told_is_usual() {
 fn every_line_is_read() {
     let text = "socket 32 # a remark\n\nset multi\nword 2\noffset -4\nlimit 1024\n\
         chip size 512\naddress 3 4\ndata 5\ncontrol cs1 6\ncontrol other 7\nchip again\n\
-        pin 40 gpio 47\nx1 gpio 1 2\nx2 gpio 3\nqualifiers 0 1\n\
+        pin 32 gpio 47\nx1 gpio 1 2\nx2 gpio 3\nqualifiers 0 1\n\
         settings chip-select cs1 low cs3 ignored\nmulti select cs1 commoned oe ce ignored cs2\n";
     let slot = read(text).expect("a description");
     assert_eq!((slot.board_pins, slot.word_bytes), (32, 2));
     assert_eq!((slot.pin_offset, slot.largest_table), (-4, 1024));
-    assert_eq!(slot.socket[39], Candidates::One(47));
+    assert_eq!(slot.socket[31], Candidates::One(47));
     assert_eq!(slot.x, [Candidates::Two(1, 2), Candidates::One(3)]);
     assert_eq!(slot.qualifiers, [0, 1]);
     assert_eq!(slot.chips[0], slot.chips[1]);
@@ -125,6 +125,26 @@ fn too_much_is_told_at_its_line() {
         error(&long),
         "line 3: expected at most 24 numbers, found 25"
     );
+}
+
+#[test]
+fn what_cannot_be_is_told_at_its_line() {
+    assert_eq!(
+        error(&with("pin 33 gpio 21")),
+        "line 5: expected a pin of the socket, 1 to 24, found `33`"
+    );
+    assert_eq!(
+        error(&with("control ce 5\ncontrol ce 6")),
+        "line 6: expected another control line, this one is told"
+    );
+    let again = with("control ce 5\nchip again\ncontrol ce 6");
+    assert!(error(&again).starts_with("line 7: expected another control line"));
+    let lone = read_bytes(b"socket 24 # a board\rset banked\n").expect_err("a CR");
+    assert_eq!(
+        lone.to_string(),
+        "line 1: expected lines that end in LF or CR LF, found a CR alone"
+    );
+    assert!(error("socket 28\u{200b}\n").ends_with("found `28\\u{200b}`"));
 }
 
 #[test]

@@ -88,7 +88,8 @@ fn refusals_name_the_call() {
         ("pin 23 gpio 34 10", "pin 23 gpio 11"),
     ];
     let unserved = "read-back refused: 24 Unserved, place 2048 (ROM 0, address 2048): \
-        no entry gives a word\n";
+        no entry gives a word; \
+        not well wired: GPIO 11 is a candidate of socket pin 2 and socket pin 23\n";
     assert_eq!(on(&shared, "chip.bin"), unserved);
 }
 
@@ -101,14 +102,16 @@ fn a_word_that_comes_back_as_another_is_told() {
     let mut chip = vec![0; 8192];
     (chip[5], chip[6]) = (0x80, 0x40);
     folder.write("chip.bin", &chip);
-    let said = "does not read back: chip 0, address 5: 80 in the chip, C0 from the board\n";
+    let said = "does not read back: chip 0, address 5: 80 in the chip, C0 from the board\n\
+        not well wired: GPIO 6 is a candidate of socket pin 18 and socket pin 19\n";
     assert_eq!(folder.refused(&["slot.txt", "chip.bin"]), said);
 
     folder.write("slot.txt", wide([30, 30]).as_bytes());
     (chip[5], chip[6]) = (0, 0);
     (chip[16], chip[17]) = (0x01, 0x80);
     folder.write("chip.bin", &chip[..1024]);
-    let said = "does not read back: chip 0, address 8: 8001 in the chip, C001 from the board\n";
+    let said = "does not read back: chip 0, address 8: 8001 in the chip, C001 from the board\n\
+        not well wired: GPIO 30 is a candidate of socket pin 24 and socket pin 25\n";
     assert_eq!(folder.refused(&["slot.txt", "chip.bin"]), said);
 }
 
