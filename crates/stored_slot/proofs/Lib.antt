@@ -1,3 +1,2 @@
 pub mod Listed
-pub mod Counted
 pub mod Whole

@@ -1,4 +1,4 @@
-// The ROMs: where their maps lead, how many words each has, and what a ROM is refused for.
+// The ROMs: where their maps lead, and what a ROM is refused for.
 use crate::stored::Rom;
 use crate::stored::StoredSlot;
 use crate::window::addr_base;
@@ -11,14 +11,13 @@ use refusal::first::fault_if;
 use refusal::first::or_else;
 ghost use mathlib.Core.Path.{_≡_};
 ghost use mathlib.Core.Bool.{cond, not, _&&_};
-ghost use Prim.Native.Nat.{_+_, _*_, _^_, _≤_, _<_, min};
+ghost use Prim.Native.Nat.{_+_, _≤_, _<_};
 ghost use lib.Dec.{eqb};
 ghost use lib.ListN.{getD};
 ghost use Rattle.lists.specs.Each.{each};
 ghost use Rattle.refusal.specs.First.{firstOf};
 ghost use Rattle.stored_slot.specs.Stored.{romAt, mapLines, within};
 ghost use Rattle.stored_slot.specs.Faults.{romFault};
-ghost use Rattle.stored_slot.specs.Words.{romWords, wordsBefore};
 
 // ROM k; past the last a ROM without map and size.
 pub fn rom_at(s: StoredSlot, k: u8) -> Rom
@@ -109,39 +108,4 @@ pub fn first_fault(s: StoredSlot) -> FirstFault
         k += 1;
     }
     fault
-}
-
-// The lower of two numbers.
-fn lower(a: u64, b: u64) -> u64
-    ensures { λ r. ⌜ r ≡ min a b ⌝ }
-{
-    if a < b {
-        return a;
-    }
-    b
-}
-
-// How many words of ROM k are served: those that it has, as far as its lines reach.
-pub fn rom_words(s: StoredSlot, k: u8) -> u64
-    ensures { λ r. ⌜ r ≡ romWords s k ⌝ }
-    ensures { λ r. ⌜ r ≤ 2 ^ 32 ⌝ }
-{
-    let rom = rom_at(s, k);
-    let gpios = rom.addr;
-    let reached = 1u64 << listed(gpios);
-    lower(rom.chip_size as u64 / word_bytes(s) as u64, reached)
-}
-
-// The words of the ROMs before ROM n.
-pub fn words_before(s: StoredSlot, n: u8) -> u64
-    ensures { λ r. ⌜ r ≡ wordsBefore s n ⌝ }
-    ensures { λ r. ⌜ r ≤ n * 2 ^ 32 ⌝ }
-{
-    let mut words: u64 = 0;
-    let mut k: u8 = 0;
-    while k < n {
-        words = words + rom_words(s, k);
-        k += 1;
-    }
-    words
 }

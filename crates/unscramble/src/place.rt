@@ -3,7 +3,7 @@ use entry_words::Outcome;
 use lists::array::one_if;
 use refusal::Refusal;
 use refusal::first::FirstFault;
-use stored_slot::roms::words_before;
+use rom_words::words_before;
 use stored_slot::stored::StoredSlot;
 ghost use mathlib.Core.Path.{_≡_};
 ghost use Rattle.unscramble.specs.design.Place.{wordRom, wordAddress, outcomeFault};

@@ -4,10 +4,10 @@ use Prim.Native.Nat.{_≤_, _-_, _*_, _^_}
 use native.Mathlib.Omega.{arith}
 use borrow.Author.Needs.{needs}
 use Rattle.lists.proofs.Loops.{at-count}
 use Rattle.stored_slot.specs.Words.{wordsBefore}
-use Rattle.stored_slot.proofs.Counted.{words-none, words-turn}
-use Rattle.stored_slot.proofs.roms.words_before.Statement.{statement}
-use Rattle.stored_slot.proofs.roms.words_before.Tie as tie
+use Rattle.rom_words.proofs.Counted.{words-none, words-turn}
+use Rattle.rom_words.proofs.words_before.Statement.{statement}
+use Rattle.rom_words.proofs.words_before.Tie as tie
 
 abbrev Inv-loop : tie.InvT-loop
 Inv-loop s n words₀ k₀ words k = (k ≤ n) × (words ≡ wordsBefore s k) × (words ≤ k * 2 ^ 32)

@@ -3,8 +3,8 @@ use native.Mathlib.Omega.{arith}
 use lib.Pow.{pow-mono}
 use borrow.Author.Needs.{needs}
 use Rattle.lists.proofs.Shifts.{shifted-one}
-use Rattle.stored_slot.proofs.roms.rom_words.Statement.{statement}
-use Rattle.stored_slot.proofs.roms.rom_words.Tie as tie
+use Rattle.rom_words.proofs.rom_words.Statement.{statement}
+use Rattle.rom_words.proofs.rom_words.Tie as tie
 
 returns : tie.Need-returns
 returns c =
