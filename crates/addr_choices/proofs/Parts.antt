@@ -1,26 +1,18 @@
 -- The two parts of a choice number span what the number spans. Assumes nothing.
-use mathlib.Core.Path.{_≡_, refl, sym}
+use mathlib.Core.Path.{_≡_, sym}
 use mathlib.Core.Bool.{true, false}
 use mathlib.Core.List.{List}
 use Prim.Native.Nat.{ℕ, zero, suc, _+_, _*_, _^_, _<_}
-use native.Mathlib.Omega.{arith}
 use lib.Dec.{ltb}
-use borrow.Author.Tests.{le-ltb, ltb-true, ltb-false}
+use borrow.Author.Tests.{ltb-true, ltb-false}
 use Rattle.gpio.specs.design.Span.{spansJoined}
 use Rattle.addr_choices.specs.declared.Spanning.{Spanning}
-use Rattle.lists.proofs.Bools.{and-true}
 use Rattle.gpio.proofs.Spans.{joined-turn, joined-same}
 use Rattle.listing.specs.Choice.{gpioAt, bitOf}
 use Rattle.listing.specs.declared.Listed.{Listed}
 use Rattle.listing.proofs.Parts.{gpio-low, gpio-high}
 use Rattle.addr_choices.specs.Choices.{spanned, spanUpTo}
 use Rattle.addr_choices.specs.design.Parts.{spanPartAt}
-
--- every bit is at or past 0
-pub part-all : (ls : List Listed) (f : Spanning) (c k : ℕ) → spanPartAt ls f false 0 c k ≡ spanUpTo ls f c k
-unfolding spanPartAt spanUpTo
-part-all ls f c zero = refl
-part-all ls f c (suc k) = rw (le-ltb (bitOf ls k) 0 (omega arith), and-true (spanned f k), part-all ls f c k)
 
 module _ (ls : List Listed) (f : Spanning) (b s q : ℕ) (h : q < 2 ^ s) where
   pub parts-join : (k : ℕ) → spanUpTo ls f (b * 2 ^ s + q) k ≡ spansJoined (spanPartAt ls f true s q k) (spanPartAt ls f false s (b * 2 ^ s) k)

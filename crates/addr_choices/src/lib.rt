@@ -76,14 +76,6 @@ fn part_span(l: Listing, every: Spanning, low: bool, split: u32, choice: u32) ->
     s
 }
 
-// The GPIOs that a choice spans.
-pub fn span_of(l: Listing, every: Spanning, choice: u32) -> Span
-    requires { ⌜ l .count ≤ 30 ⌝ }
-    ensures { λ r. ⌜ r ≡ choiceSpan (listOf l) every choice ⌝ }
-{
-    part_span(l, every, false, 0, choice)
-}
-
 fn width(s: Span) -> u32
     ensures { λ r. ⌜ r ≡ spanWidth s ⌝ }
 {
