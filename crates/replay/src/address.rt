@@ -1,8 +1,8 @@
 // Kind 5: the address search, by the call that a bench makes. The case has the bytes of the description record.
-use case_list::answer::returned;
-use case_list::case::has_bytes;
-use case_list::case::record_bytes;
-use case_list::layouts::put_addr_layout;
+use crate::answer::returned;
+use crate::case::has_bytes;
+use crate::case::record_bytes;
+use crate::layouts::put_addr_layout;
 use onerom::onerom_derive_addr_layout;
 
 pub(crate) fn answer(case: &[u64], ours: &mut [u64]) -> usize {

@@ -1,15 +1,15 @@
 // Kind 7: the build, by the call that a bench makes. The case has the bytes of the description record, both layouts, the images and
 // the lent table's length.
-use case_list::answer::put;
-use case_list::answer::returned;
-use case_list::case::byte_at;
-use case_list::case::number_at;
-use case_list::case::record_bytes;
-use case_list::images::checksum;
-use case_list::images::fill;
-use case_list::images::span_bytes;
-use case_list::layouts::addr_bytes;
-use case_list::layouts::select_bytes;
+use crate::answer::put;
+use crate::answer::returned;
+use crate::case::byte_at;
+use crate::case::number_at;
+use crate::case::record_bytes;
+use crate::images::checksum;
+use crate::images::fill;
+use crate::images::span_bytes;
+use crate::layouts::addr_bytes;
+use crate::layouts::select_bytes;
 use onerom::onerom_build_rom_image;
 
 fn put_table(ours: &mut [u64], begun: usize, table: &[u8]) -> usize {

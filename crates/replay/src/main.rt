@@ -1,12 +1,21 @@
 // The oracle's fixed list, replayed: each case on standard input is run through this repository's functions, and every
 // number of their answer is held against the answer that stands beside the case. docs/CASES.md has the language.
+mod answer; // the numbers of an answer: written, and compared
+mod case; // the numbers of a case
+mod line; // a line of the list, from bytes to numbers
 mod verdict; // a line judged, by its kind
 mod tally; // the verdicts, counted and written
+mod window; // kind 1
+mod offset; // kind 2
+mod preference; // kind 3
+mod multi; // kind 4
 mod address; // kind 5
 mod select; // kind 6
 mod build; // kind 7
+mod images; // its images, and the checksum of its table
+mod layouts; // the numbers of both layouts
 
-use case_list::line::Line;
+use crate::line::Line;
 use libc::STDIN_FILENO;
 use say::say;
 ghost use Prim.Native.Nat.{_<_};

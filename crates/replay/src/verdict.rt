@@ -1,14 +1,14 @@
 // A line of the list, judged: its case is run by its kind, and our answer compared with the one beside it.
 use crate::address;
+use crate::answer;
 use crate::build;
+use crate::case::number_at;
+use crate::line::Line;
+use crate::multi;
+use crate::offset;
+use crate::preference;
 use crate::select;
-use case_list::answer;
-use case_list::case::number_at;
-use case_list::line::Line;
-use case_list::multi;
-use case_list::offset;
-use case_list::preference;
-use case_list::window;
+use crate::window;
 
 // The kind goes with the verdict. A line that holds no case of a known kind is unread.
 pub enum Verdict {
