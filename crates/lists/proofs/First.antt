@@ -1,5 +1,5 @@
 -- The first that passes: what it is, that it is one, and what it does not depend on. Assumes nothing.
-use mathlib.Core.Path.{_≡_, refl}
+use mathlib.Core.Path.{_≡_, refl, sym}
 use mathlib.Core.Bool.{Bool, true, false, cond}
 use mathlib.Core.Logic.{inl, inr}
 use Prim.Native.Nat.{ℕ, zero, suc, _≤_, _<_}
@@ -73,6 +73,14 @@ module _ (p : ℕ → Bool) where
   pub first-stays : (m n : ℕ) → firstWhere m p < m → firstWhere m p < n → firstWhere n p ≡ firstWhere m p
   first-stays m n l h =
       first-one n (firstWhere m p) (record { within = omega arith; passes = λ q. first-passes m l; before = first-before m })
+
+-- a loop that looks for the first: none before k passes, and k does, or is past the last
+module _ (p : ℕ → Bool) (n k : ℕ) (before : (j : ℕ) → j < k → p j ≡ false) where
+  pub first-here : k < n → p k ≡ true → k ≡ firstWhere n p
+  first-here l e = sym (first-one p n k (record { within = omega arith; passes = λ q. e; before = before }))
+
+  pub first-nowhere : n ≤ k → n ≡ firstWhere n p
+  first-nowhere h = sym (first-one p n n (record { within = omega arith; passes = λ q. absurd (omega arith); before = λ j q. before j (omega arith) }))
 
 -- tests that agree below the count
 pub first-cong : (n : ℕ) (p q : ℕ → Bool) → ((k : ℕ) → k < n → p k ≡ q k) → firstWhere n p ≡ firstWhere n q

@@ -7,10 +7,15 @@ use rom_turns::Rom;
 ghost use mathlib.Core.Path.{_≡_};
 ghost use mathlib.Core.Bool.{true};
 ghost use Prim.Native.Nat.{_+_, _≤_, _<_, _^_};
+ghost use lib.Dec.{eqb};
+ghost use lib.ListN.{getD};
+ghost use Rattle.lists.specs.First.{firstWhere};
 ghost use Rattle.rom_entries.specs.design.Suits.{Only, Suits, romOf};
 
-// A value of the bits that pick, of so many, that picks a place. Where there is none, `only` refuses the answer.
-pub fn bits_for(roms: [u8; 8], n: u8, k: u8) -> u8 {
+// The lowest value of the bits that pick, of n, that picks place k; n where none does, which `only` refuses.
+pub fn bits_for(roms: [u8; 8], n: u8, k: u8) -> u8
+    ensures { λ r. ⌜ r ≡ firstWhere n (λ j. eqb (getD roms j 0) k) ⌝ }
+{
     let mut j: u8 = 0;
     while j < n {
         if entry(&roms, j as usize) == k {
@@ -18,7 +23,7 @@ pub fn bits_for(roms: [u8; 8], n: u8, k: u8) -> u8 {
         }
         j += 1;
     }
-    0
+    n
 }
 
 // Whether that value picks it, and no other does.

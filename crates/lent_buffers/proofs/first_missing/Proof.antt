@@ -1,7 +1,6 @@
 -- `first_missing` meets its contract. The loop's invariant: the words before f have a mark. Assumes nothing.
-use mathlib.Core.Path.{_≡_, sym}
-use mathlib.Core.Bool.{Bool, false}
-use mathlib.Core.List.{List}
+use mathlib.Core.Path.{_≡_}
+use mathlib.Core.Bool.{false}
 use Prim.Native.Nat.{ℕ, _-_, _≤_, _<_}
 use native.Mathlib.Omega.{arith}
 use lib.Dec.{eqb}
@@ -9,20 +8,9 @@ use lib.ListN.{getD}
 use borrow.Author.Count.{below-more}
 use borrow.Author.Needs.{needs}
 use borrow.Author.Tests.{eq-eqb, ne-eqb}
-use Rattle.lists.specs.First.{firstWhere}
-use Rattle.lists.proofs.First.{first-one}
+use Rattle.lists.proofs.First.{first-here, first-nowhere}
 use Rattle.lent_buffers.proofs.first_missing.Statement.{statement}
 use Rattle.lent_buffers.proofs.first_missing.Tie as tie
-
-module _ (marks : List ℕ) (words f : ℕ) (before : (k : ℕ) → k < f → eqb (getD marks k 0) 0 ≡ false) where
-  abbrev none : ℕ → Bool
-  none k = eqb (getD marks k 0) 0
-
-  found : f < words → getD marks f 0 ≡ 0 → f ≡ firstWhere words none
-  found l e = sym (first-one none words f (record { within = omega arith; passes = λ q. eq-eqb (getD marks f 0) 0 e; before = before }))
-
-  all : f ≤ words → words ≤ f → words ≡ firstWhere words none
-  all l h = sym (first-one none words words (record { within = omega arith; passes = λ q. absurd (omega arith); before = λ k q. before k (omega arith) }))
 
 abbrev Inv-loop : tie.InvT-loop
 Inv-loop marks words f₀ f = (f ≤ words) × ((k : ℕ) → k < f → eqb (getD marks k 0) 0 ≡ false)
@@ -34,13 +22,13 @@ loop-holds : tie.Need-loop-holds Inv-loop μ-loop
 loop-holds c = (omega arith, λ k q. absurd (omega arith))
 
 returns : tie.Need-returns Inv-loop μ-loop
-returns c = found (c .before .before .before .before .args .marks .now) _ _ (c .before .before .before .loop .inv .1) (omega arith) (c .if1 .taken)
+returns c = first-here _ _ _ (c .before .before .before .loop .inv .1) (omega arith) (eq-eqb _ _ (c .if1 .taken))
 
 loop-again : tie.Need-loop-again Inv-loop μ-loop
 loop-again c = (omega arith, below-more _ _ (c .before .before .before .loop .inv .1) (ne-eqb _ _ (c .if1 .left)))
 
 returns-2 : tie.Need-returns-2 Inv-loop μ-loop
-returns-2 c = all (c .before .before .args .marks .now) _ _ (c .before .loop .inv .1) (omega arith) (omega arith)
+returns-2 c = first-nowhere _ _ _ (c .before .loop .inv .1) (omega arith)
 
 pub first-missing-spec : {M : Type 1} → statement M
 first-missing-spec =
