@@ -1,5 +1,5 @@
 // The images of a case, and the checksum of bytes.
-use crate::case::number_at;
+use case_numbers::case::number_at;
 use lists::array::one_if;
 use std::num::wrapping_add_u64;
 ghost use Prim.Native.Nat.{_≤_, _<_};
@@ -40,7 +40,7 @@ fn span_byte(case: &[u64], j: usize) -> u8
 }
 
 // The record of the spans.
-pub fn span_bytes(case: &[u64]) -> [u8; 48] {
+pub(crate) fn span_bytes(case: &[u64]) -> [u8; 48] {
     let mut out = [0u8; 48];
     let mut j: usize = 0;
     while j < 48 {
@@ -73,7 +73,7 @@ fn fill_one(images: &mut [u8], start: usize, seed: u64)
 }
 
 // Writes the images; whether they have room.
-pub fn fill(case: &[u64], images: &mut [u8]) -> bool {
+pub(crate) fn fill(case: &[u64], images: &mut [u8]) -> bool {
     let mut ok = true;
     let mut k: usize = 0;
     while k < 4 {
@@ -95,7 +95,7 @@ fn times_prime(x: u64) -> u64 {
 }
 
 // FNV-1a.
-pub fn checksum(bytes: &[u8]) -> u64 {
+pub(crate) fn checksum(bytes: &[u8]) -> u64 {
     let mut sum: u64 = 14695981039346656037;
     let mut k: usize = 0;
     while k < bytes.len() {

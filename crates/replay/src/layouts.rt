@@ -1,6 +1,6 @@
 // The layouts of a case, and of an answer: the numbers of their records in another order, without the places that are kept.
-use crate::answer::put;
-use crate::case::byte_at;
+use case_numbers::answer::put;
+use case_numbers::case::byte_at;
 ghost use Prim.Native.Nat.{_≤_, _<_};
 
 // The record's place of an address layout's number j.
@@ -32,7 +32,7 @@ fn select_place(j: usize) -> usize
 }
 
 // The bytes of the address layout whose first number stands at a place of the case.
-pub fn addr_bytes(case: &[u64], at: usize) -> [u8; 36]
+pub(crate) fn addr_bytes(case: &[u64], at: usize) -> [u8; 36]
     requires { ⌜ at ≤ 1000 ⌝ }
 {
     let mut out = [0u8; 36];
@@ -45,7 +45,7 @@ pub fn addr_bytes(case: &[u64], at: usize) -> [u8; 36]
 }
 
 // The bytes of the select layout whose first number stands at a place of the case.
-pub fn select_bytes(case: &[u64], at: usize) -> [u8; 100]
+pub(crate) fn select_bytes(case: &[u64], at: usize) -> [u8; 100]
     requires { ⌜ at ≤ 1000 ⌝ }
 {
     let mut out = [0u8; 100];
@@ -57,7 +57,7 @@ pub fn select_bytes(case: &[u64], at: usize) -> [u8; 100]
     out
 }
 
-pub fn put_addr_layout(ours: &mut [u64], at: usize, layout: [u8; 36]) -> usize {
+pub(crate) fn put_addr_layout(ours: &mut [u64], at: usize, layout: [u8; 36]) -> usize {
     let mut end = at;
     let mut j: usize = 0;
     while j < 30 {
@@ -67,7 +67,7 @@ pub fn put_addr_layout(ours: &mut [u64], at: usize, layout: [u8; 36]) -> usize {
     end
 }
 
-pub fn put_select_layout(ours: &mut [u64], at: usize, layout: [u8; 100]) -> usize {
+pub(crate) fn put_select_layout(ours: &mut [u64], at: usize, layout: [u8; 100]) -> usize {
     let mut end = at;
     let mut j: usize = 0;
     while j < 100 {

@@ -30,16 +30,16 @@ impl Line {
         }
     }
 
-    pub fn first() -> Line {
+    pub(crate) fn first() -> Line {
         Line::at(1)
     }
 
-    pub fn next(self) -> Line {
+    pub(crate) fn next(self) -> Line {
         Line::at(wrapping_add_u64(self.place, 1))
     }
 
     // Whether anything of the line has come.
-    pub fn begun(self) -> bool {
+    pub(crate) fn begun(self) -> bool {
         self.open | (0 < self.count) | self.parted | self.spoiled
     }
 
@@ -61,7 +61,7 @@ impl Line {
     }
 
     // The number that was being read goes to the buffer.
-    pub fn closed(mut self, numbers: &mut [u64]) -> Line {
+    pub(crate) fn closed(mut self, numbers: &mut [u64]) -> Line {
         if !self.open {
             return self;
         }
@@ -87,7 +87,7 @@ impl Line {
     }
 
     // The line with one byte more, which does not end it.
-    pub fn taken(self, b: u8, numbers: &mut [u64]) -> Line {
+    pub(crate) fn taken(self, b: u8, numbers: &mut [u64]) -> Line {
         if b == b' ' {
             return self.closed(numbers);
         }

@@ -1,7 +1,5 @@
 // The oracle's fixed list, replayed: each case on standard input is run through this repository's functions, and every
 // number of their answer is held against the answer that stands beside the case. docs/CASES.md has the language.
-mod answer; // the numbers of an answer: written, and compared
-mod case; // the numbers of a case
 mod line; // a line of the list, from bytes to numbers
 mod verdict; // a line judged, by its kind
 mod tally; // the verdicts, counted and written

@@ -1,11 +1,11 @@
 // Kind 4: the select configuration of a Multi set. The case has kinds and no pins, so every line has pin 1: the call
 // asks of a pin only that it is 1 to 40.
-use crate::answer::put;
-use crate::answer::put_bytes;
-use crate::answer::refused;
-use crate::answer::success;
-use crate::case::byte_at;
-use crate::case::has_bytes;
+use case_numbers::answer::put;
+use case_numbers::answer::put_bytes;
+use case_numbers::answer::refused;
+use case_numbers::answer::success;
+use case_numbers::case::byte_at;
+use case_numbers::case::has_bytes;
 use multi_select::MultiOutcome;
 use multi_select::derive_multi_cs_config;
 use slot::description::ControlLine;
@@ -112,7 +112,7 @@ fn put_config(case: &[u64], ours: &mut [u64], config: MultiCsConfig) -> usize {
     put_kinds(ours, listed, ignored)
 }
 
-pub fn answer(case: &[u64], ours: &mut [u64]) -> usize {
+pub(crate) fn answer(case: &[u64], ours: &mut [u64]) -> usize {
     if !has_bytes(case, 24) | (8 < byte_at(case, 1)) {
         return 0;
     }

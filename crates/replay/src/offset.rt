@@ -1,9 +1,9 @@
 // Kind 2: the offset of a chip's pins in the socket.
-use crate::answer::put;
-use crate::answer::refused;
-use crate::answer::success;
-use crate::case::byte_at;
-use crate::case::has_bytes;
+use case_numbers::answer::put;
+use case_numbers::answer::refused;
+use case_numbers::answer::success;
+use case_numbers::case::byte_at;
+use case_numbers::case::has_bytes;
 use slot::slot_context::OffsetAnswer;
 use slot::slot_context::raised;
 use slot::slot_context::socket_pin_offset;
@@ -13,7 +13,7 @@ fn as_byte(offset: i8) -> u64 {
     (raised(offset) as u64 + 252) % 256
 }
 
-pub fn answer(case: &[u64], ours: &mut [u64]) -> usize {
+pub(crate) fn answer(case: &[u64], ours: &mut [u64]) -> usize {
     if !has_bytes(case, 3) {
         return 0;
     }

@@ -1,11 +1,11 @@
 // Kind 6: the select search, by the call that a bench makes. The case has whether an address layout is given, the bytes of the
 // description record, and the address layout.
-use crate::answer::returned;
-use crate::case::byte_at;
-use crate::case::has_bytes;
-use crate::case::record_bytes;
 use crate::layouts::addr_bytes;
 use crate::layouts::put_select_layout;
+use case_numbers::answer::returned;
+use case_numbers::case::byte_at;
+use case_numbers::case::has_bytes;
+use case_numbers::case::record_bytes;
 use onerom::onerom_derive_cs_data_layout;
 ghost use Prim.Native.Nat.{_≤_};
 

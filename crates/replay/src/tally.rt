@@ -1,7 +1,7 @@
 // The verdicts, counted by kind and written. Place k of `cases` counts the cases of kind k, place 0 the lines unread;
 // place k of `differ` the cases of kind k whose answer differs, place 0 all of them.
-use crate::case::number_at;
 use crate::verdict::Verdict;
+use case_numbers::case::number_at;
 use say::say;
 use say::say_number;
 use std::num::wrapping_add_u64;

@@ -1,14 +1,14 @@
 // A line of the list, judged: its case is run by its kind, and our answer compared with the one beside it.
 use crate::address;
-use crate::answer;
 use crate::build;
-use crate::case::number_at;
 use crate::line::Line;
 use crate::multi;
 use crate::offset;
 use crate::preference;
 use crate::select;
 use crate::window;
+use case_numbers::answer;
+use case_numbers::case::number_at;
 
 // The kind goes with the verdict. A line that holds no case of a known kind is unread.
 pub enum Verdict {

@@ -1,12 +1,12 @@
 // Kind 1: whether a run of GPIOs lies in one window.
-use crate::answer::bit;
-use crate::answer::put;
-use crate::answer::success;
-use crate::case::byte_at;
-use crate::case::has_bytes;
+use case_numbers::answer::bit;
+use case_numbers::answer::put;
+use case_numbers::answer::success;
+use case_numbers::case::byte_at;
+use case_numbers::case::has_bytes;
 use gpio::window::Window;
 
-pub fn answer(case: &[u64], ours: &mut [u64]) -> usize {
+pub(crate) fn answer(case: &[u64], ours: &mut [u64]) -> usize {
     if !has_bytes(case, 3) {
         return 0;
     }

@@ -1,0 +1,2 @@
+-- Proof laws of this crate.
+pub mod Turns
