@@ -1,4 +1,4 @@
--- Each refusal of the select search has a place of 48 bits. Assumes nothing.
+-- Each refusal of the select search is one of document 01's rows, with a place of 48 bits. Assumes nothing.
 use mathlib.Core.Path.{_≡_, refl}
 use mathlib.Core.Bool.{Bool, true, false, not, _&&_, cond}
 use mathlib.Core.List.{List, [], _∷_, _++_}
@@ -17,7 +17,7 @@ use Rattle.slot.specs.declared.description.Description.{Description}
 use Rattle.refusal.specs.declared.Refusal.the-variants.{OutOfDomain, NoSelectLine, MissingAddrPinGpios, RomTooLargeNoCsConfig, InteriorIgnoredLine}
 use Rattle.refusal.specs.declared.first.FirstFault.{FirstFault}
 use Rattle.refusal.specs.declared.first.FirstFault.the-variants.{None, Of}
-use Rattle.refusal.proofs.Places.{SmallPlace, Small, small-or, small-test}
+use Rattle.refusal.proofs.Places.{FirstRows, FirstRow, Small, small-or, small-test}
 use Rattle.domain.specs.Domain.{descriptionIn}
 use Rattle.domain.proofs.Bounds.{chip0-in}
 use Rattle.control.specs.CsConfig.{ignores}
@@ -55,7 +55,7 @@ no-active-placed [] p = placed-one (listed Absent NoSelectLine) (omega arith)
 no-active-placed (l ∷ ls) p = p
 
 module _ (d : Description) (e : descriptionIn d ≡ true) where
-  pin-placed : (pin : ℕ) → pin ≤ 40 → SmallPlace (pinListed d pin .fault)
+  pin-placed : (pin : ℕ) → pin ≤ 40 → FirstRow (pinListed d pin .fault)
   unfolding pinListed
   pin-placed pin l = omega arith
 
@@ -71,11 +71,11 @@ module _ (d : Description) (e : descriptionIn d ≡ true) where
       most-of (eqb (kindAt (chip0 d .control) k) kind) (lineAt (chip0 d .control) k .pin) (pinOf (chip0 d .control) kind k)
       (chip0-in d e .control-pin k l) (kind-most kind k (omega arith))
 
-  no-line-placed : (t : Bool) (pin : ℕ) → pin ≤ 40 → SmallPlace (cond t (listed Absent NoSelectLine) (pinListed d pin) .fault)
+  no-line-placed : (t : Bool) (pin : ℕ) → pin ≤ 40 → FirstRow (cond t (listed Absent NoSelectLine) (pinListed d pin) .fault)
   no-line-placed true pin l = omega arith
   no-line-placed false pin l = pin-placed pin l
 
-  kind-placed : (kind : ℕ) → SmallPlace (kindListed d kind .fault)
+  kind-placed : (kind : ℕ) → FirstRow (kindListed d kind .fault)
   unfolding kindListed
   kind-placed kind = no-line-placed (eqb (kindPin d kind) 0) (kindPin d kind) (kind-most kind (chip0 d .control .count) (omega arith))
 
@@ -138,7 +138,7 @@ small-interior ignored (Fits score) = tt
 
 small-refused : (v : Verdict) → GapIn v → Small (refusedOf v)
 small-refused DataGap h = tt
-small-refused (SelectGap s) h = h
+small-refused (SelectGap s) h = omega arith
 small-refused OutsideWindow h = tt
 small-refused (Fits score) h = tt
 
@@ -176,28 +176,28 @@ module _ (d : Description) (a : GivenLayout) (search-in : csSearchIn d ≡ true)
       gap-in (gapless ds) (selectable (isMulti (d .«set_type»)) ss) (inOneWindow (allOf ds ss q)) (scoreOf ss q (allOf ds ss q)) ss
       (or-lt 48 (setOf (length ls - n) (λ k. gpioAt ls c (n + k))) (excessSet (handed a)) pins excess)
 
-  none-place : (f : FirstFault) → Small f → csDataCode (orNoLayout f .outcome) .place < 2 ^ 48
+  none-place : (f : FirstFault) → Small f → FirstRows (csDataCode (orNoLayout f .outcome))
   none-place (Of why) h = h
   none-place None h = omega arith
 
-  found-place : (x : Found) → csDataCode (csDataAnswerOf d (handed a) x .outcome) .place < 2 ^ 48
+  found-place : (x : Found) → FirstRows (csDataCode (csDataAnswerOf d (handed a) x .outcome))
   unfolding noneFits
   found-place Nothing =
       let n = 2 ^ twos (numbered d) in
       none-place (nothingFits (ignoredSet d) (csVerdict d (handed a)) n) (small-nothing (ignoredSet d) (csVerdict d (handed a)) verdict-in n)
   found-place (At c s) = omega arith
 
-  after-place : (f : FirstFault) → Small f → csDataCode (afterEarlier d (handed a) f .outcome) .place < 2 ^ 48
+  after-place : (f : FirstFault) → Small f → FirstRows (csDataCode (afterEarlier d (handed a) f .outcome))
   after-place (Of why) h = h
   after-place None h = found-place (csBest d (handed a))
 
 module _ (d : Description) (a : GivenLayout) where
   in-place : (t : Bool) → csSearchIn d && givenIn d a ≡ t
-      → csDataCode (cond t (afterEarlier d (handed a) (earlier d a)) (csDataRefused OutOfDomain) .outcome) .place < 2 ^ 48
+      → FirstRows (csDataCode (cond t (afterEarlier d (handed a) (earlier d a)) (csDataRefused OutOfDomain) .outcome))
   in-place true e =
       let search-in = and-left (csSearchIn d) (givenIn d a) e in
       after-place d a search-in (and-right (csSearchIn d) (givenIn d a) e) (earlier d a) (small-earlier d (described d search-in) a)
   in-place false e = omega arith
 
-  pub cs-data-place : csDataCode (csDataAnswer d a .outcome) .place < 2 ^ 48
+  pub cs-data-place : FirstRows (csDataCode (csDataAnswer d a .outcome))
   cs-data-place = in-place (csSearchIn d && givenIn d a) refl

@@ -3,14 +3,14 @@ use mathlib.Core.Path.{_≡_, refl, sym, _∙_, ap}
 use mathlib.Core.Bool.{Bool, true, false, not, _&&_, cond}
 use mathlib.Core.List.{List, _++_}
 use mathlib.Core.Logic.{_⊎_, inl, inr}
-use Prim.Native.Nat.{ℕ, zero, suc, _^_, _/_}
+use Prim.Native.Nat.{ℕ, zero, suc, _^_, _/_, _≤_}
 use native.Mathlib.Omega.{arith}
 use lib.Dec.{ltb, eqb}
 use lib.ListN.{length, drop}
 use Rattle.slot.specs.declared.description.ChipSetType.{ChipSetType}
 use Rattle.slot.specs.declared.description.Description.{Description}
 use Rattle.refusal.specs.First.{orElse, faultIf, firstOf}
-use Rattle.refusal.specs.Refusal.{numberOf, refusalCode}
+use Rattle.refusal.specs.Refusal.{numberOf, refusalCode, answerCode}
 use Rattle.refusal.specs.declared.Refusal.{Refusal}
 use Rattle.refusal.specs.declared.Refusal.the-variants.{OutOfDomain, ShortBuffer, WrongSize, UnknownSlotType, Inconsistent, Unserved}
 use Rattle.refusal.specs.declared.Answer.{Answer}
@@ -44,8 +44,9 @@ use Rattle.stored_slot.specs.declared.stored.StoredSlot.{StoredSlot}
 use Rattle.stored_slot.specs.declared.stored.SlotType.{SlotType}
 use Rattle.stored_slot.specs.declared.stored.SlotType.the-variants.{Unknown, Plugin, Roms}
 use Rattle.unscramble.specs.Recovered.{firstFor, keptValue, disagreesFor, inconsistent, unserved, readBack, readRefused, front, afterEntries, readAfter, ofType, unscrambled}
-use Rattle.calls.specs.Packed.{packed, packedCode}
-use Rattle.calls.specs.Calls.{Answered, answered, callRefused, written, ifDescribed, ifRecord, addrOutcome, addrFound, addrCall, csDataOutcome, csDataFound, csDataCall, buildFrom, buildFormed, buildRefused, buildCall, readBackCall, searchResult, buildResult, readResult}
+use Rattle.calls.specs.Packed.{packed, packedCode, resultOf}
+use Rattle.calls.specs.Calls.{Answered, answered, callRefused, written, ifDescribed, ifRecord, addrOutcome, addrFound, addrCall, csDataOutcome, csDataFound, csDataCall, buildFrom, buildFormed, buildRefused, buildCall, readBackCall, Returned, ReadReturned, searchResult, buildResult, readResult}
+use Rattle.calls.proofs.Law.{rows-law}
 use Rattle.demands.specs.Refused.{numberIn, FromTable, Ends, ReadEnds, FirstDemand}
 use Rattle.demands.specs.Refused as ends
 
@@ -53,17 +54,29 @@ pub number-of : (why : Refusal) → numberIn (packed why) ≡ numberOf why
 unfolding packedCode
 number-of why = omega arith
 
-from-table : (why : Refusal) → FromTable (packed why)
-from-table why = let n = number-law why in (rw (number-of why) (n .some), rw (number-of why) (n .most))
+-- the number of an answer is that of its result
+few : (a : Answer) → answerCode a .number ≤ 25 → numberIn (resultOf a) ≤ 25
+unfolding packedCode
+few a h = omega arith
+
+from-table : (why : Refusal) → numberIn (packed why) ≤ 25 → FromTable (packed why)
+from-table why h = (rw (number-of why) (number-law why .some), h)
+
+-- each call ends so if its number is one of document 01's rows; that it is comes last, by the law of the calls
+abbrev EndsSo : List ℕ → Returned → Type 0
+EndsSo lent r = numberIn (r .result) ≤ 25 → Ends lent r
+
+abbrev ReadEndsSo : StoredSlot → List ℕ → List ℕ → ReadReturned → Type 0
+ReadEndsSo s output marks r = numberIn (r .result) ≤ 25 → ReadEnds s output marks r
 
 -- a refusal leaves the buffer
-stays : (why : Refusal) (buffer : List ℕ) → Ends buffer (searchResult (callRefused why buffer))
-stays why buffer = ends.Ends.refused (from-table why) refl
+stays : (why : Refusal) (buffer : List ℕ) → EndsSo buffer (searchResult (callRefused why buffer))
+stays why buffer h = ends.Ends.refused (from-table why h) refl
 
-written-ends : (bytes buffer : List ℕ) (size : ℕ) (t : Bool) → Ends buffer (searchResult (cond t (callRefused ShortBuffer buffer) (answered Done (bytes ++ drop size buffer))))
+written-ends : (bytes buffer : List ℕ) (size : ℕ) (t : Bool) → EndsSo buffer (searchResult (cond t (callRefused ShortBuffer buffer) (answered Done (bytes ++ drop size buffer))))
 unfolding packedCode
 written-ends bytes buffer size true = stays ShortBuffer buffer
-written-ends bytes buffer size false = ends.Ends.done refl
+written-ends bytes buffer size false = λ h. ends.Ends.done refl
 
 -- what is tested before ends so, and what it is tested for
 formed-ends : {A : Type 0} (Ok : A → Type 0) (t : Bool) (good bad : A) → Ok good → Ok bad → Ok (cond t good bad)
@@ -79,25 +92,25 @@ described-ends Ok f refuse h r description = by (decodedOf description .answer)
     by (Refused why) = r why
 
 -- the searches
-addr-ends : (o : AddrOutcome) (l : AddrLayout) (buffer : List ℕ) → Ends buffer (searchResult (addrOutcome o l buffer))
+addr-ends : (o : AddrOutcome) (l : AddrLayout) (buffer : List ℕ) → EndsSo buffer (searchResult (addrOutcome o l buffer))
 addr-ends AddrOutcome.LaidOut l buffer = written-ends (layoutBytes l) buffer addrSize (ltb (length buffer) addrSize)
 addr-ends (AddrOutcome.Refused why) l buffer = stays why buffer
 
-cs-data-ends : (o : CsDataOutcome) (l : CsDataLayout) (buffer : List ℕ) → Ends buffer (searchResult (csDataOutcome o l buffer))
+cs-data-ends : (o : CsDataOutcome) (l : CsDataLayout) (buffer : List ℕ) → EndsSo buffer (searchResult (csDataOutcome o l buffer))
 cs-data-ends CsDataOutcome.LaidOut l buffer = written-ends (csDataBytes l) buffer csDataSize (ltb (length buffer) csDataSize)
 cs-data-ends (CsDataOutcome.Refused why) l buffer = stays why buffer
 
 -- the build
-after-ends : (b : BuildArgs) (images table : List ℕ) (f : FirstFault) → Ends table (buildResult (buildAfter b images table f))
+after-ends : (b : BuildArgs) (images table : List ℕ) (f : FirstFault) → EndsSo table (buildResult (buildAfter b images table f))
 unfolding packedCode
 after-ends b images table (Of why) = stays why table
-after-ends b images table None = ends.Ends.done refl
+after-ends b images table None = λ h. ends.Ends.done refl
 
-build-ends : (b : BuildArgs) (images table : List ℕ) → Ends table (buildResult (buildOf b images table))
+build-ends : (b : BuildArgs) (images table : List ℕ) → EndsSo table (buildResult (buildOf b images table))
 unfolding buildOf
 build-ends b images table = by (buildIn b)
   where
-    by : (t : Bool) → Ends table (buildResult (cond t (buildAfter b images table (buildFault b images (length table))) (built (Refused OutOfDomain) table)))
+    by : (t : Bool) → EndsSo table (buildResult (cond t (buildAfter b images table (buildFault b images (length table))) (built (Refused OutOfDomain) table)))
     by true = after-ends b images table (buildFault b images (length table))
     by false = stays OutOfDomain table
 
@@ -120,8 +133,8 @@ told-first zero f h = tt
 told-first (suc n) f h = told-or (firstOf n f) (f n) (told-first n f h) (h n)
 
 module _ (s : StoredSlot) (stored output marks : List ℕ) where
-  read-stays : (why : Refusal) → ReadEnds s output marks (readResult (readRefused why output marks))
-  read-stays why = ends.ReadEnds.refused (from-table why) refl refl
+  read-stays : (why : Refusal) → ReadEndsSo s output marks (readResult (readRefused why output marks))
+  read-stays why h = ends.ReadEnds.refused (from-table why h) refl refl
 
   told-entries : (set : ChipSetType) → Told (orElse (inconsistent s set stored) (unserved s set))
   told-entries set =
@@ -135,38 +148,38 @@ module _ (s : StoredSlot) (stored output marks : List ℕ) where
           let n = addressAt s rom i in
           told-if (serves s set rom n i && not (eqb (valueAt s stored rom i) (keptValue s set stored rom n))) (Inconsistent rom n) (inl refl)
 
-  entries-end : (set : ChipSetType) (f : FirstFault) → Told f → ReadEnds s output marks (readResult (afterEntries s set stored output marks f))
+  entries-end : (set : ChipSetType) (f : FirstFault) → Told f → ReadEndsSo s output marks (readResult (afterEntries s set stored output marks f))
   unfolding packedCode
-  entries-end set None t = ends.ReadEnds.done refl
-  entries-end set (Of why) (inl e) = ends.ReadEnds.cleared (inl (number-of why ∙ e)) refl refl
-  entries-end set (Of why) (inr e) = ends.ReadEnds.cleared (inr (number-of why ∙ e)) refl refl
+  entries-end set None t h = ends.ReadEnds.done refl
+  entries-end set (Of why) (inl e) h = ends.ReadEnds.cleared (inl (number-of why ∙ e)) refl refl
+  entries-end set (Of why) (inr e) h = ends.ReadEnds.cleared (inr (number-of why ∙ e)) refl refl
 
-  roms-end : (set : ChipSetType) (f : FirstFault) → ReadEnds s output marks (readResult (readAfter s set stored output marks f))
+  roms-end : (set : ChipSetType) (f : FirstFault) → ReadEndsSo s output marks (readResult (readAfter s set stored output marks f))
   roms-end set (Of why) = read-stays why
   roms-end set None = entries-end set (orElse (inconsistent s set stored) (unserved s set)) (told-entries set)
 
-  plugin-end : (t : Bool) → ReadEnds s output marks (readResult (cond t (readRefused ShortBuffer output marks) (readBack Done (front stored output) marks)))
+  plugin-end : (t : Bool) → ReadEndsSo s output marks (readResult (cond t (readRefused ShortBuffer output marks) (readBack Done (front stored output) marks)))
   unfolding packedCode
   plugin-end true = read-stays ShortBuffer
-  plugin-end false = ends.ReadEnds.done refl
+  plugin-end false = λ h. ends.ReadEnds.done refl
 
-  type-end : (t : SlotType) → ReadEnds s output marks (readResult (ofType s stored output marks t))
+  type-end : (t : SlotType) → ReadEndsSo s output marks (readResult (ofType s stored output marks t))
   type-end Unknown = read-stays UnknownSlotType
   type-end Plugin = plugin-end (ltb (length output) (length stored))
   type-end (Roms set) = roms-end set (romsFault s set stored (length output) (length marks))
 
   tested-end : (in-domain wrong : Bool)
-      → ReadEnds s output marks (readResult (cond in-domain (cond wrong (readRefused WrongSize output marks) (ofType s stored output marks (s .«slot_type»))) (readRefused OutOfDomain output marks)))
+      → ReadEndsSo s output marks (readResult (cond in-domain (cond wrong (readRefused WrongSize output marks) (ofType s stored output marks (s .«slot_type»))) (readRefused OutOfDomain output marks)))
   tested-end false wrong = read-stays OutOfDomain
   tested-end true true = read-stays WrongSize
   tested-end true false = type-end (s .«slot_type»)
 
-  read-end : ReadEnds s output marks (readResult (unscrambled s stored output marks))
+  read-end : ReadEndsSo s output marks (readResult (unscrambled s stored output marks))
   unfolding unscrambled
   read-end = tested-end (storedIn s) (wrongSize s stored)
 
 formed-end : (t : Bool) (s : StoredSlot) (stored output marks : List ℕ)
-    → ReadEnds s output marks (readResult (cond t (unscrambled s stored output marks) (readRefused OutOfDomain output marks)))
+    → ReadEndsSo s output marks (readResult (cond t (unscrambled s stored output marks) (readRefused OutOfDomain output marks)))
 formed-end true s stored output marks = read-end s stored output marks
 formed-end false s stored output marks = read-stays s stored output marks OutOfDomain
 
@@ -174,18 +187,24 @@ pub first-demand : FirstDemand
 unfolding addrCall csDataCall buildCall readBackCall
 first-demand = record {
   address = λ description layout.
-      described-ends (λ x. Ends layout (searchResult x)) (λ d. addrFound (addrAnswer d) layout) (λ why. callRefused why layout)
-      (λ d. addr-ends (addrAnswer d .outcome) (addrAnswer d .layout) layout) (λ why. stays why layout) description;
+      described-ends (λ x. EndsSo layout (searchResult x)) (λ d. addrFound (addrAnswer d) layout) (λ why. callRefused why layout)
+      (λ d. addr-ends (addrAnswer d .outcome) (addrAnswer d .layout) layout) (λ why. stays why layout) description
+      (few (addrCall description layout .answer) (rows-law .addr description layout));
   select = λ description addr-layout layout.
       let given = givenAt addr-layout in
-      formed-ends (λ x. Ends layout (searchResult x)) (givenFormed addr-layout) _ _
-      (described-ends (λ x. Ends layout (searchResult x)) (λ d. csDataFound (csDataAnswer d given) layout) (λ why. callRefused why layout)
+      formed-ends (λ x. EndsSo layout (searchResult x)) (givenFormed addr-layout) _ _
+      (described-ends (λ x. EndsSo layout (searchResult x)) (λ d. csDataFound (csDataAnswer d given) layout) (λ why. callRefused why layout)
       (λ d. cs-data-ends (csDataAnswer d given .outcome) (csDataAnswer d given .layout) layout) (λ why. stays why layout) description)
-      (stays OutOfDomain layout);
+      (stays OutOfDomain layout)
+      (few (csDataCall description addr-layout layout .answer) (rows-law .cs-data description addr-layout layout));
   build = λ description addr-layout cs-data-layout spans images table.
-      formed-ends (λ x. Ends table (buildResult x)) (buildFormed addr-layout cs-data-layout spans) _ _
-      (described-ends (λ x. Ends table (buildResult x)) (λ d. buildFrom d addr-layout cs-data-layout spans images table) (λ why. buildRefused why table)
+      formed-ends (λ x. EndsSo table (buildResult x)) (buildFormed addr-layout cs-data-layout spans) _ _
+      (described-ends (λ x. EndsSo table (buildResult x)) (λ d. buildFrom d addr-layout cs-data-layout spans images table) (λ why. buildRefused why table)
       (λ d. build-ends (argsOf d (layoutAt addr-layout) (csDataAt cs-data-layout) (spansAt spans)) images table) (λ why. stays why table) description)
-      (stays OutOfDomain table);
-  read-back = λ slot stored output marks. formed-end (storedFormed slot) (storedAt slot) stored output marks;
+      (stays OutOfDomain table)
+      (few (buildCall description addr-layout cs-data-layout spans images table .answer)
+      (rows-law .build description addr-layout cs-data-layout spans images table));
+  read-back = λ slot stored output marks.
+      formed-end (storedFormed slot) (storedAt slot) stored output marks
+      (few (readBackCall slot stored output marks .answer) (rows-law .read-back slot stored output marks));
 }

@@ -34,6 +34,9 @@ use Rattle.refusal.specs.declared.Refusal.the-variants.{
   Inconsistent,
   Unserved,
   NoActiveLine,
+  BadRecord,
+  BadChecksum,
+  PastChip,
 }
 use Rattle.refusal.specs.declared.first.FirstFault.{FirstFault}
 use Rattle.refusal.specs.declared.first.FirstFault.the-variants.{None, Of}
@@ -95,3 +98,6 @@ number-law (XPin x) = record { some = omega arith; most = omega arith }
 number-law (Inconsistent rom addr) = record { some = omega arith; most = omega arith }
 number-law (Unserved rom addr) = record { some = omega arith; most = omega arith }
 number-law NoActiveLine = record { some = omega arith; most = omega arith }
+number-law BadRecord = record { some = omega arith; most = omega arith }
+number-law BadChecksum = record { some = omega arith; most = omega arith }
+number-law PastChip = record { some = omega arith; most = omega arith }

@@ -1,31 +1,41 @@
--- Faults whose places have 48 bits, as the one number that a refused call returns has room for. Assumes nothing.
-use Prim.Native.Nat.{ℕ, zero, suc, _^_, _<_}
+-- Faults of document 01's rows, whose places have 48 bits, as the one number that a refused call returns has room for. Assumes nothing.
+use Prim.Native.Nat.{ℕ, zero, suc, _+_, _-_, _*_, _^_, _≤_, _<_}
 use mathlib.Core.Bool.{Bool, true, false}
 use native.Mathlib.Omega.{arith}
 use Rattle.refusal.specs.First.{orElse, faultIf, firstOf}
-use Rattle.refusal.specs.Refusal.{placeOf}
+use Rattle.refusal.specs.Refusal.{Code, refusalCode}
 use Rattle.refusal.specs.declared.Refusal.{Refusal}
 use Rattle.refusal.specs.declared.first.FirstFault.{FirstFault}
 use Rattle.refusal.specs.declared.first.FirstFault.the-variants.{None, Of}
 
-abbrev pub SmallPlace : Refusal → Type 0
-SmallPlace why = placeOf why < 2 ^ 48
+-- one of document 01's 25 rows or success, with a place of 48 bits; one inequality, so that one `omega arith` shows it of a row
+abbrev pub FirstRows : Code → Type 0
+FirstRows c = (c .number - 25) * 2 ^ 48 + c .place < 2 ^ 48
 
--- no fault, or one whose place has 48 bits
+pub first-number : (c : Code) → FirstRows c → c .number ≤ 25
+first-number c h = omega arith
+
+pub first-place : (c : Code) → FirstRows c → c .place < 2 ^ 48
+first-place c h = omega arith
+
+abbrev pub FirstRow : Refusal → Type 0
+FirstRow why = FirstRows (refusalCode why)
+
+-- no fault, or one of these rows
 abbrev pub Small : FirstFault → Type 0
 Small None = Unit
-Small (Of why) = SmallPlace why
+Small (Of why) = FirstRow why
 
 pub small-or : (f g : FirstFault) → Small f → Small g → Small (orElse f g)
 small-or None g p q = q
 small-or (Of why) g p q = p
 
-pub small-if : (bad : Bool) (why : Refusal) → SmallPlace why → Small (faultIf bad why)
+pub small-if : (bad : Bool) (why : Refusal) → FirstRow why → Small (faultIf bad why)
 small-if true why h = h
 small-if false why h = tt
 
 -- a test, and what is tested after it
-pub small-test : (bad : Bool) (why : Refusal) (rest : FirstFault) → SmallPlace why → Small rest → Small (orElse (faultIf bad why) rest)
+pub small-test : (bad : Bool) (why : Refusal) (rest : FirstFault) → FirstRow why → Small rest → Small (orElse (faultIf bad why) rest)
 small-test true why rest h s = h
 small-test false why rest h s = s
 

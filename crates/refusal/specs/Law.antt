@@ -22,7 +22,7 @@ pub record FirstLaw (n : ℕ) (f : ℕ → FirstFault) : Type 0 where
   pub none : firstOf n f ≡ None → (k : ℕ) → k < n → f k ≡ None
   pub is-none : ((k : ℕ) → k < n → f k ≡ None) → firstOf n f ≡ None
 
--- a refusal's number is one of the table's 25 rows, so that 0 says success alone
+-- a refusal's number is one of the table's 28 rows, so that 0 says success alone
 pub record NumberLaw (why : Refusal) : Type 0 where
   pub some : 1 ≤ numberOf why
-  pub most : numberOf why ≤ 25
+  pub most : numberOf why ≤ 28

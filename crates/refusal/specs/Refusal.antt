@@ -3,6 +3,7 @@
 use Prim.Native.Nat.{ℕ, _+_, _*_, _^_}
 use Rattle.refusal.specs.declared.Answer.{Answer}
 use Rattle.refusal.specs.declared.Answer.the-variants.{Done, Refused}
+use Rattle.refusal.specs.declared.WriteAnswer.{WriteAnswer}
 use Rattle.refusal.specs.declared.Refusal.{Refusal}
 use Rattle.refusal.specs.declared.Refusal.the-variants.{
   OutOfDomain,
@@ -30,10 +31,14 @@ use Rattle.refusal.specs.declared.Refusal.the-variants.{
   Inconsistent,
   Unserved,
   NoActiveLine,
+  BadRecord,
+  BadChecksum,
+  PastChip,
 }
 
 -- 01 Numbers 1: a refusal has the number of its row in the table
 -- 01 Shape 9: rows 1, 13, 15, 16 and 25, which have no name in the table, are refusals like the others
+-- 02 Slip 1 11: what document 02 adds stands in rows behind these, without places
 abbrev pub numberOf : Refusal → ℕ
 numberOf OutOfDomain = 1
 numberOf NoSelectLine = 2
@@ -60,6 +65,9 @@ numberOf (XPin x) = 22
 numberOf (Inconsistent rom addr) = 23
 numberOf (Unserved rom addr) = 24
 numberOf NoActiveLine = 25
+numberOf BadRecord = 26
+numberOf BadChecksum = 27
+numberOf PastChip = 28
 
 -- 01 Numbers 1: the place is what the row of the table names, or 0. A GPIO list is its set's 48 bits; a ROM and an
 -- address are the address in the low 32 bits with the ROM above it
@@ -89,6 +97,9 @@ placeOf (XPin x) = x
 placeOf (Inconsistent rom addr) = rom * 2 ^ 32 + addr
 placeOf (Unserved rom addr) = rom * 2 ^ 32 + addr
 placeOf NoActiveLine = 0
+placeOf BadRecord = 0
+placeOf BadChecksum = 0
+placeOf PastChip = 0
 
 -- what a caller gets of any answer: a number, and a place with it
 pub record Code : Type 0 where
@@ -106,3 +117,8 @@ refusalCode why = record { number = numberOf why; place = placeOf why }
 abbrev pub answerCode : Answer → Code
 answerCode Done = success
 answerCode (Refused why) = refusalCode why
+
+-- the code of a call that writes a text or a file: the length of what it wrote stands where a refusal's place does
+abbrev pub writeCode : WriteAnswer → Code
+writeCode (WriteAnswer.Written n) = record { number = 0; place = n }
+writeCode (WriteAnswer.Refused why) = refusalCode why

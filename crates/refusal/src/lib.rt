@@ -33,11 +33,20 @@ pub enum Refusal {
     Inconsistent { rom: u8, addr: u32 },
     Unserved { rom: u8, addr: u32 },
     NoActiveLine,
+    BadRecord,
+    BadChecksum,
+    PastChip,
 }
 
 // What a call that returns nothing else answers: it is done, or refused.
 pub enum Answer {
     Done,
+    Refused(Refusal),
+}
+
+// What a call that writes a text or a file answers: how many bytes it wrote, or that it is refused.
+pub enum WriteAnswer {
+    Written(usize),
     Refused(Refusal),
 }
 
@@ -72,6 +81,9 @@ impl Refusal {
             Refusal::Inconsistent { rom: _, addr: _ } => 23,
             Refusal::Unserved { rom: _, addr: _ } => 24,
             Refusal::NoActiveLine => 25,
+            Refusal::BadRecord => 26,
+            Refusal::BadChecksum => 27,
+            Refusal::PastChip => 28,
         }
     }
 
@@ -105,6 +117,9 @@ impl Refusal {
             Refusal::Inconsistent { rom, addr } => rom as u64 * 0x1_0000_0000 + addr as u64,
             Refusal::Unserved { rom, addr } => rom as u64 * 0x1_0000_0000 + addr as u64,
             Refusal::NoActiveLine => 0,
+            Refusal::BadRecord => 0,
+            Refusal::BadChecksum => 0,
+            Refusal::PastChip => 0,
         }
     }
 }

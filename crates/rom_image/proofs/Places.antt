@@ -1,8 +1,8 @@
--- Each refusal of a build has a place of 48 bits: no place, or one of at most four chips. Assumes nothing.
+-- Each refusal of a build is one of document 01's rows, with a place of 48 bits: no place, or one of at most four chips. Assumes nothing.
 use mathlib.Core.Path.{_≡_, refl}
 use mathlib.Core.Bool.{Bool, true, false, not, _&&_, cond}
 use mathlib.Core.List.{List}
-use Prim.Native.Nat.{ℕ, _^_, _≤_, _<_}
+use Prim.Native.Nat.{ℕ, _≤_}
 use native.Mathlib.Omega.{arith}
 use lib.Dec.{ltb}
 use lib.ListN.{length, getD}
@@ -13,7 +13,7 @@ use Rattle.refusal.specs.declared.Answer.{Answer}
 use Rattle.refusal.specs.declared.Refusal.the-variants.{OutOfDomain, RomTableTooLarge, InvalidConfig, BadPosition, MissingImageData, ShortImageData, ShortBuffer}
 use Rattle.refusal.specs.declared.first.FirstFault.{FirstFault}
 use Rattle.refusal.specs.declared.first.FirstFault.the-variants.{None, Of}
-use Rattle.refusal.proofs.Places.{Small, small-or, small-if, small-test, small-first}
+use Rattle.refusal.proofs.Places.{FirstRows, Small, small-or, small-if, small-test, small-first}
 use Rattle.domain.proofs.Bounds.{description-in}
 use Rattle.picks.specs.Picks.{chipsFit}
 use Rattle.build_args.specs.Domain.{buildIn}
@@ -49,15 +49,15 @@ module _ (b : BuildArgs) (images : List ℕ) (room : ℕ) (e : buildIn b ≡ tru
       (small-or (linesFault (b .description) (b .addr) (b .«cs_data»)) _ small-lines (small-or (imagesFault (b .description) images (b .spans)) _ small-images (small-if (tooShort (b .description) (b .addr) room) ShortBuffer (omega arith))))
 
 module _ (b : BuildArgs) (images lent : List ℕ) where
-  after-place : (f : FirstFault) → Small f → answerCode (buildAfter b images lent f .answer) .place < 2 ^ 48
+  after-place : (f : FirstFault) → Small f → FirstRows (answerCode (buildAfter b images lent f .answer))
   after-place (Of why) h = h
   after-place None h = omega arith
 
   in-place : (t : Bool) → buildIn b ≡ t
-      → answerCode (cond t (buildAfter b images lent (buildFault b images (length lent))) (built (Answer.Refused OutOfDomain) lent) .answer) .place < 2 ^ 48
+      → FirstRows (answerCode (cond t (buildAfter b images lent (buildFault b images (length lent))) (built (Answer.Refused OutOfDomain) lent) .answer))
   in-place true e = after-place (buildFault b images (length lent)) (small-build b images (length lent) e)
   in-place false e = omega arith
 
-  pub build-place : answerCode (buildOf b images lent .answer) .place < 2 ^ 48
+  pub build-place : FirstRows (answerCode (buildOf b images lent .answer))
   unfolding buildOf
   build-place = in-place (buildIn b) refl

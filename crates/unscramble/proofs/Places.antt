@@ -1,4 +1,5 @@
--- Each refusal of read-back has a place of 48 bits: no place, an X pin, or one of four ROMs and an address of 32 bits. Assumes nothing.
+-- Each refusal of read-back is one of document 01's rows, with a place of 48 bits: no place, an X pin, or one of four ROMs and an address of
+-- 32 bits. Assumes nothing.
 use mathlib.Core.Path.{_≡_, refl}
 use mathlib.Core.Bool.{Bool, true, false, not, _&&_, _||_, cond}
 use mathlib.Core.List.{List}
@@ -30,7 +31,7 @@ use Rattle.refusal.specs.declared.Refusal.the-variants.{
 }
 use Rattle.refusal.specs.declared.first.FirstFault.{FirstFault}
 use Rattle.refusal.specs.declared.first.FirstFault.the-variants.{None, Of}
-use Rattle.refusal.proofs.Places.{Small, small-or, small-if, small-test, small-first}
+use Rattle.refusal.proofs.Places.{FirstRows, Small, small-or, small-if, small-test, small-first}
 use Rattle.picks.specs.Picks.{chipsFit, picksOf, pickedBy}
 use Rattle.picks.specs.declared.Picked.{Picked}
 use Rattle.picks.specs.declared.Picked.the-variants.{NoChip, Chip}
@@ -156,35 +157,35 @@ module _ (s : StoredSlot) (e : storedIn s ≡ true) (set : ChipSetType) (stored 
       (λ n m. small-if (eqb (firstFor s set rom n (2 ^ storedPins s)) (2 ^ storedPins s)) (Unserved rom n) (omega (arith, few-roms s e, rom-small s e rom l))))
 
 module _ (s : StoredSlot) (e : storedIn s ≡ true) (stored output marks : List ℕ) where
-  entries-place : (set : ChipSetType) (f : FirstFault) → Small f → answerCode (afterEntries s set stored output marks f .answer) .place < 2 ^ 48
+  entries-place : (set : ChipSetType) (f : FirstFault) → Small f → FirstRows (answerCode (afterEntries s set stored output marks f .answer))
   entries-place set None h = omega arith
   entries-place set (Of why) h = h
 
-  after-place : (set : ChipSetType) (f : FirstFault) → Small f → answerCode (readAfter s set stored output marks f .answer) .place < 2 ^ 48
+  after-place : (set : ChipSetType) (f : FirstFault) → Small f → FirstRows (answerCode (readAfter s set stored output marks f .answer))
   after-place set (Of why) h = h
   after-place set None h =
       entries-place set (orElse (inconsistent s set stored) (unserved s set))
       (small-or (inconsistent s set stored) (unserved s set) (small-inconsistent s e set stored) (small-unserved s e set stored))
 
-  plugin-place : (t : Bool) (done : List ℕ) → answerCode (cond t (readRefused ShortBuffer output marks) (readBack Done done marks) .answer) .place < 2 ^ 48
+  plugin-place : (t : Bool) (done : List ℕ) → FirstRows (answerCode (cond t (readRefused ShortBuffer output marks) (readBack Done done marks) .answer))
   plugin-place true done = omega arith
   plugin-place false done = omega arith
 
-  type-place : (t : SlotType) → answerCode (ofType s stored output marks t .answer) .place < 2 ^ 48
+  type-place : (t : SlotType) → FirstRows (answerCode (ofType s stored output marks t .answer))
   type-place Unknown = omega arith
   type-place Plugin = plugin-place (ltb (length output) (length stored)) _
   type-place (Roms set) = after-place set (romsFault s set stored (length output) (length marks)) (small-roms s stored set (length output) (length marks))
 
-  size-place : (t : Bool) → answerCode (cond t (readRefused WrongSize output marks) (ofType s stored output marks (s .«slot_type»)) .answer) .place < 2 ^ 48
+  size-place : (t : Bool) → FirstRows (answerCode (cond t (readRefused WrongSize output marks) (ofType s stored output marks (s .«slot_type»)) .answer))
   size-place true = omega arith
   size-place false = type-place (s .«slot_type»)
 
 module _ (s : StoredSlot) (stored output marks : List ℕ) where
   in-place : (t : Bool) → storedIn s ≡ t
-      → answerCode (cond t (cond (wrongSize s stored) (readRefused WrongSize output marks) (ofType s stored output marks (s .«slot_type»))) (readRefused OutOfDomain output marks) .answer) .place < 2 ^ 48
+      → FirstRows (answerCode (cond t (cond (wrongSize s stored) (readRefused WrongSize output marks) (ofType s stored output marks (s .«slot_type»))) (readRefused OutOfDomain output marks) .answer))
   in-place true e = size-place s e stored output marks (wrongSize s stored)
   in-place false e = omega arith
 
-  pub read-place : answerCode (unscrambled s stored output marks .answer) .place < 2 ^ 48
+  pub read-place : FirstRows (answerCode (unscrambled s stored output marks .answer))
   unfolding unscrambled
   read-place = in-place (storedIn s) refl
