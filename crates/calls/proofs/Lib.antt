@@ -1,3 +1,4 @@
 pub mod Unpacked
 pub mod Places
 pub mod Law
+pub mod Hex

@@ -1,7 +1,7 @@
--- Each call's answer has a place of 48 bits. Assumes nothing.
+-- Each call's answer is success or one of document 01's rows, with a place of 48 bits. Assumes nothing.
 use mathlib.Core.Bool.{Bool, true, false, cond}
 use mathlib.Core.List.{List, _++_}
-use Prim.Native.Nat.{ℕ, _^_, _<_}
+use Prim.Native.Nat.{ℕ}
 use native.Mathlib.Omega.{arith}
 use lib.Dec.{ltb}
 use lib.ListN.{length, drop}
@@ -10,6 +10,7 @@ use Rattle.refusal.specs.Refusal.{answerCode}
 use Rattle.refusal.specs.declared.Answer.{Answer}
 use Rattle.refusal.specs.declared.Refusal.{Refusal}
 use Rattle.refusal.specs.declared.Refusal.the-variants.{OutOfDomain, ShortBuffer}
+use Rattle.refusal.proofs.Places.{FirstRows}
 use Rattle.addr_layout.specs.Layout.{addrCode}
 use Rattle.addr_layout.specs.Search.{addrAnswer}
 use Rattle.addr_layout.specs.declared.layout.AddrLayout.{AddrLayout}
@@ -52,7 +53,7 @@ use Rattle.calls.specs.Calls.{
 }
 
 abbrev pub Placed : Answer → Type 0
-Placed a = answerCode a .place < 2 ^ 48
+Placed a = FirstRows (answerCode a)
 
 -- answers by a test, and by a description's record
 module _ {A : Type 0} (says : A → Answer) where
@@ -76,11 +77,11 @@ written-place : (size : ℕ) (bytes buffer : List ℕ) → Placed (written size 
 written-place size bytes buffer =
     if-place answerOf (ltb (length buffer) size) (callRefused ShortBuffer buffer) (answered Answer.Done (bytes ++ drop size buffer)) (omega arith) (omega arith)
 
-addr-found : (x : AddrOutcome) (l : AddrLayout) (buffer : List ℕ) → addrCode x .place < 2 ^ 48 → Placed (addrOutcome x l buffer .answer)
+addr-found : (x : AddrOutcome) (l : AddrLayout) (buffer : List ℕ) → FirstRows (addrCode x) → Placed (addrOutcome x l buffer .answer)
 addr-found AddrOutcome.LaidOut l buffer h = written-place addrSize (layoutBytes l) buffer
 addr-found (AddrOutcome.Refused why) l buffer h = h
 
-cs-data-found : (x : CsDataOutcome) (l : CsDataLayout) (buffer : List ℕ) → csDataCode x .place < 2 ^ 48 → Placed (csDataOutcome x l buffer .answer)
+cs-data-found : (x : CsDataOutcome) (l : CsDataLayout) (buffer : List ℕ) → FirstRows (csDataCode x) → Placed (csDataOutcome x l buffer .answer)
 cs-data-found CsDataOutcome.LaidOut l buffer h = written-place csDataSize (csDataBytes l) buffer
 cs-data-found (CsDataOutcome.Refused why) l buffer h = h
 

@@ -1,5 +1,6 @@
--- Number and place of every answer come out of the one number that a call returns. Assumes nothing.
-use Prim.Native.Nat.{ℕ, _/_, _%_, _^_}
+-- Number and place of every answer come out of the one number that a call returns, and its number is one of document 01's rows. Assumes
+-- nothing.
+use Prim.Native.Nat.{ℕ, _/_, _%_, _^_, _≤_}
 use mathlib.Core.Path.{_≡_}
 use mathlib.Core.List.{List}
 use Rattle.refusal.specs.Refusal.{answerCode}
@@ -22,3 +23,11 @@ pub record UnpackLaw : Type 0 where
   pub cs-data : (description layout buffer : List ℕ) → Unpacks (csDataCall description layout buffer .answer)
   pub build : (description addr csData spans images table : List ℕ) → Unpacks (buildCall description addr csData spans images table .answer)
   pub read-back : (slot stored output marks : List ℕ) → Unpacks (readBackCall slot stored output marks .answer)
+
+-- the calls of document 01 refuse by its own rows, the first 25 of the table
+pub record RowsLaw : Type 0 where
+  pub addr : (description buffer : List ℕ) → answerCode (addrCall description buffer .answer) .number ≤ 25
+  pub cs-data : (description layout buffer : List ℕ) → answerCode (csDataCall description layout buffer .answer) .number ≤ 25
+  pub build : (description addr csData spans images table : List ℕ)
+      → answerCode (buildCall description addr csData spans images table .answer) .number ≤ 25
+  pub read-back : (slot stored output marks : List ℕ) → answerCode (readBackCall slot stored output marks .answer) .number ≤ 25

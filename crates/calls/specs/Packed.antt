@@ -1,7 +1,8 @@
--- A refusal as the one number that a refused call returns. Assumes nothing.
+-- An answer as the one number that a call returns. Assumes nothing.
 use Prim.Native.Nat.{ℕ, _+_, _*_, _%_, _^_}
 use Rattle.refusal.specs.declared.Answer.{Answer}
-use Rattle.refusal.specs.Refusal.{Code, refusalCode, answerCode}
+use Rattle.refusal.specs.declared.WriteAnswer.{WriteAnswer}
+use Rattle.refusal.specs.Refusal.{Code, refusalCode, answerCode, writeCode}
 use Rattle.refusal.specs.declared.Refusal.{Refusal}
 
 -- a code as one number: the place in the low 48 bits, the number above them. A `GpioSet` could hold 64 bits, so that the place goes in
@@ -16,3 +17,7 @@ packed why = packedCode (refusalCode why)
 -- 0 where the call is done
 abbrev pub resultOf : Answer → ℕ
 resultOf a = packedCode (answerCode a)
+
+-- 02 Slip 1 8: a caller who has something written gets its length, where a refusal has its place, beside number 0
+abbrev pub writeResultOf : WriteAnswer → ℕ
+writeResultOf a = packedCode (writeCode a)

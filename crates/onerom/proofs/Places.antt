@@ -1,13 +1,14 @@
--- The place of every refusal of a round trip is below 2^48, so that its result unpacks. Assumes nothing.
+-- Every refusal of a round trip is one of document 01's rows, with a place below 2^48, so that its result unpacks. Assumes nothing.
 use mathlib.Core.Bool.{true}
 use mathlib.Core.List.{List}
-use Prim.Native.Nat.{ℕ, _^_, _<_}
+use Prim.Native.Nat.{ℕ}
 use native.Mathlib.Omega.{arith}
 use lib.ListN.{take}
 use Rattle.slot.specs.declared.description.Description.{Description}
 use Rattle.refusal.specs.declared.Answer.{Answer}
 use Rattle.refusal.specs.declared.Refusal.{Refusal}
 use Rattle.refusal.specs.declared.Refusal.the-variants.{OutOfDomain}
+use Rattle.refusal.proofs.Places.{FirstRows}
 use Rattle.addr_layout.specs.Layout.{addrCode}
 use Rattle.addr_layout.specs.Search.{addrAnswer}
 use Rattle.addr_layout.specs.declared.layout.AddrLayout.{AddrLayout}
@@ -42,14 +43,14 @@ module _ (d : Description) (images : List ℕ) (spans : List ImageSpan) (table o
       read-place (storedOf (b .description) (b .addr) (b .«cs_data»)) (take (tableSize (b .description) (b .addr)) t) output marks
   after-build b (Answer.Refused why) t h = h
 
-  after-select : (a : AddrLayout) (x : CsDataOutcome) (c : CsDataLayout) → csDataCode x .place < 2 ^ 48
+  after-select : (a : AddrLayout) (x : CsDataOutcome) (c : CsDataLayout) → FirstRows (csDataCode x)
       → Placed (afterSelect d a images spans table output marks x c .answer)
   after-select a CsDataOutcome.LaidOut c h =
       let b = argsOf d a c spans in
       after-build b (buildOf b images table .answer) (buildOf b images table .table) (build-place b images table)
   after-select a (CsDataOutcome.Refused why) c h = h
 
-  after-address : (x : AddrOutcome) (a : AddrLayout) → addrCode x .place < 2 ^ 48 → Placed (afterAddress d images spans table output marks x a .answer)
+  after-address : (x : AddrOutcome) (a : AddrLayout) → FirstRows (addrCode x) → Placed (afterAddress d images spans table output marks x a .answer)
   after-address AddrOutcome.LaidOut a h =
       let g : GivenLayout = record { given = true; layout = a } in
       after-select a (csDataAnswer d g .outcome) (csDataAnswer d g .layout) (cs-data-place d g)

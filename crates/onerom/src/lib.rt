@@ -7,8 +7,13 @@ use addr_layout::derive_addr_layout;
 use addr_record::given_at;
 use addr_record::given_formed;
 use calls::refused::packed;
+use calls::refused::result;
+use calls::refused::write_result;
 use cs_data_layout::derive_cs_data_layout;
 use description_record::description_at;
+use hex_read::fault_line;
+use hex_read::read_hex;
+use hex_write::write_hex;
 use refusal::Answer;
 use refusal::Refusal;
 use search_calls::addr;
@@ -18,6 +23,8 @@ use table_calls::read_back;
 ghost use mathlib.Core.Path.{_≡_};
 ghost use Rattle.calls.specs.Calls.{addrCall, csDataCall, buildCall, readBackCall};
 ghost use Rattle.calls.specs.Calls.{returned, readReturned, searchResult, buildResult, readResult};
+ghost use Rattle.calls.specs.Hex.{readHexCall, writeHexCall};
+ghost use Rattle.hex_read.specs.Read.{faultLine};
 ghost use Rattle.onerom.specs.Trip.{tripCall, tripReturned, tripResult, CallDemanded};
 ghost use Rattle.onerom.specs.Wired.{wiredCall};
 
@@ -149,4 +156,28 @@ pub extern "C" fn onerom_well_wired(description: &[u8], addr_layout: &[u8]) -> u
         Answer::Done => wiring::tested(decoded.description, addr_layout),
         Answer::Refused(why) => packed(why),
     }
+}
+
+// Reads an Intel HEX text into a chip, which is the whole lent slice.
+#[no_mangle]
+pub extern "C" fn onerom_read_hex(text: &[u8], chip: &mut [u8]) -> u64
+    ensures { λ r. ⌜ returned r (now (chip .exit)) ≡ readHexCall (now (text .entry)) (now (chip .entry)) ⌝ }
+{
+    result(read_hex(text, chip))
+}
+
+// Writes a chip's bytes as an Intel HEX text, and returns its length.
+#[no_mangle]
+pub extern "C" fn onerom_write_hex(chip: &[u8], text: &mut [u8]) -> u64
+    ensures { λ r. ⌜ returned r (now (text .exit)) ≡ writeHexCall (now (chip .entry)) (now (text .entry)) ⌝ }
+{
+    write_result(write_hex(chip, text))
+}
+
+// The line, from 1, of the first record at fault where a text is read into a chip of `chip_size` bytes; 0 where none is.
+#[no_mangle]
+pub extern "C" fn onerom_hex_fault_line(text: &[u8], chip_size: u64) -> u64
+    ensures { λ r. ⌜ r ≡ faultLine (now (text .entry)) «chip_size» ⌝ }
+{
+    fault_line(text, chip_size as usize) as u64
 }

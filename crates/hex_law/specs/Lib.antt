@@ -1,0 +1,4 @@
+pub mod Verdicts
+pub mod FaultLine
+pub mod Bytes
+pub mod RoundTrip

@@ -1,0 +1,4 @@
+pub mod Splits
+pub mod Verdicts
+pub mod Stored
+pub mod Answers

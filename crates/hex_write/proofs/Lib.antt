@@ -1,0 +1,5 @@
+pub mod Records
+pub mod Pieces
+pub mod Length
+pub mod Chips
+pub mod Writes

@@ -1,0 +1,4 @@
+pub mod Text
+pub mod Length
+pub mod design
+pub mod Write
