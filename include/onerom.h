@@ -5,7 +5,7 @@
  * A byte slice is a pointer and a length. The pointer is good for that many bytes; where the length is 0 it is
  * any but null. A slice that is lent for writing overlaps no other slice of its call; those that are only read
  * may share bytes. No alignment is asked, nothing is kept after the call, and calls on different buffers may run
- * side by side.
+ * side by side. A parameter that is a value is one number of 64 bits.
  */
 #ifndef ONEROM_H
 #define ONEROM_H
@@ -20,12 +20,13 @@ extern "C" {
 /* The version of this interface: an older caller is answered as before while it stays. */
 #define ONEROM_INTERFACE_VERSION 1
 
-/* A call returns one number of 64 bits: 0 if it succeeded, else the refusal's number times 2^48 plus its place.
-   (onerom_well_wired returns 1, which is no refusal's, where the answer is no.) So the number is the result
-   shifted right by 48, and the place its low 48 bits (onerom_number and onerom_place in C, Refusal in Rust;
-   onerom_refusal_name gives a number's name in C). A refusal that names no place has place 0. */
+/* A call returns one number of 64 bits: 0 if it succeeded, else the refusal's number times 2^48 plus its place. So
+   the number is the result shifted right by 48, and the place its low 48 bits (onerom_number and onerom_place in
+   C, Refusal in Rust; onerom_refusal_name gives a number's name in C). A refusal that names no place has place 0.
+   Three calls answer in the low 48 bits beside number 0, which is no refusal's: onerom_well_wired has 1 where the
+   answer is no, onerom_write_hex the length of the text, onerom_hex_fault_line a line. */
 enum {
-    /* A record of another length, or a number in it that no board or chip can have. */
+    /* A record of another length, or a number that no board or chip can have. */
     ONEROM_OUT_OF_DOMAIN = 1,
     /* No line selects the chip, or a line of the Multi set is not on it. */
     ONEROM_NO_SELECT_LINE = 2,
@@ -75,6 +76,12 @@ enum {
     ONEROM_UNSERVED = 24,
     /* The Multi set has no active line. */
     ONEROM_NO_ACTIVE_LINE = 25,
+    /* A line is no record of Intel HEX, or the end record is missing. */
+    ONEROM_BAD_RECORD = 26,
+    /* A record's bytes do not sum to zero. */
+    ONEROM_BAD_CHECKSUM = 27,
+    /* A record has a data byte past the chip. */
+    ONEROM_PAST_CHIP = 28,
 };
 
 /* The refusal's number in a call's result: 0 if the call succeeded. */
@@ -143,6 +150,12 @@ static inline const char *onerom_refusal_name(unsigned number)
         return "Unserved";
     case ONEROM_NO_ACTIVE_LINE:
         return "NoActiveLine";
+    case ONEROM_BAD_RECORD:
+        return "BadRecord";
+    case ONEROM_BAD_CHECKSUM:
+        return "BadChecksum";
+    case ONEROM_PAST_CHIP:
+        return "PastChip";
     default:
         return "Unknown";
     }
@@ -699,6 +712,72 @@ uint64_t onerom_round_trip(const uint8_t *description, size_t description_len, c
  */
 uint64_t onerom_well_wired(const uint8_t *description, size_t description_len, const uint8_t *addr_layout,
                            size_t addr_layout_len);
+
+/*
+ * Reads a text of Intel HEX into a chip's bytes. The chip is the whole lent slice. A byte that no record names is
+ * 255, and where several records name one the last counts.
+ *
+ * A line is what stands up to a line feed, or up to the text's end; a carriage return just before the line feed
+ * belongs to the line's end. Every line is a record: a colon and two hex digits a byte, of either case. The bytes
+ * are a count, two of an offset with the high one first, a type, as many data bytes as the count says, and a
+ * checksum, by which all of them sum to 0 modulo 256. Type 00 has data bytes from the offset on, up to offset
+ * 65535, in a block of 64 KiB: block 0, or the one that the last type 04 before it names. Type 04 has two data
+ * bytes, a block's number with the high byte first, and type 01 has none and ends the text; both have offset 0.
+ *
+ *   text: read, the text
+ *   chip: lent, for the chip's bytes, as many as the chip has, at most 2^24
+ *
+ * The number of the result; chip as before the call where no more is said:
+ *
+ *   0: every line is a sound record, and the last one is of type 01. Afterwards each byte is what the last record
+ *       that names it says, else 255.
+ *   ONEROM_OUT_OF_DOMAIN: chip has more than 2^24 bytes.
+ *   ONEROM_BAD_RECORD: a line is no such record, or stands behind a sound one of type 01; or no line is of type 01:
+ *       the text is not whole.
+ *   ONEROM_BAD_CHECKSUM: a record's bytes do not sum to 0 modulo 256.
+ *   ONEROM_PAST_CHIP: a record has a data byte at an address past the chip; one without data bytes has none.
+ *
+ * 1 comes first. Then the first line at fault answers, of its faults the one with the lowest number;
+ * onerom_hex_fault_line says which line. That no line is of type 01 comes last.
+ */
+uint64_t onerom_read_hex(const uint8_t *text, size_t text_len, uint8_t *chip, size_t chip_len);
+
+/*
+ * Writes a chip's bytes as a text of Intel HEX, which onerom_read_hex reads as the same bytes. The text has
+ * records of type 00 with 16 data bytes, the last one with what is left, a record of type 04 ahead of each block
+ * of 64 KiB but the first, and at the end :00000001FF; capitals, and a line feed behind each record.
+ *
+ * Of n bytes the text has 12 * ceil(n / 16) + 2 * n + 16 * max(ceil(n / 65536) - 1, 0) + 12 characters: 12 of
+ * none, 46141436 of 2^24.
+ *
+ *   chip: read, the chip's bytes, at most 2^24
+ *   text: lent, for the text, its length or more
+ *
+ * The number of the result; text as before the call where no more is said:
+ *
+ *   0, place length: the text is written, and the result is its length. Afterwards its first bytes, so many, are
+ *       the text, later ones as before.
+ *   ONEROM_OUT_OF_DOMAIN: chip has more than 2^24 bytes.
+ *   ONEROM_SHORT_BUFFER: text has fewer bytes than the text: lend more.
+ *
+ * 1 comes first.
+ */
+uint64_t onerom_write_hex(const uint8_t *chip, size_t chip_len, uint8_t *text, size_t text_len);
+
+/*
+ * Says which line of a text of Intel HEX is the first at fault, where onerom_read_hex answers 26, 27 or 28 to the
+ * text and a chip of this size. Lines are counted from 1. Where no line is of type 01, and nothing else is at
+ * fault, it is the line behind the last.
+ *
+ *   text: read, the text
+ *   chip_size: value, how many bytes the chip has
+ *
+ * The number of the result:
+ *
+ *   0, place 0: the text is read into a chip of this size, or the size is more than 2^24.
+ *   0, place line: a line is at fault, and the result is the first such line.
+ */
+uint64_t onerom_hex_fault_line(const uint8_t *text, size_t text_len, uint64_t chip_size);
 
 #ifdef __cplusplus
 }

@@ -2,6 +2,7 @@
 
 mod build;
 mod cases;
+mod hex;
 mod layout;
 mod pairings;
 mod read_back;
@@ -52,12 +53,16 @@ const COMMANDS: &[&Command] = &[
     &build::BUILD,
     &read_back::READ_BACK,
     &verify::VERIFY,
+    &hex::TO_HEX,
+    &hex::FROM_HEX,
     &pairings::PAIRINGS,
     &sample::SAMPLE_FILES,
     &cases::COMPARE,
     &cases::COMPARE_LARGE,
+    &cases::COMPARE_HEX,
     &cases::REPLAY,
     &cases::SPEED,
+    &cases::SPEED_HEX,
 ];
 
 const HELP: [&str; 2] = ["--help", "-h"];

@@ -4,6 +4,8 @@ pub mod build;
 pub mod calls;
 mod damage;
 pub mod fenced;
+pub mod hex;
+mod hex_fenced;
 mod images;
 pub mod read_back;
 mod records;

@@ -18,6 +18,8 @@ pub enum Fault {
     Refused(Refusal),
     /// The same, with what more there is to say of it.
     Hinted(Refusal, String),
+    /// What the library refuses in a file: its name, the line and why.
+    RefusedText(String),
     /// What comes out is not what was expected.
     Different(String),
 }
@@ -46,7 +48,7 @@ pub fn ended(done: Done, usage: &str) -> ExitCode {
         Err(Fault::File(why)) => unread(&why),
         Err(Fault::Refused(refusal)) => failed(&refused(&refusal)),
         Err(Fault::Hinted(refusal, hint)) => failed(&format!("{}; {hint}", refused(&refusal))),
-        Err(Fault::Different(what)) => failed(&what),
+        Err(Fault::RefusedText(what) | Fault::Different(what)) => failed(&what),
     }
 }
 

@@ -10,7 +10,9 @@ use onerom::images::LARGEST_CHIP;
 use onerom_bench::text;
 use onerom_bench::text::{Included, TextError};
 
+use crate::commands::Flags;
 use crate::ending::Fault;
+use crate::hex_files::{HEX, READ_AT_MOST, chip_of, is_hex};
 
 /// A chip's file that is none: the chip has no bytes, or its bytes are not written.
 pub const NO_FILE: &str = "-";
@@ -25,6 +27,8 @@ pub struct Inputs {
     pub slot: Description,
     /// All that is read: the description, what it includes, and the chips' files.
     pub files: Vec<PathBuf>,
+    /// What is to be said of texts of Intel HEX that leave bytes open.
+    pub open: String,
     images: Vec<Image>,
 }
 
@@ -33,19 +37,29 @@ pub const ANY_LENGTH: &str = "--any-length";
 
 impl Inputs {
     /// From a description's file and one for each chip, which has just the chip's bytes unless any
-    /// length will do.
-    pub fn read(file: &Path, chips: &[OsString], any_length: bool) -> Result<Self, Fault> {
+    /// length will do, or is a text of Intel HEX.
+    pub fn read(file: &Path, chips: &[OsString], flags: &Flags) -> Result<Self, Fault> {
         let (slot, mut files) = described(file)?;
         expect_files(file, "chips", slot.chips.len(), chips)?;
-        let sizes = slot.chips.iter().map(|chip| chip.size as usize);
-        let expected = sizes.map(|size| (!any_length).then_some(size));
-        let images = chips.iter().zip(expected);
-        let images = images.map(|(chip, expected)| image(chip, expected));
-        let images = images.collect::<Result<_, _>>()?;
+        let (mut open, mut images) = (String::new(), Vec::new());
+        for (chip, described) in chips.iter().zip(&slot.chips) {
+            let size = described.size as usize;
+            images.push(if chip == NO_FILE {
+                None
+            } else if is_hex(Path::new(chip), flags) {
+                let (bytes, said) = from_text(Path::new(chip), size)?;
+                open += &said;
+                Some(bytes)
+            } else {
+                let expected = (!flags.has(ANY_LENGTH)).then_some(size);
+                Some(image(Path::new(chip), expected)?)
+            });
+        }
         files.extend(chips.iter().map(PathBuf::from));
         Ok(Self {
             slot,
             files,
+            open,
             images,
         })
     }
@@ -129,26 +143,25 @@ pub fn expect_files(
     Ok(())
 }
 
+/// A chip's bytes from a text of Intel HEX, and what is to be said of those that it leaves open.
+fn from_text(file: &Path, size: usize) -> Result<(Vec<u8>, String), Fault> {
+    let text = bytes_up_to(file, READ_AT_MOST)?;
+    chip_of(file, &text, size)
+}
+
 /// A chip's bytes, as many as expected where that is said; no chip has more than the largest.
-fn image(file: &OsString, expected: Option<usize>) -> Result<Image, Fault> {
-    if file == NO_FILE {
-        return Ok(None);
-    }
-    let file = Path::new(file);
+fn image(file: &Path, expected: Option<usize>) -> Result<Vec<u8>, Fault> {
     let Some(size) = expected else {
-        return bytes_up_to(file, LARGEST_CHIP).map(Some);
+        return bytes_up_to(file, LARGEST_CHIP);
     };
     let bytes = bytes_up_to(file, LARGEST_CHIP + 1)?;
     match not_a_dump(&bytes, size) {
-        None => Ok(Some(bytes)),
-        Some(why) => Err(Fault::of_file(
-            file,
-            format!("{why}; {ANY_LENGTH} takes it"),
-        )),
+        None => Ok(bytes),
+        Some(why) => Err(Fault::of_file(file, why)),
     }
 }
 
-/// Why bytes are no dump of a chip of this size.
+/// Why bytes are no dump of a chip of this size, and the flag that takes them all the same.
 fn not_a_dump(bytes: &[u8], size: usize) -> Option<String> {
     let form = text_form(bytes);
     if form.is_none() && bytes.len() == size {
@@ -158,13 +171,19 @@ fn not_a_dump(bytes: &[u8], size: usize) -> Option<String> {
         length if length > LARGEST_CHIP => format!("more than {LARGEST_CHIP}"),
         length => length.to_string(),
     };
+    let taken = match form {
+        Some(INTEL_HEX) => format!("{HEX} reads it, {ANY_LENGTH} takes it as it is"),
+        _ => format!("{ANY_LENGTH} takes it"),
+    };
     let form = form.map_or(String::new(), |form| {
         format!(", and they begin like a text of {form}")
     });
     Some(format!(
-        "expected the chip's {size} bytes, found {found}{form}"
+        "expected the chip's {size} bytes, found {found}{form}; {taken}"
     ))
 }
+
+const INTEL_HEX: &str = "Intel HEX";
 
 /// The form of text in which dumps are exchanged that the first line has.
 fn text_form(bytes: &[u8]) -> Option<&'static str> {
@@ -175,7 +194,7 @@ fn text_form(bytes: &[u8]) -> Option<&'static str> {
         even && digits.iter().all(u8::is_ascii_hexdigit)
     };
     match line {
-        [b':', digits @ ..] if is_digits(digits, 10) => Some("Intel HEX"),
+        [b':', digits @ ..] if is_digits(digits, 10) => Some(INTEL_HEX),
         [b'S', kind, digits @ ..] if kind.is_ascii_digit() && is_digits(digits, 6) => {
             Some("S-records")
         }

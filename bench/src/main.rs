@@ -4,6 +4,7 @@
 mod commands;
 mod compare;
 mod ending;
+mod hex_files;
 mod hints;
 mod inputs;
 mod outputs;

@@ -1,6 +1,7 @@
 //! The library and the original on the same inputs, by the clock.
 
 mod boards;
+pub mod hex;
 mod report;
 mod tables;
 
@@ -24,7 +25,7 @@ use oracle::slot::ChipBytes;
 use crate::ending::{Done, Fault, say};
 use crate::progress::Progress;
 use crate::{laid_out, plain};
-use report::Page;
+use report::{MARKS, Page};
 
 /// How often all inputs are gone through, and how often each is measured then. The best counts,
 /// since other work only ever adds time, and it seldom lasts for all rounds.
@@ -81,7 +82,7 @@ struct Table {
 /// Measures every call on every input, prints the tables and, if a file is named, puts them into
 /// it between the lines that say where they go.
 pub fn speed(file: Option<&Path>) -> Done {
-    let page = file.map(Page::read).transpose()?;
+    let page = file.map(|file| Page::read(file, MARKS)).transpose()?;
     if cfg!(debug_assertions) {
         let why = "onerom-bench speed measures release builds: cargo run --release -- speed";
         return Err(Fault::Different(why.into()));

@@ -4,8 +4,9 @@ use crate::description::Description;
 use crate::images;
 use crate::interface::{
     addr_layout as layout_at, description as described, onerom_build_rom_image,
-    onerom_derive_addr_layout, onerom_derive_cs_data_layout, onerom_round_trip,
-    onerom_unscramble_slot, onerom_well_wired,
+    onerom_derive_addr_layout, onerom_derive_cs_data_layout, onerom_hex_fault_line,
+    onerom_read_hex, onerom_round_trip, onerom_unscramble_slot, onerom_well_wired,
+    onerom_write_hex,
 };
 use crate::layout::addr::{self, AddrLayout};
 use crate::layout::cs_data::{self, CsDataLayout};
@@ -221,3 +222,23 @@ pub fn well_wired(slot: &Description, addr: &AddrLayout) -> Result<bool, Refusal
 
 /// The result where the answer is no.
 const NOT_WELL_WIRED: u64 = 1;
+
+/// The reading of Intel HEX as the library makes it: 0 and the chip's bytes in the lent buffer, which
+/// is the whole chip, or a refusal's number times 2^48 and the buffer as it was.
+pub fn read_hex_into(text: &[u8], chip: &mut [u8]) -> u64 {
+    // SAFETY: as above.
+    unsafe { onerom_read_hex(text.as_ptr(), text.len(), chip.as_mut_ptr(), chip.len()) }
+}
+
+/// The writing in the same way: the text at the front of the lent buffer, and its length as the
+/// result.
+pub fn write_hex_into(chip: &[u8], text: &mut [u8]) -> u64 {
+    // SAFETY: as above.
+    unsafe { onerom_write_hex(chip.as_ptr(), chip.len(), text.as_mut_ptr(), text.len()) }
+}
+
+/// The line of the first fault as the library says it: from 1, or 0 if there is none.
+pub fn hex_fault_line_result(text: &[u8], chip_size: u64) -> u64 {
+    // SAFETY: as above. Nothing is lent.
+    unsafe { onerom_hex_fault_line(text.as_ptr(), text.len(), chip_size) }
+}

@@ -5,7 +5,7 @@ pub const INTERFACE_VERSION: u32 = 1;
 
 /// Numbers of the refusals.
 pub mod refusals {
-    /// A record of another length, or a number in it that no board or chip can have.
+    /// A record of another length, or a number that no board or chip can have.
     pub const OUT_OF_DOMAIN: u16 = 1;
     /// No line selects the chip, or a line of the Multi set is not on it.
     pub const NO_SELECT_LINE: u16 = 2;
@@ -58,6 +58,12 @@ pub mod refusals {
     pub const UNSERVED: u16 = 24;
     /// The Multi set has no active line.
     pub const NO_ACTIVE_LINE: u16 = 25;
+    /// A line is no record of Intel HEX, or the end record is missing.
+    pub const BAD_RECORD: u16 = 26;
+    /// A record's bytes do not sum to zero.
+    pub const BAD_CHECKSUM: u16 = 27;
+    /// A record has a data byte past the chip.
+    pub const PAST_CHIP: u16 = 28;
 }
 
 /// What single bytes of the records say.
@@ -514,4 +520,37 @@ unsafe extern "C" {
         addr_layout: *const u8,
         addr_layout_len: usize,
     ) -> u64;
+
+    /// Reads a text of Intel HEX into a chip's bytes. The chip is the whole lent slice. A byte that
+    /// no record names is 255, and where several records name one the last counts. A line is what
+    /// stands up to a line feed, or up to the text's end; a carriage return just before the line
+    /// feed belongs to the line's end. Every line is a record: a colon and two hex digits a byte,
+    /// of either case. The bytes are a count, two of an offset with the high one first, a type, as
+    /// many data bytes as the count says, and a checksum, by which all of them sum to 0 modulo 256.
+    /// Type 00 has data bytes from the offset on, up to offset 65535, in a block of 64 KiB: block
+    /// 0, or the one that the last type 04 before it names. Type 04 has two data bytes, a block's
+    /// number with the high byte first, and type 01 has none and ends the text; both have offset 0.
+    pub(crate) fn onerom_read_hex(
+        text: *const u8,
+        text_len: usize,
+        chip: *mut u8,
+        chip_len: usize,
+    ) -> u64;
+
+    /// Writes a chip's bytes as a text of Intel HEX, which onerom_read_hex reads as the same bytes.
+    /// The text has records of type 00 with 16 data bytes, the last one with what is left, a record
+    /// of type 04 ahead of each block of 64 KiB but the first, and at the end :00000001FF;
+    /// capitals, and a line feed behind each record. Of n bytes the text has 12 * ceil(n / 16) + 2
+    /// * n + 16 * max(ceil(n / 65536) - 1, 0) + 12 characters: 12 of none, 46141436 of 2^24.
+    pub(crate) fn onerom_write_hex(
+        chip: *const u8,
+        chip_len: usize,
+        text: *mut u8,
+        text_len: usize,
+    ) -> u64;
+
+    /// Says which line of a text of Intel HEX is the first at fault, where onerom_read_hex answers
+    /// 26, 27 or 28 to the text and a chip of this size. Lines are counted from 1. Where no line is
+    /// of type 01, and nothing else is at fault, it is the line behind the last.
+    pub(crate) fn onerom_hex_fault_line(text: *const u8, text_len: usize, chip_size: u64) -> u64;
 }

@@ -17,6 +17,10 @@ pub enum Call {
     RoundTrip,
     /// `well_wired`.
     WellWired,
+    /// `read_hex`.
+    ReadHex,
+    /// `write_hex`.
+    WriteHex,
 }
 
 impl fmt::Display for Call {
@@ -28,11 +32,13 @@ impl fmt::Display for Call {
             Self::ReadBack => "read-back",
             Self::RoundTrip => "round trip",
             Self::WellWired => "test of the wiring",
+            Self::ReadHex => "reading of Intel HEX",
+            Self::WriteHex => "writing of Intel HEX",
         })
     }
 }
 
-/// Why a call gave no layout, table or ROM.
+/// Why a call gave no layout, table, ROM or text.
 #[derive(Debug, Clone, Copy, PartialEq, Eq)]
 pub struct Refusal {
     /// Who refused: a number can mean one thing in one search and another in the other.
@@ -75,11 +81,11 @@ const fn row(name: &'static str, place: Place, meaning: &'static str) -> Row {
 }
 
 /// Number n at place n - 1.
-const ROWS: [Row; 25] = [
+const ROWS: [Row; 28] = [
     row(
         "OutOfDomain",
         Place::Nothing,
-        "a record of another length, or a number in it that no board or chip can have",
+        "a record of another length, or a number that no board or chip can have",
     ),
     row(
         "NoSelectLine",
@@ -177,10 +183,26 @@ const ROWS: [Row; 25] = [
         Place::Nothing,
         "the Multi set has no active line",
     ),
+    row(
+        "BadRecord",
+        Place::Nothing,
+        "a line is no record of Intel HEX, or the end record is missing",
+    ),
+    row(
+        "BadChecksum",
+        Place::Nothing,
+        "a record's bytes do not sum to zero",
+    ),
+    row(
+        "PastChip",
+        Place::Nothing,
+        "a record has a data byte past the chip",
+    ),
 ];
 
-/// What a call means otherwise: the select search, and the round trip that is either search's.
-const OWN_ROWS: [(Call, u16, Row); 4] = [
+/// What a call means otherwise: the select search, the round trip that is either search's, and the
+/// calls on Intel HEX, which have no record of the library's.
+const OWN_ROWS: [(Call, u16, Row); 6] = [
     (
         Call::Select,
         3,
@@ -214,7 +236,15 @@ const OWN_ROWS: [(Call, u16, Row); 4] = [
         9,
         row("NoValidLayout", Place::Nothing, "no choice of GPIOs fits"),
     ),
+    (Call::ReadHex, 1, CHIP_TOO_LARGE),
+    (Call::WriteHex, 1, CHIP_TOO_LARGE),
 ];
+
+const CHIP_TOO_LARGE: Row = row(
+    "OutOfDomain",
+    Place::Nothing,
+    "a chip has at most 16777216 bytes",
+);
 
 const UNKNOWN: Row = row(
     "Unknown",
@@ -227,13 +257,25 @@ const PLACES: u32 = 48;
 impl Refusal {
     /// The refusal that a call's result says; none if the result is a success.
     pub fn of(call: Call, result: u64) -> Option<Self> {
+        (result != 0).then(|| Self::told(call, result))
+    }
+
+    /// The same of a call that answers with a length where it succeeds.
+    pub fn or_length(call: Call, result: u64) -> Result<usize, Self> {
+        match result >> PLACES {
+            0 => Ok(result as usize),
+            _ => Err(Self::told(call, result)),
+        }
+    }
+
+    fn told(call: Call, result: u64) -> Self {
         let number = (result >> PLACES) as u16;
-        (result != 0).then(|| Self {
+        Self {
             call,
             number,
             name: row_of(call, number).name,
             place: result & ((1 << PLACES) - 1),
-        })
+        }
     }
 
     /// What it means, in a line.

@@ -9,6 +9,7 @@ use onerom::build_rom_image;
 use super::verify::verified;
 use super::{Command, Flags};
 use crate::ending::{Done, Fault, complain, say};
+use crate::hex_files::HEX;
 use crate::hints::hinted;
 use crate::inputs::{ANY_LENGTH, Inputs, NO_FILE};
 use crate::laid_out;
@@ -26,24 +27,27 @@ pub const BUILD: Command = Command {
     help: "\
 Reads FILE, a description, and a CHIP file for each of its chips, in order; `-`
 is a chip without bytes. A chip's file has just the chip's bytes; with
---any-length it may be longer, and of a shorter one the build is refused.
-Writes the table's bytes, and nothing else, to TABLE: when the
-table is built, whole or not at all; `-` is the standard output. TABLE may
-replace a file that is there, but none that is read and none that is read-only.
+--any-length it may be longer, and of a shorter one the build is refused. One
+whose name ends in .hex or .ihx is read as Intel HEX into a chip of its size,
+and with --hex they all are; --any-length says nothing of these.
+
+Writes the table's bytes, and nothing else, to TABLE: when the table is built,
+whole or not at all; `-` is the standard output. TABLE may replace a file that
+is there, but none that is read and none that is read-only.
 
 A table that does not read back as the chips, which can only be if the slot is
 not well wired, is not written unless --unverified is given. Where the address
 lines in use do not reach all words of a chip, and no excess line explains it,
 nothing is written; --part accepts it.
 
-Exit codes: 0 built; 1 a search or the build refuses, the table does not read
-back, or words of a chip are not reached; 2 other words, or a file that cannot
-be used.
+Exit codes: 0 built; 1 a search, the build or a text of Intel HEX is refused,
+the table does not read back, or words of a chip are not reached; 2 other words,
+or a file that cannot be used.
 
 Example:
     onerom-bench build 2764.txt table.bin 2764.bin
 ",
-    flags: &[ANY_LENGTH, PART, UNVERIFIED],
+    flags: &[ANY_LENGTH, HEX, PART, UNVERIFIED],
     run,
 };
 
@@ -57,7 +61,7 @@ fn run(words: &[OsString], flags: &Flags) -> Done {
         return Err(Fault::Words);
     }
     let (file, table) = (Path::new(file), Path::new(table));
-    let inputs = Inputs::read(file, chips, flags.has(ANY_LENGTH))?;
+    let inputs = Inputs::read(file, chips, flags)?;
     if table == Path::new(NO_FILE) {
         let (bytes, parts) = built(&inputs, flags)?;
         complain(&parts);
@@ -72,13 +76,14 @@ fn run(words: &[OsString], flags: &Flags) -> Done {
     Ok(ExitCode::SUCCESS)
 }
 
-/// The table, and what is to be said of the wiring and of chips that it serves in part.
+/// The table, and what is to be said of the wiring, of chips that it serves in part and of texts that
+/// leave bytes open.
 fn built(inputs: &Inputs, flags: &Flags) -> Result<(Vec<u8>, String), Fault> {
     let (slot, images) = (&inputs.slot, inputs.images());
     let of_slot = |refusal| hinted(slot, &images, refusal);
     let (addr, cs_data) = laid_out(slot).map_err(of_slot)?;
     let wrong = complaints(slot, &addr)?;
-    let parts = wrong + &parts_served(slot, &addr, flags.has(PART))?;
+    let parts = wrong + &parts_served(slot, &addr, flags.has(PART))? + &inputs.open;
     if !flags.has(UNVERIFIED) {
         verified(slot, &images)?;
     }

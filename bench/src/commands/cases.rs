@@ -1,13 +1,15 @@
 //! `onerom-bench compare`, `onerom-bench compare-large`, `onerom-bench replay` and `onerom-bench speed`: the library beside the
-//! original.
+//! original; `onerom-bench compare-hex` beside the model, and `onerom-bench speed-hex` beside other programs.
 
 use std::ffi::{OsStr, OsString};
 use std::path::Path;
 
 use super::Command;
+use crate::compare::hex::compare_hex;
 use crate::compare::{compare, compare_large};
 use crate::ending::{Done, Fault};
 use crate::replay::replay;
+use crate::speed::hex::speed_hex;
 use crate::speed::speed;
 
 pub const COMPARE: Command = Command {
@@ -45,6 +47,28 @@ Example, a dozen seconds:
 ",
     flags: &[],
     run: |words, _| on_cases(words, compare_large),
+};
+
+pub const COMPARE_HEX: Command = Command {
+    name: "compare-hex",
+    words: "SEED COUNT",
+    summary: "Holds reading and writing of Intel HEX against the model",
+    help: "\
+Reads no file. Makes COUNT texts of Intel HEX from SEED, both numbers from 0:
+one in four is sound, the others have up to three damages, and in some of these
+the checksums are mended. Reads each between guard pages, and holds the answer,
+the chip's bytes and the line of the fault against the model. What is read is
+written again, to a buffer of its length and to one that is too short, and read
+back; of chips over 1024 bytes some. Writes how often each answer came to the
+standard output.
+
+Exit codes: 0 no difference; 1 one; 2 other words.
+
+Example, half a minute:
+    onerom-bench compare-hex 1 1000000
+",
+    flags: &[],
+    run: |words, _| on_cases(words, compare_hex),
 };
 
 pub const REPLAY: Command = Command {
@@ -89,6 +113,31 @@ Example, a minute or two:
     run: |words, _| match words {
         [] => speed(None),
         [file] => speed(Some(Path::new(file))),
+        _ => Err(Fault::Words),
+    },
+};
+
+pub const SPEED_HEX: Command = Command {
+    name: "speed-hex",
+    words: "[FILE]",
+    summary: "Measures Intel HEX of 1 MiB, beside objcopy and srec_cat",
+    help: "\
+Runs `to-hex` and `from-hex`, objcopy and srec_cat in turn on files of its own,
+1 MiB of random bytes and its text, and the library's calls alone. Writes a
+table of the best times to the standard output and, if FILE is given, into FILE
+between the two lines that say where it goes. It takes a release build. A
+program that is not there has no time.
+
+Exit codes: 0 measured; 1 a program fails or makes other bytes, or no release
+build; 2 other words, or a file that cannot be used.
+
+Example, a few seconds:
+    onerom-bench speed-hex
+",
+    flags: &[],
+    run: |words, _| match words {
+        [] => speed_hex(None),
+        [file] => speed_hex(Some(Path::new(file))),
         _ => Err(Fault::Words),
     },
 };

@@ -1,16 +1,18 @@
 //! `onerom-bench read-back`: from a slot and its table's file to the ROMs' files.
 
+use std::borrow::Cow;
 use std::ffi::OsString;
 use std::fs;
 use std::path::{Path, PathBuf};
 use std::process::ExitCode;
 
 use onerom::interface::refusals::WRONG_SIZE;
-use onerom::{Description, StoredSlot, unscramble_slot};
+use onerom::{Description, StoredSlot, hex_text, unscramble_slot};
 use onerom_bench::text::{self, TextError};
 
 use super::{Command, Flags};
 use crate::ending::{Done, Fault, complain, say};
+use crate::hex_files::{HEX, is_hex};
 use crate::hints::hinted;
 use crate::inputs::{Files, NO_FILE, bytes_up_to, expect_files, text_of};
 use crate::laid_out;
@@ -19,16 +21,17 @@ use crate::reach::{PART, parts_served};
 
 pub const READ_BACK: Command = Command {
     name: "read-back",
-    words: "[--part] FILE TABLE CHIP..",
+    words: "[FLAG..] FILE TABLE CHIP..",
     summary: "Reads a table back into a file for each ROM",
     help: "\
 Reads FILE, a description or a stored slot of `layout`, and TABLE, the bytes
 that are stored. From a description both searches run, and the table is taken
 to be built by what they find. Writes each ROM's bytes to its CHIP file, in
-order, a plugin's to the only one. Of several, `-` is a ROM that is not written;
-the only one goes to the standard output by it. The files are written when all
-ROMs are read, each whole or not at all. They may replace files that are there,
-but none that is read.
+order, a plugin's to the only one; as Intel HEX where the file's name ends in
+.hex or .ihx, and with --hex to each. Of several, `-` is a ROM that is not
+written; the only one goes to the standard output by it. The files are written
+when all ROMs are read, each whole or not at all. They may replace files that
+are there, but none that is read.
 
 Where a ROM has more words than its address lines reach, and no excess line of
 the description explains it, nothing is written; --part accepts it.
@@ -39,7 +42,7 @@ back in part; 2 other words, or a file that cannot be used.
 Example:
     onerom-bench read-back slot.txt table.bin rom.bin
 ",
-    flags: &[PART],
+    flags: &[HEX, PART],
     run,
 };
 
@@ -68,16 +71,34 @@ fn run(words: &[OsString], flags: &Flags) -> Done {
         expect_whole(&slot, &roms)?;
     }
     let parts = parts.unwrap_or_default();
-    if let ([chip], [rom]) = (&chips[..], &roms[..])
+    let contents = contents(&chips, &roms, flags)?;
+    if let ([chip], [content]) = (&chips[..], &contents[..])
         && !is_written(chip)
     {
         complain(&parts);
-        write_out(rom)?;
+        write_out(content)?;
         return Ok(ExitCode::SUCCESS);
     }
-    write(&slot, &chips, &roms)?;
+    write(&chips, &contents)?;
+    say(&told_files(&slot, &chips, &roms, flags))?;
     say(&parts)?;
     Ok(ExitCode::SUCCESS)
+}
+
+/// What the files are to have: the ROMs' bytes, or texts of them.
+fn contents<'a>(
+    chips: &[&Path],
+    roms: &'a [Vec<u8>],
+    flags: &Flags,
+) -> Result<Vec<Cow<'a, [u8]>>, Fault> {
+    let content = |(chip, rom): (&&Path, &'a Vec<u8>)| {
+        Ok(if is_hex(chip, flags) {
+            Cow::Owned(hex_text(rom)?)
+        } else {
+            Cow::Borrowed(&rom[..])
+        })
+    };
+    chips.iter().zip(roms).map(content).collect()
 }
 
 /// A ROM at least is wanted: `-` for each of several would write none.
@@ -188,23 +209,30 @@ fn is_written(chip: &Path) -> bool {
     chip != Path::new(NO_FILE)
 }
 
-fn write(slot: &StoredSlot, chips: &[&Path], roms: &[Vec<u8>]) -> Result<(), Fault> {
-    let outputs = || chips.iter().copied().zip(roms.iter().map(|rom| &rom[..]));
-    let written: Vec<Output> = outputs().filter(|(chip, _)| is_written(chip)).collect();
-    write_whole(&written)?;
-    for (number, (chip, rom)) in outputs().enumerate() {
+fn write(chips: &[&Path], contents: &[Cow<[u8]>]) -> Result<(), Fault> {
+    let outputs = chips
+        .iter()
+        .copied()
+        .zip(contents.iter().map(|own| &own[..]));
+    let written: Vec<Output> = outputs.filter(|(chip, _)| is_written(chip)).collect();
+    write_whole(&written)
+}
+
+/// A line for each ROM: where it is, and how many bytes it has.
+fn told_files(slot: &StoredSlot, chips: &[&Path], roms: &[Vec<u8>], flags: &Flags) -> String {
+    let line = |(number, (chip, rom)): (usize, (&&Path, &Vec<u8>))| {
         let what = if slot.kind.is_plugin() {
             "plugin".into()
         } else {
             format!("ROM {number}")
         };
-        let left_out = if is_written(chip) {
-            ""
-        } else {
-            ", not written"
+        let how = match chip {
+            chip if !is_written(chip) => ", not written",
+            chip if is_hex(chip, flags) => " as Intel HEX",
+            _ => "",
         };
         let (name, length) = (chip.display(), rom.len());
-        say(&format!("{name}: {what}, {length} bytes{left_out}\n"))?;
-    }
-    Ok(())
+        format!("{name}: {what}, {length} bytes{how}\n")
+    };
+    chips.iter().zip(roms).enumerate().map(line).collect()
 }

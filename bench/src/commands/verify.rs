@@ -13,6 +13,7 @@ use onerom::{
 
 use super::{Command, Flags};
 use crate::ending::{Done, Fault, counted, say};
+use crate::hex_files::HEX;
 use crate::hints::hinted;
 use crate::inputs::{ANY_LENGTH, Inputs};
 use crate::laid_out;
@@ -26,23 +27,24 @@ pub const VERIFY: Command = Command {
     help: "\
 Reads FILE, a description, and a CHIP file for each of its chips, in order; `-`
 is a chip without bytes. A chip's file has just the chip's bytes; with
---any-length it may be longer. Builds the table and reads it back, and holds
-what comes back against the files. Writes no file, and the answer to the
-standard output.
+--any-length it may be longer. One whose name ends in .hex or .ihx is read as
+Intel HEX into a chip of its size, and with --hex they all are. Builds the table
+and reads it back, and holds what comes back against the files. Writes no file,
+and the answer to the standard output.
 
 Where the slot is not well wired it says why: with other bytes it may not read
 back, or the board may answer when it should not. Where the address lines in
 use do not reach all words of a chip, and no excess line explains it, that is
 told; --part accepts it.
 
-Exit codes: 0 it reads back; 1 one of the four calls refuses, a word comes back
-as another, or words of a chip are not reached; 2 other words, or a file that
-cannot be used.
+Exit codes: 0 it reads back; 1 one of the four calls or a text of Intel HEX is
+refused, a word comes back as another, or words of a chip are not reached; 2
+other words, or a file that cannot be used.
 
 Example:
     onerom-bench verify 2764.txt 2764.bin
 ",
-    flags: &[ANY_LENGTH, PART],
+    flags: &[ANY_LENGTH, HEX, PART],
     run,
 };
 
@@ -55,12 +57,12 @@ fn run(words: &[OsString], flags: &Flags) -> Done {
     if chips.is_empty() {
         return Err(Fault::Words);
     }
-    let inputs = Inputs::read(Path::new(file), chips, flags.has(ANY_LENGTH))?;
+    let inputs = Inputs::read(Path::new(file), chips, flags)?;
     let verified = verified(&inputs.slot, &inputs.images())?;
     let addr = derive_addr_layout(&inputs.slot)?;
     let wrong = complaints(&inputs.slot, &addr)?;
     let parts = parts_served(&inputs.slot, &addr, flags.has(PART))?;
-    say(&format!("{verified}\n{wrong}{parts}"))?;
+    say(&format!("{verified}\n{wrong}{parts}{}", inputs.open))?;
     Ok(ExitCode::SUCCESS)
 }
 

@@ -8,9 +8,16 @@ use crate::ending::Fault;
 use crate::inputs::text_of;
 use crate::outputs::write_whole;
 
-/// Between these lines of a file the tables go.
-const FIRST: &str = "<!-- measured -->";
-const LAST: &str = "<!-- end of what is measured -->";
+/// The two lines of a file between which tables go.
+type Marks = [&'static str; 2];
+
+pub const MARKS: Marks = ["<!-- measured -->", "<!-- end of what is measured -->"];
+
+/// Those of Intel HEX.
+pub const HEX_MARKS: Marks = [
+    "<!-- measured, Intel HEX -->",
+    "<!-- end of what is measured, Intel HEX -->",
+];
 
 /// A table for each call.
 pub fn tables(tables: &[Table]) -> String {
@@ -50,7 +57,7 @@ fn least(row: &Row, time: fn(&Times) -> Duration) -> Duration {
     row.rounds.iter().map(time).min().unwrap_or_default()
 }
 
-fn shown(time: Duration) -> String {
+pub fn shown(time: Duration) -> String {
     let microseconds = time.as_secs_f64() * 1e6;
     if microseconds < 1000.0 {
         format!("{microseconds:.2} µs")
@@ -62,21 +69,24 @@ fn shown(time: Duration) -> String {
 /// A file that tables go into, by what stands before and after them.
 pub struct Page<'a> {
     file: &'a Path,
+    marks: Marks,
     before: String,
     after: String,
 }
 
 impl<'a> Page<'a> {
-    pub fn read(file: &'a Path) -> Result<Self, Fault> {
+    pub fn read(file: &'a Path, marks: Marks) -> Result<Self, Fault> {
+        let [first, last] = marks;
         let (text, _) = text_of(file, |text, _| Ok(text.to_string()))?;
-        let rest = text.split_once(FIRST);
-        let parts = rest.and_then(|(before, rest)| Some((before, rest.split_once(LAST)?.1)));
+        let rest = text.split_once(first);
+        let parts = rest.and_then(|(before, rest)| Some((before, rest.split_once(last)?.1)));
         let (before, after) = parts.ok_or_else(|| {
-            let why = format!("expected the lines `{FIRST}` and `{LAST}`, between which tables go");
+            let why = format!("expected the lines `{first}` and `{last}`, between which tables go");
             Fault::of_file(file, why)
         })?;
         Ok(Self {
             file,
+            marks,
             before: before.into(),
             after: after.into(),
         })
@@ -84,8 +94,8 @@ impl<'a> Page<'a> {
 
     /// Puts the tables in the place of those that stand there.
     pub fn put(&self, tables: &str) -> Result<(), Fault> {
-        let (before, after) = (&self.before, &self.after);
-        let text = format!("{before}{FIRST}\n\n{tables}\n{LAST}{after}");
+        let (before, after, [first, last]) = (&self.before, &self.after, self.marks);
+        let text = format!("{before}{first}\n\n{tables}\n{last}{after}");
         write_whole(&[(self.file, text.as_bytes())])
     }
 }

@@ -9,17 +9,21 @@ use std::process::{Command, Output};
 
 use super::slots::changed;
 
-const COMMANDS: [&str; 10] = [
+const COMMANDS: [&str; 14] = [
     "layout",
     "build",
     "read-back",
     "verify",
+    "to-hex",
+    "from-hex",
     "pairings",
     "sample",
     "compare",
     "compare-large",
+    "compare-hex",
     "replay",
     "speed",
+    "speed-hex",
 ];
 
 fn bench<W: AsRef<OsStr>>(words: &[W]) -> Output {
@@ -168,9 +172,12 @@ fn no_file_and_no_command() {
         "build",
         "read-back",
         "verify",
+        "to-hex",
+        "from-hex",
         "pairings",
         "compare",
         "compare-large",
+        "compare-hex",
         "replay",
     ] {
         let told = bench(&[command]);
@@ -222,7 +229,7 @@ fn flags_that_are_none_are_told() {
     let help = "`onerom-bench compare --help` says more";
     let wanted = format!("onerom-bench compare: expected no flag, found `-2`; {help}\n");
     assert_eq!(said(&["compare", "1", "-2"]), wanted);
-    let wanted = "onerom-bench build: expected --any-length, --part, --unverified, found `--any`; \
+    let wanted = "onerom-bench build: expected --any-length, --hex, --part, --unverified, found `--any`; \
         `onerom-bench build --help` says more\n";
     assert_eq!(said(&["build", "a", "--any", "b", "c"]), wanted);
     // Behind `--` a word is a file's name.
@@ -300,7 +307,7 @@ fn the_program_has_help() {
         assert_eq!(said.matches(&row).count(), 1, "{command}");
     }
     assert!(
-        said.contains("\n  onerom-bench read-back [--part] FILE TABLE CHIP..  Reads a table back")
+        said.contains("\n  onerom-bench read-back [FLAG..] FILE TABLE CHIP..  Reads a table back")
     );
     assert!(said.contains("\nExit codes: 0 "));
     for same in ["help", "-h"] {
@@ -380,11 +387,15 @@ fn an_output_that_is_full_is_a_fault() {
 fn tables_of_the_clock_go_between_two_lines() {
     let file = PathBuf::from(env!("CARGO_TARGET_TMPDIR")).join("page.md");
     std::fs::write(&file, "a page\n").expect("the file is written");
-    let told = bench(&["speed", file.to_str().expect("a plain name")]);
-    assert_eq!(told.status.code(), Some(2));
-    let said = "page.md: expected the lines `<!-- measured -->` and \
-        `<!-- end of what is measured -->`, between which tables go\n";
-    assert!(text(&told.stderr).ends_with(said));
+    for (command, of) in [("speed", ""), ("speed-hex", ", Intel HEX")] {
+        let told = bench(&[command, file.to_str().expect("a plain name")]);
+        assert_eq!(told.status.code(), Some(2));
+        let said = format!(
+            "page.md: expected the lines `<!-- measured{of} -->` and \
+             `<!-- end of what is measured{of} -->`, between which tables go\n"
+        );
+        assert!(text(&told.stderr).ends_with(&said));
+    }
 }
 
 #[test]

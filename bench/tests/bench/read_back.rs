@@ -169,7 +169,7 @@ fn files_that_cannot_be_read_are_named() {
         format!("{count} 2\n")
     );
     for words in [&[][..], &["slot.txt"]] {
-        let expected = "onerom-bench read-back: expected [--part] FILE TABLE CHIP.., found ";
+        let expected = "onerom-bench read-back: expected [FLAG..] FILE TABLE CHIP.., found ";
         assert!(said(words).starts_with(expected));
     }
     assert_eq!(folder.names(), names);

@@ -75,6 +75,30 @@ fn sixteen_bit_pins_copied_from_a_data_sheet_are_told() {
     assert_eq!(folder.refused(&["slot.txt", "chip.bin"]), lost);
 }
 
+/// What is found in files that are no dump, and what takes them.
+const NO_DUMPS: [(&str, &str, &str); 5] = [
+    ("short.bin", "8191", TAKEN),
+    ("long.bin", "65536", TAKEN),
+    (
+        "chip.txt",
+        "58, and they begin like a text of Intel HEX",
+        READ,
+    ),
+    (
+        "chip.s19",
+        "54, and they begin like a text of S-records",
+        TAKEN,
+    ),
+    (
+        "even.bin",
+        "8192, and they begin like a text of Intel HEX",
+        READ,
+    ),
+];
+
+const TAKEN: &str = "--any-length takes it";
+const READ: &str = "--hex reads it, --any-length takes it as it is";
+
 #[test]
 fn files_that_are_no_dump_are_told() {
     let hex = b":10000000214601360121470136007EFE09D2190140\r\n:00000001FF\r\n";
@@ -83,26 +107,20 @@ fn files_that_are_no_dump_are_told() {
         let folder = Folder::new(command, "dump");
         folder.write("short.bin", &[0; 8191]);
         folder.write("long.bin", &[0; 65536]);
-        folder.write("chip.hex", hex);
+        folder.write("chip.txt", hex);
         folder.write("chip.s19", records);
         let mut text = hex.to_vec();
         text.resize(8192, b'\n');
-        folder.write("even.hex", &text);
+        folder.write("even.bin", &text);
         let words = |chip: &'static str| -> Vec<&'static str> {
             let before = ["slot.txt", "table.bin"];
             let before = &before[..if command == "build" { 2 } else { 1 }];
             before.iter().copied().chain([chip]).collect()
         };
         let names = folder.names();
-        for (chip, found) in [
-            ("short.bin", "8191"),
-            ("long.bin", "65536"),
-            ("chip.hex", "58, and they begin like a text of Intel HEX"),
-            ("chip.s19", "54, and they begin like a text of S-records"),
-            ("even.hex", "8192, and they begin like a text of Intel HEX"),
-        ] {
+        for (chip, found, taken) in NO_DUMPS {
             let expected = "expected the chip's 8192 bytes, found";
-            let said = format!("{chip}: {expected} {found}; --any-length takes it\n");
+            let said = format!("{chip}: {expected} {found}; {taken}\n");
             assert_eq!(folder.unread(&words(chip)), said);
         }
         assert_eq!(folder.names(), names);

@@ -1,6 +1,7 @@
-//! Seeded cases inside 01's domain.
+//! Seeded cases inside 01's domain, and texts of Intel HEX.
 
 mod faults;
+mod hex;
 mod leaves;
 mod slots;
 mod tables;
@@ -8,6 +9,8 @@ mod wiring;
 
 use crate::case::Case;
 use crate::random::Random;
+
+pub use hex::HexCase;
 
 /// The case of a number under a seed; kinds take turns.
 pub fn case(seed: u64, number: u64, kinds: &[u64]) -> Case {
@@ -34,4 +37,9 @@ pub fn large_build(seed: u64, number: u64) -> Case {
 /// A read-back of as much.
 pub fn large_read_back(seed: u64, number: u64) -> Case {
     tables::large_read_back(&mut Random::of_case(seed, number))
+}
+
+/// A text of Intel HEX, sound or damaged.
+pub fn hex_case(seed: u64, number: u64) -> HexCase {
+    hex::case(&mut Random::of_case(seed, number))
 }

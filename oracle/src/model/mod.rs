@@ -1,10 +1,12 @@
 //! Document 01 once more, written from its text alone, as plainly as it can be run: what the
-//! original is held against, and the answer where the original has none.
+//! original is held against, and the answer where the original has none. hex.rs is a slip of
+//! document 02, of which the original has nothing.
 
 pub mod address;
 pub mod build;
 pub mod choice;
 pub mod domain;
+pub mod hex;
 pub mod multi;
 pub mod read_back;
 pub mod select;

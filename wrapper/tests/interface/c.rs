@@ -1,6 +1,6 @@
 //! The C header.
 
-use super::page::{Answer, Call, Group, Page, Place, Record};
+use super::page::{Answer, Call, Group, Page, Parameter, Place, Record, Use};
 use super::words::{plain, sentence, told, upper, wrapped};
 
 const WIDTH: usize = 120;
@@ -161,12 +161,13 @@ fn record(record: &Record) -> String {
 fn call(page: &Page, call: &Call) -> String {
     let mut paragraphs: Vec<String> = call.about.iter().map(|text| plain(text)).collect();
     for parameter in &call.parameters {
-        let used = if parameter.lent { "lent" } else { "read" };
+        let used = parameter.used.word();
         let about = plain(&parameter.what);
         paragraphs.push(format!(" {}: {used}, {about}", parameter.name));
     }
     let buffers = plain(&call.buffers);
-    paragraphs.push(if call.parameters.iter().any(|parameter| parameter.lent) {
+    let is_lent = |parameter: &Parameter| parameter.used == Use::Lent;
+    paragraphs.push(if call.parameters.iter().any(is_lent) {
         format!("The number of the result; {buffers} as before the call where no more is said:")
     } else {
         "The number of the result:".into()
@@ -199,26 +200,27 @@ fn prototype(call: &Call) -> String {
     let begin = format!("uint64_t {}(", call.name);
     let hang = " ".repeat(begin.len());
     let mut lines = vec![begin];
-    for (number, parameter) in call.parameters.iter().enumerate() {
-        let name = &parameter.name;
-        let read = if parameter.lent { "" } else { "const " };
-        let end = if number + 1 == call.parameters.len() {
-            ");"
+    let parts: Vec<String> = call.parameters.iter().flat_map(declared).collect();
+    for (number, part) in (1..).zip(&parts) {
+        let end = if number == parts.len() { ");" } else { "," };
+        let line = lines.last_mut().expect("a line");
+        let gap = if line.ends_with(',') { " " } else { "" };
+        if line.len() + gap.len() + part.len() + end.len() <= WIDTH {
+            *line += &format!("{gap}{part}{end}");
         } else {
-            ","
-        };
-        for part in [
-            format!("{read}uint8_t *{name},"),
-            format!("size_t {name}_len{end}"),
-        ] {
-            let line = lines.last_mut().expect("a line");
-            let gap = if line.ends_with(',') { " " } else { "" };
-            if line.len() + gap.len() + part.len() <= WIDTH {
-                *line += &format!("{gap}{part}");
-            } else {
-                lines.push(format!("{hang}{part}"));
-            }
+            lines.push(format!("{hang}{part}{end}"));
         }
     }
     lines.join("\n") + "\n"
+}
+
+/// A slice as a pointer and a length, a value as itself.
+fn declared(parameter: &Parameter) -> Vec<String> {
+    let name = &parameter.name;
+    let pointer = match parameter.used {
+        Use::Read => "const uint8_t *",
+        Use::Lent => "uint8_t *",
+        Use::Value => return vec![format!("uint64_t {name}")],
+    };
+    vec![format!("{pointer}{name}"), format!("size_t {name}_len")]
 }

@@ -32,17 +32,51 @@ fn prints_what_the_page_says(program: &Path) {
     assert_eq!(String::from_utf8_lossy(&told.stdout), shown("text"));
 }
 
-#[test]
-fn the_example_in_c() {
-    assert_eq!(shown("c"), text("include/example.c"));
-    let program = Path::new(env!("CARGO_TARGET_TMPDIR")).join("example");
+/// Compiles a program in C and links it with the library.
+fn compiled(source: &Path, name: &str) -> PathBuf {
+    let program = Path::new(env!("CARGO_TARGET_TMPDIR")).join(name);
     let mut compiler = Command::new("cc");
     compiler.args(["-std=c99", "-Wall", "-Wextra", "-Werror", "-pedantic", "-I"]);
-    compiler.arg(file("include")).arg(file("include/example.c"));
+    compiler.arg(file("include")).arg(source);
     compiler.arg(Path::new(env!("ONEROM_FOLDER")).join("libonerom.a"));
     compiler.arg("-o").arg(&program);
     assert!(is_success(&compiler.output().expect("a C compiler")));
+    program
+}
+
+#[test]
+fn the_example_in_c() {
+    assert_eq!(shown("c"), text("include/example.c"));
+    let program = compiled(&file("include/example.c"), "example");
     prints_what_the_page_says(&program);
+}
+
+/// The calls on Intel HEX, which no example has: a length and a line are the result itself.
+const HEX_IN_C: &str = r#"#include "onerom.h"
+#include <string.h>
+
+int main(void)
+{
+    static const uint8_t chip[2] = {0x55, 0xFF};
+    static const char wrong[] = ":0100000055AA\n:00000001FE";
+    static uint8_t text[40], back[2];
+    uint64_t length = onerom_write_hex(chip, sizeof chip, text, sizeof text);
+    uint64_t refused = onerom_read_hex((const uint8_t *)wrong, sizeof wrong - 1, back, sizeof back);
+
+    return !(length == 28 && memcmp(text, ":0200000055FFAA\n:00000001FF\n", 28) == 0
+             && onerom_number(refused) == ONEROM_BAD_CHECKSUM && back[0] == 0
+             && onerom_hex_fault_line((const uint8_t *)wrong, sizeof wrong - 1, sizeof back) == 2
+             && onerom_read_hex(text, (size_t)length, back, sizeof back) == 0
+             && memcmp(chip, back, sizeof chip) == 0);
+}
+"#;
+
+#[test]
+fn the_calls_on_intel_hex_in_c() {
+    let source = Path::new(env!("CARGO_TARGET_TMPDIR")).join("hex.c");
+    std::fs::write(&source, HEX_IN_C).expect("the file is written");
+    let told = Command::new(compiled(&source, "hex")).output();
+    assert!(is_success(&told.expect("the program")));
 }
 
 #[test]

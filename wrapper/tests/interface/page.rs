@@ -39,10 +39,34 @@ pub struct Record {
     pub places: Vec<Place>,
 }
 
+/// What a call does with a parameter.
+#[derive(Clone, Copy, PartialEq, Eq)]
+pub enum Use {
+    /// A slice that is read.
+    Read,
+    /// A slice that it writes to.
+    Lent,
+    /// A number.
+    Value,
+}
+
+impl Use {
+    const ALL: [(&'static str, Self); 3] = [
+        ("read", Self::Read),
+        ("lent", Self::Lent),
+        ("value", Self::Value),
+    ];
+
+    /// As the page has it.
+    pub fn word(self) -> &'static str {
+        let own = Self::ALL.iter().find(|(_, used)| *used == self);
+        own.expect("all of them are named").0
+    }
+}
+
 pub struct Parameter {
     pub name: String,
-    /// Whether the call writes to it.
-    pub lent: bool,
+    pub used: Use,
     pub what: String,
 }
 
@@ -187,15 +211,12 @@ fn call(section: &Section) -> Call {
     }
 }
 
-fn parameter([called, lent, what]: [&str; 3]) -> Parameter {
-    let lent = match lent {
-        "read" => false,
-        "lent" => true,
-        _ => panic!("{called}: a parameter is read or lent"),
-    };
+fn parameter([called, word, what]: [&str; 3]) -> Parameter {
+    let used = Use::ALL.iter().find(|(own, _)| *own == word);
+    let used = used.unwrap_or_else(|| panic!("{called}: a parameter is read, lent or a value"));
     Parameter {
         name: name(called),
-        lent,
+        used: used.1,
         what: what.into(),
     }
 }

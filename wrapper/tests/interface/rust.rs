@@ -1,6 +1,6 @@
 //! The numbers and calls for Rust, in rustfmt's layout.
 
-use super::page::{Call, Page, Place, Record};
+use super::page::{Call, Page, Parameter, Place, Record, Use};
 use super::words::{plain, sentence, told, upper, wrapped};
 
 const WIDTH: usize = 100;
@@ -103,13 +103,30 @@ fn declarations(page: &Page) -> String {
     format!("\nunsafe extern \"C\" {{\n{}}}\n", calls.join("\n"))
 }
 
+/// In one line if it fits, as rustfmt has it.
 fn call(call: &Call) -> String {
-    let mut text = comment(&plain(&call.about.join(" ")), 4);
-    text += &format!("    pub(crate) fn {}(\n", call.name);
-    for parameter in &call.parameters {
-        let name = &parameter.name;
-        let pointer = if parameter.lent { "*mut" } else { "*const" };
-        text += &format!("        {name}: {pointer} u8,\n        {name}_len: usize,\n");
+    let about = comment(&plain(&call.about.join(" ")), 4);
+    let begin = format!("    pub(crate) fn {}(", call.name);
+    let parts: Vec<String> = call.parameters.iter().flat_map(declared).collect();
+    let line = format!("{begin}{}) -> u64;\n", parts.join(", "));
+    if line.len() <= WIDTH {
+        return about + &line;
     }
-    text + "    ) -> u64;\n"
+    let parts = parts.iter().map(|part| format!("        {part},\n"));
+    let parts: String = parts.collect();
+    format!("{about}{begin}\n{parts}    ) -> u64;\n")
+}
+
+/// A slice as a pointer and a length, a value as itself.
+fn declared(parameter: &Parameter) -> Vec<String> {
+    let name = &parameter.name;
+    let pointer = match parameter.used {
+        Use::Read => "*const",
+        Use::Lent => "*mut",
+        Use::Value => return vec![format!("{name}: u64")],
+    };
+    vec![
+        format!("{name}: {pointer} u8"),
+        format!("{name}_len: usize"),
+    ]
 }
