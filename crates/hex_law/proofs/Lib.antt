@@ -1,3 +1,5 @@
+pub mod Lines
+pub mod Faults
 pub mod Digits
 pub mod Records
 pub mod Passes

@@ -1,3 +1,5 @@
+pub mod Lines
+pub mod Faults
 pub mod Verdicts
 pub mod FaultLine
 pub mod Bytes
