@@ -193,24 +193,37 @@ fn past_chip(record: &[u8], block: usize, size: usize) -> Option<String> {
 pub fn named(text: &[u8], size: usize) -> (usize, usize) {
     let mut times = vec![0u8; size];
     let mut before = Before::default();
-    for line in lines(text) {
-        let Some(Some([count, high, low, kind])) = line.get(1..9).map(head) else {
-            continue;
-        };
-        if kind != DATA {
-            before.add(0, &record(line).unwrap_or(vec![0; FRAME]));
-            continue;
+    let mut rest = text;
+    while let Some([count, high, low, kind]) = rest.get(1..9).map(head) {
+        // A sound line is as long as its count says: no line feed is looked for.
+        let (line, more) = rest.split_at(rest.len().min(1 + 2 * (usize::from(count) + FRAME)));
+        if kind == DATA {
+            let start = before.block + usize::from(u16::from_be_bytes([high, low]));
+            let own = start.min(size)..(start + usize::from(count)).min(size);
+            for times in &mut times[own] {
+                *times = times.saturating_add(1);
+            }
+        } else if let Some(record) = record(line) {
+            before.add(0, &record);
         }
-        let start = before.block + usize::from(u16::from_be_bytes([high, low]));
-        let own = times.iter_mut().skip(start).take(usize::from(count));
-        own.for_each(|times| *times = times.saturating_add(1));
+        rest = behind_end(more);
     }
     let at_least = |least: u8| times.iter().filter(|times| **times >= least).count();
     (at_least(1), at_least(2))
 }
 
-/// Count, offset and type: all that a data record's place hangs on.
-fn head(digits: &[u8]) -> Option<[u8; 4]> {
-    let [one, two, three, four] = [0, 2, 4, 6].map(|place| byte(&digits[place..place + 2]));
-    Some([one?, two?, three?, four?])
+/// What follows a line's end.
+fn behind_end(text: &[u8]) -> &[u8] {
+    match text {
+        [b'\r', b'\n', rest @ ..] | [b'\n', rest @ ..] => rest,
+        rest => rest,
+    }
+}
+
+/// Count, offset and type: all that a data record's place hangs on. The text is sound, so that they are
+/// digits.
+fn head(digits: &[u8]) -> [u8; 4] {
+    let value = |letter: u8| (letter & 0xF) + 9 * (letter >> 6);
+    let byte = |at: usize| value(digits[at]) << 4 | value(digits[at + 1]);
+    [0, 2, 4, 6].map(byte)
 }

@@ -109,6 +109,12 @@ pub last-fault : (line : List ℕ) (size upper s : ℕ) → shaped line ≡ true
 unfolding lineFault
 last-fault line size upper s e f h = rw (e, eq-eqb (sumOf line) 0 (sym f ∙ h)) refl
 
+-- the last test, by the fields
+pub past-by : (line : List ℕ) (size upper kind n at : ℕ) → kind ≡ typeOf line → n ≡ countOf line → at ≡ offsetOf line
+    → eqb kind 0 && ltb 0 n && ltb size (65536 * upper + at + n) ≡ pastChip size upper line
+unfolding isData
+past-by line size upper kind n at e f g = rw (e, f, g) refl
+
 -- a line without a fault passes all three tests
 abbrev told : FirstFault → ℕ
 told None = 0

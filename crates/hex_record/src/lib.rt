@@ -10,8 +10,10 @@ use refusal::first::FirstFault;
 use refusal::first::fault_if;
 ghost use mathlib.Core.Path.{_≡_};
 ghost use Prim.Native.Nat.{_+_, _*_, _<_, _≤_, _^_};
-ghost use lib.Dec.{ltb};
-ghost use Rattle.hex_record.specs.Record.{countOf, offsetOf, addressOf, wellFormed, typeSound, shaped, pastChip, lineFault, isEnd, isData, upperAfter};
+ghost use mathlib.Core.Bool.{_&&_};
+ghost use lib.Dec.{eqb, ltb};
+ghost use Rattle.hex_record.specs.Record.{countOf, offsetOf, addressOf, wellFormed, typeSound, shaped, lineFault, isEnd, isData, upperAfter};
+ghost use Rattle.hex_record.specs.design.Fields.{Fields};
 ghost use Rattle.hex_record.specs.design.Same.{same};
 
 // How many data bytes a record has.
@@ -39,10 +41,11 @@ pub fn address(line: &[u8], upper: u32) -> usize
 }
 
 // Whether a line is a colon and as many digits as its count asks for.
-fn well_formed(line: &[u8]) -> bool
+fn well_formed(line: &[u8], n: usize) -> bool
+    requires { ⌜ (n ≡ countOf (now line)) × (n ≤ 272) ⌝ }
     ensures { λ r. ⌜ r ≡ wellFormed (now (line .entry)) ⌝ }
 {
-    (entry(line, 0) == 58) & (line.len() == 2 * count(line) + 11) & all_digits(line)
+    (entry(line, 0) == 58) & (line.len() == 2 * n + 11) & all_digits(line)
 }
 
 // Whether a record of this type may have so many data bytes at this offset.
@@ -59,19 +62,20 @@ fn type_sound(kind: u16, count: usize, offset: usize) -> bool
     (kind == 4) & (count == 2) & (offset == 0)
 }
 
-// Whether a line has a record's shape.
-fn shaped(line: &[u8]) -> bool
+// Whether a line has a record's shape. Its fields are handed in, so that they are read from their digits once.
+fn shaped(line: &[u8], kind: u16, n: usize, at: usize) -> bool
+    requires { ⌜ Fields (now line) kind n at ⌝ }
     ensures { λ r. ⌜ r ≡ shaped (now (line .entry)) ⌝ }
 {
-    well_formed(line) & type_sound(record_byte(line, 3), count(line), offset(line))
+    well_formed(line, n) & type_sound(kind, n, at)
 }
 
-// Whether a record has a data byte at an address past a chip of `size` bytes.
-fn past_chip(line: &[u8], upper: u32, size: usize) -> bool
-    ensures { λ r. ⌜ r ≡ pastChip size upper (now (line .entry)) ⌝ }
+// Whether a record of this type has a data byte past `size`, where its n data bytes begin at an address.
+fn past_chip(kind: u16, n: usize, address: usize, size: usize) -> bool
+    requires { ⌜ (n ≤ 272) × (address < 2 ^ 49) ⌝ }
+    ensures { λ r. ⌜ r ≡ eqb kind 0 && ltb 0 n && ltb size (address + n) ⌝ }
 {
-    let n = count(line);
-    is_data(line) & (0 < n) & (size < address(line, upper) + n)
+    (kind == 0) & (0 < n) & (size < address + n)
 }
 
 // Whether two byte strings are the same.
@@ -98,13 +102,17 @@ pub fn line_fault(line: &[u8], upper: u32, size: usize) -> FirstFault
     if same(line, b":00000001FF") {
         return FirstFault::None;
     }
-    if !shaped(line) {
+    let kind = record_byte(line, 3);
+    let n = count(line);
+    let at = offset(line);
+    if !shaped(line, kind, n, at) {
         return FirstFault::Of(Refusal::BadRecord);
     }
-    if sum(line, count(line) + 5) != 0 {
+    if sum(line, n + 5) != 0 {
         return FirstFault::Of(Refusal::BadChecksum);
     }
-    fault_if(past_chip(line, upper, size), Refusal::PastChip)
+    let past = past_chip(kind, n, 65536 * upper as usize + at, size);
+    fault_if(past, Refusal::PastChip)
 }
 
 // Whether a record is the end.

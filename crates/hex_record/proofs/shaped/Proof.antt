@@ -7,15 +7,8 @@ use Rattle.hex_record.proofs.shaped.Tie as tie
 returns : tie.Need-returns
 unfolding shaped
 returns c =
-    rw (c .type-sound .ensures, c .before .offset .ensures .0, c .before .before .count .ensures .0, c .before .before .before .record-byte .ensures .0, c .before .before .before .before .well-formed .ensures)
+    let s = c .before .before .before in
+    rw (c .type-sound .ensures, c .before .well-formed .ensures, s .pre .typed, s .pre .counted, s .pre .placed)
 
 pub shaped-spec : {M : Type 1} → statement M
-shaped-spec =
-    tie.close
-    (tie.spec
-    (λ c κs. search needs)
-    (λ c κs. search needs)
-    (λ c κs. search needs)
-    (λ c κs. search needs)
-    (λ c κs. search needs)
-    returns)
+shaped-spec = tie.close (tie.spec (λ c κs. search needs) (λ c κs. search needs) returns)
