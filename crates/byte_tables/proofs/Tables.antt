@@ -5,17 +5,15 @@ use Prim.Native.Nat.{ℕ, _+_, _-_, _*_, _%_, _^_, _≤_, _<_}
 use native.Mathlib.Nat.{zero-mul, one-mul}
 use native.Mathlib.Decide.{decLt}
 use native.Mathlib.Omega.{arith}
-use lib.Bits.{bitOr, or-lt, or-comm, or-shifted}
+use lib.Bits.{bitOr, or-comm, or-shifted}
 use lib.ListN.{length, getD}
 use lib.Pow.{pow-add, pow-mono, shl-lt, shl-exact}
 use Rattle.lists.specs.Tab.{tab}
 use Rattle.lists.proofs.Tab.{tab-is}
 use Rattle.bits.specs.Bits.{gather, scatter}
-use Rattle.bits.proofs.Or.{bit-or}
-use Rattle.bits.proofs.Bit.{bits-same}
-use Rattle.bits.proofs.Back.{bit-gather}
-use Rattle.bits.proofs.Gathered.{gather-lt, gather-zero}
-use Rattle.bits.proofs.Scattered.{scatter-split}
+use Rattle.bits.proofs.Back.{gather-or}
+use Rattle.bits.proofs.Gathered.{gather-zero}
+use Rattle.bits.proofs.Scattered.{scatter-split, scatter-zero}
 use Rattle.byte_tables.specs.design.Doubled.{Doubled}
 
 -- 1 << k, in 64 bits and in 32
@@ -64,23 +62,26 @@ module _ (f : ℕ → ℕ) where
       let all : k ≡ 8 = omega (arith, h .within) in
       sym (tab-is f out 0 256 (h .long) (λ q b. sym (h .first q (rw all b))))
 
--- bits joined by or are gathered one by one
-pub gather-or : (n : ℕ) (p : ℕ → ℕ) (x y : ℕ) → gather n p (bitOr x y) ≡ bitOr (gather n p x) (gather n p y)
-gather-or n p x y =
-    bits-same n (gather n p (bitOr x y)) (bitOr (gather n p x) (gather n p y)) (gather-lt n p (bitOr x y))
-    (or-lt n (gather n p x) (gather n p y) (gather-lt n p x) (gather-lt n p y)) (λ k l.
-    rw (bit-gather n p (bitOr x y) k l, bit-or x y (p k), bit-or (gather n p x) (gather n p y) k, bit-gather n p x k l, bit-gather n p y k l))
+-- one bit more, so many bits up
+high : (up k : ℕ) → 2 ^ k * 2 ^ up ≡ 1 * 2 ^ (k + up)
+high up k = rw (pow-add 2 k up) (omega arith)
+
+whole : (up k j : ℕ) → (2 ^ k + j) * 2 ^ up ≡ 1 * 2 ^ (k + up) + j * 2 ^ up
+whole up k j = rw (pow-add 2 k up) (omega arith)
 
 pub gather-joins : (n : ℕ) (p : ℕ → ℕ) (up k j : ℕ) → j < 2 ^ k
     → gather n p ((2 ^ k + j) * 2 ^ up) ≡ bitOr (gather n p (j * 2 ^ up)) (gather n p (2 ^ k * 2 ^ up))
 gather-joins n p up k j l =
     let low : j * 2 ^ up < 2 ^ (k + up) = shl-lt k up l in
-    let high : 2 ^ k * 2 ^ up ≡ 1 * 2 ^ (k + up) = rw (pow-add 2 k up) (omega arith) in
-    let whole : (2 ^ k + j) * 2 ^ up ≡ 1 * 2 ^ (k + up) + j * 2 ^ up = rw (pow-add 2 k up) (omega arith) in
-    rw (whole, high, ← or-shifted 1 (k + up) (j * 2 ^ up) low, gather-or) (or-comm (gather n p (1 * 2 ^ (k + up))) (gather n p (j * 2 ^ up)))
+    rw (whole up k j, high up k, ← or-shifted 1 (k + up) (j * 2 ^ up) low, gather-or) (or-comm (gather n p (1 * 2 ^ (k + up))) (gather n p (j * 2 ^ up)))
 
 pub gather-first : (n : ℕ) (p : ℕ → ℕ) (up : ℕ) → gather n p (0 * 2 ^ up) ≡ 0
 gather-first n p up = rw zero-mul (gather-zero n p)
 
-pub scatter-joins : (n : ℕ) (p : ℕ → ℕ) (m k j : ℕ) → j < 2 ^ k → scatter n p m (2 ^ k + j) ≡ bitOr (scatter n p m j) (scatter n p m (2 ^ k))
-scatter-joins n p m k j l = rw (one-mul, or-comm) at (scatter-split n p m 1 k j l)
+pub scatter-joins : (n : ℕ) (p : ℕ → ℕ) (m up k j : ℕ) → j < 2 ^ k
+    → scatter n p m ((2 ^ k + j) * 2 ^ up) ≡ bitOr (scatter n p m (j * 2 ^ up)) (scatter n p m (2 ^ k * 2 ^ up))
+scatter-joins n p m up k j l =
+    rw (whole up k j, high up k) (scatter-split n p m 1 (k + up) (j * 2 ^ up) (shl-lt k up l) ∙ or-comm (scatter n p m (1 * 2 ^ (k + up))) (scatter n p m (j * 2 ^ up)))
+
+pub scatter-first : (n : ℕ) (p : ℕ → ℕ) (m up : ℕ) → scatter n p m (0 * 2 ^ up) ≡ 0
+scatter-first n p m up = rw zero-mul (scatter-zero n p m)

@@ -39,15 +39,19 @@ pub fn gather_table(positions: &[u8], n: usize, up: u32) -> [u32; 256]
     out
 }
 
-// What each byte comes to, scattered in a word of m bits.
-pub fn scatter_table(positions: &[u8], n: usize, m: u32) -> [u32; 256]
-    requires { ⌜ (n ≤ 31) × (m ≤ 32) ⌝ }
-    ensures { λ r. ⌜ r ≡ tab 256 (λ q. scatter n (λ k. getD (now (positions .entry)) k 0) m q) ⌝ }
+// What each byte comes to, scattered in a word of m bits, where it stands so many bits up.
+pub fn scatter_table(positions: &[u8], n: usize, m: u32, up: u32) -> [u32; 256]
+    requires { ⌜ (n ≤ 31) × (m ≤ 32) × (up ≤ 8) ⌝ }
+    ensures { λ r. ⌜ r ≡ tab 256 (λ q. scatter n (λ k. getD (now (positions .entry)) k 0) m (q * 2 ^ up)) ⌝ }
 {
     let mut out = [0u32; 256];
     let mut k: u32 = 0;
     while k < 8 {
-        double(&mut out, 1usize << k, scatter(positions, n, m, 1u32 << k));
+        double(
+            &mut out,
+            1usize << k,
+            scatter(positions, n, m, 1u32 << (k + up)),
+        );
         k += 1;
     }
     out

@@ -5,7 +5,7 @@ use entry_rows::Row;
 use entry_rows::Walked;
 use entry_rows::read_row;
 use entry_words::Reading;
-use rom_turns::fewer;
+use lists::number::fewer;
 ghost use Rattle.entry_rows.specs.design.Held.{Onward, ReadBy};
 
 // Reads the entries up to the first that disagrees.

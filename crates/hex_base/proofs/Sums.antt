@@ -4,7 +4,8 @@ use mathlib.Core.List.{List}
 use Prim.Native.Nat.{ℕ, _+_, _%_, _^_, _<_}
 use native.Mathlib.Numerals.{add-one}
 use native.Mathlib.Omega.{arith}
-use Rattle.hex_base.specs.Sum.{total, bytesTotal, checksumOf}
+use Rattle.lists.specs.Each.{total}
+use Rattle.hex_base.specs.Sum.{bytesTotal, checksumOf}
 use Rattle.hex_base.specs.Law.{ChecksumLaw}
 
 -- a loop that adds: before the first turn, one turn, and the end

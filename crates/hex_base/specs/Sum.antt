@@ -1,12 +1,8 @@
 -- The sum of a record's bytes, and their checksum. Assumes nothing.
-use Prim.Native.Nat.{ℕ, zero, suc, _+_, _-_, _%_}
+use Prim.Native.Nat.{ℕ, _-_, _%_}
 use mathlib.Core.List.{List}
 use lib.ListN.{length, getD}
-
--- the sum of f 0, f 1, .. f (n - 1)
-unfoldable pub total : ℕ → (ℕ → ℕ) → ℕ
-total zero f = 0
-total (suc n) f = total n f + f n
+use Rattle.lists.specs.Each.{total}
 
 abbrev pub bytesTotal : List ℕ → ℕ
 bytesTotal bytes = total (length bytes) (λ k. getD bytes k 0)

@@ -10,7 +10,8 @@ use lib.Seq.{getD-append-seam}
 use borrow.Author.Tests.{eq-eqb}
 use Rattle.lists.proofs.Each.{each-all}
 use Rattle.refusal.specs.declared.first.FirstFault.the-variants.{None}
-use Rattle.hex_base.specs.Sum.{total, checksumOf}
+use Rattle.lists.specs.Each.{total}
+use Rattle.hex_base.specs.Sum.{checksumOf}
 use Rattle.hex_base.proofs.Sums.{checksum-law}
 use Rattle.hex_record.specs.Digits.{isDigit}
 use Rattle.hex_record.specs.Record.{recordByte, countOf, sumOf, typeSound, shaped, pastChip, lineFault}

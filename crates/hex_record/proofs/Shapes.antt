@@ -17,7 +17,7 @@ use Rattle.refusal.specs.First.{orElse, faultIf}
 use Rattle.refusal.specs.declared.first.FirstFault.{FirstFault}
 use Rattle.refusal.specs.declared.first.FirstFault.the-variants.{None, Of}
 use Rattle.refusal.specs.declared.Refusal.the-variants.{BadRecord, BadChecksum, PastChip}
-use Rattle.hex_base.specs.Sum.{total}
+use Rattle.lists.specs.Each.{total}
 use Rattle.hex_record.specs.Digits.{digitOf, isDigit}
 use Rattle.hex_record.specs.Record.{recordByte, countOf, offsetOf, typeOf, sumOf, wellFormed, typeSound, shaped, isData, addressOf, pastChip, lineFault, upperAfter}
 use Rattle.hex_record.specs.design.Same.{same, endLine}

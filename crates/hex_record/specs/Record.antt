@@ -9,7 +9,7 @@ use Rattle.lists.specs.Tab.{tab}
 use Rattle.refusal.specs.First.{orElse, faultIf}
 use Rattle.refusal.specs.declared.Refusal.the-variants.{BadRecord, BadChecksum, PastChip}
 use Rattle.refusal.specs.declared.first.FirstFault.{FirstFault}
-use Rattle.hex_base.specs.Sum.{total}
+use Rattle.lists.specs.Each.{total}
 use Rattle.hex_record.specs.Digits.{digitOf, isDigit}
 
 -- byte k of a record: behind the colon two digits a byte, the high one first

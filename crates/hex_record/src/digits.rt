@@ -6,7 +6,7 @@ ghost use mathlib.Core.Bool.{true};
 ghost use Prim.Native.Nat.{_+_, _-_, _*_, _%_, _<_, _≤_};
 ghost use lib.ListN.{length, getD};
 ghost use Rattle.lists.specs.Each.{each};
-ghost use Rattle.hex_base.specs.Sum.{total};
+ghost use Rattle.lists.specs.Each.{total};
 ghost use Rattle.hex_record.specs.Digits.{digitOf, isDigit};
 ghost use Rattle.hex_record.specs.Record.{recordByte};
 ghost use Rattle.hex_record.specs.design.There.{ByteThere, BytesThere};

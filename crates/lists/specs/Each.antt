@@ -1,4 +1,4 @@
--- Rules that go over the entries of an array up to its count. Assumes nothing.
+-- Rules and sums that go over the entries of an array up to its count. Assumes nothing.
 use Prim.Native.Nat.{ℕ, zero, suc, _+_}
 use mathlib.Core.Bool.{Bool, true, _&&_, cond}
 use lib.Dec.{leb}
@@ -16,3 +16,8 @@ each (suc k) p = each k p && p k
 unfoldable pub tally : ℕ → (ℕ → Bool) → ℕ
 tally zero p = 0
 tally (suc k) p = tally k p + cond (p k) 1 0
+
+-- the sum of f 0, f 1, .. f (n - 1)
+unfoldable pub total : ℕ → (ℕ → ℕ) → ℕ
+total zero f = 0
+total (suc n) f = total n f + f n

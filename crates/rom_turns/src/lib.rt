@@ -1,10 +1,11 @@
 // A ROM's words, by turns: a turn has one entry for each word. The first is written, the others are held against it.
 use bits::scatter;
+use lists::number::fewer;
 use word_rows::same_row;
 use word_rows::write_row;
 ghost use mathlib.Core.Path.{_≡_};
 ghost use mathlib.Core.Bool.{true};
-ghost use Prim.Native.Nat.{ℕ, _+_, _≤_, _<_, min};
+ghost use Prim.Native.Nat.{ℕ, _+_, _≤_, _<_};
 ghost use Rattle.word_rows.specs.design.Wrote.{Wrote};
 ghost use Rattle.rom_turns.specs.design.Rom.{SameTurn, Turn, romIndex, says, turnStart};
 
@@ -23,16 +24,6 @@ pub struct Rom {
     pub start: u32,
     pub words: u32,
     pub word_bytes: u8,
-}
-
-// The lower of two numbers.
-pub fn fewer(a: u32, b: u32) -> u32
-    ensures { λ r. ⌜ r ≡ min a b ⌝ }
-{
-    if a < b {
-        return a;
-    }
-    b
 }
 
 // The index whose bits in order are e.

@@ -9,7 +9,7 @@ use lib.ListN.{getD}
 use Rattle.lists.specs.Tab.{tab}
 use Rattle.lists.proofs.Tab.{getD-tab}
 use Rattle.bits.specs.Bits.{gather}
-use Rattle.byte_tables.proofs.Tables.{gather-or}
+use Rattle.bits.proofs.Back.{gather-or}
 use Rattle.words.specs.Words.{entryWord}
 use Rattle.words.proofs.Words.{word-lt, word-short}
 use Rattle.word_rows.specs.design.Wrote.{saidBy}

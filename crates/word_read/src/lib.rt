@@ -26,7 +26,7 @@ fn lows_of(rom: Rom, order: Map) -> [u32; 256]
     ensures { λ r. ⌜ r ≡ lowsOf rom (order .positions) ⌝ }
 {
     let positions = order.positions;
-    scatter_table(&positions, rom.lines as usize, rom.pins as u32)
+    scatter_table(&positions, rom.lines as usize, rom.pins as u32, 0)
 }
 
 // Reads the words of a ROM whose entries are in order. Whether all entries agree.

@@ -6,7 +6,7 @@ use borrow.Author.Needs.{needs}
 use borrow.Author.Tests.{not-true, not-false}
 use Rattle.refusal.specs.First.{faultIf}
 use Rattle.refusal.specs.declared.Refusal.the-variants.{PastChip}
-use Rattle.hex_base.specs.Sum.{total}
+use Rattle.lists.specs.Each.{total}
 use Rattle.hex_record.specs.Record.{recordByte, sumOf, shaped, pastChip}
 use Rattle.hex_record.proofs.Shapes.{same-lists, shape-of, bytes-there, end-sound, shape-fault, sum-fault, last-fault, past-by}
 use Rattle.hex_record.proofs.line_fault.Statement.{statement}

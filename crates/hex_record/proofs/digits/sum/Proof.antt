@@ -4,7 +4,7 @@ use Prim.Native.Nat.{_-_, _%_, _≤_}
 use native.Mathlib.Omega.{arith}
 use lib.ListN.{length}
 use borrow.Author.Needs.{needs}
-use Rattle.hex_base.specs.Sum.{total}
+use Rattle.lists.specs.Each.{total}
 use Rattle.hex_base.proofs.Sums.{sum-none, sum-turn, sum-done}
 use Rattle.hex_record.specs.Record.{recordByte}
 use Rattle.hex_record.proofs.digits.sum.Statement.{statement}
