@@ -1,10 +1,13 @@
 // Where the words of a chip stand in the lent bytes.
 use words::word_at;
 ghost use mathlib.Core.Path.{_≡_};
-ghost use Prim.Native.Nat.{_+_, _*_, _≤_, _<_, _^_};
+ghost use mathlib.Core.Bool.{true};
+ghost use Prim.Native.Nat.{ℕ, _+_, _*_, _≤_, _<_, _^_};
+ghost use lib.Bits.{bitAnd};
 ghost use lib.ListN.{length};
 ghost use Rattle.words.specs.Words.{wordFrom};
 ghost use Rattle.table_fill.specs.design.Entries.{rawFrom, RawIn};
+ghost use Rattle.table_fill.specs.design.Rows.{ReadsBy, Pads};
 
 // A chip's words: where the first stands, how many there are, and what is read past them.
 pub struct Source {
@@ -37,4 +40,33 @@ pub fn raw(images: &[u8], w: usize, s: Source, pad: u32, n: u32) -> u32
         return word_of(images, w, s, n % s.count);
     }
     pad
+}
+
+// The bits of an address that tell the words of a source apart: where it is mirrored and its words are a power of two, the low ones, and
+// else all.
+pub fn mask_of(s: Source) -> u32
+    ensures { λ r. ⌜ ReadsBy s r ⌝ }
+{
+    let bits = u32::trailing_zeros(s.count);
+    if !s.mirrored | (31 < bits) {
+        return 0xFFFFFFFF;
+    }
+    if s.count != 1u32 << bits {
+        return 0xFFFFFFFF;
+    }
+    s.count - 1
+}
+
+// Whether each address up to the highest has a word in the source, by so many of its bits.
+pub fn all_stand(s: Source, mask: u32, highest: u32) -> bool
+    ensures { λ r. ⌜ (r ≡ true → (n : ℕ) → n ≤ highest → bitAnd n mask < s .count) ⌝ }
+{
+    (highest < s.count) | (mask < s.count)
+}
+
+// Whether no address from the lowest on has one.
+pub fn none_stand(s: Source, lowest: u32) -> bool
+    ensures { λ r. ⌜ (r ≡ true → Pads s lowest) ⌝ }
+{
+    !s.mirrored & (s.count <= lowest)
 }

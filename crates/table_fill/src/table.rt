@@ -1,16 +1,17 @@
-// The entries in order.
+// The rows in order.
+use crate::row::Row;
+use crate::row::write_row;
 use crate::scramble::scrambles;
 use crate::sources::Source;
-use crate::sources::raw;
+use crate::wiring::Part;
 use crate::wiring::Wiring;
-use crate::wiring::low_parts;
-use crate::wiring::next_high;
-use crate::wiring::part_of;
-use words::put_word;
+use lists::number::fewer;
+use running_address::moves;
+use running_address::next_row;
 ghost use mathlib.Core.Path.{_≡_};
 ghost use Rattle.table_fill.specs.design.Entries.{Filling, tableBy};
 
-// Writes the first entries to the front of a buffer.
+// Writes the first entries to the front of a buffer, row by row. What the first index of a row says is kept from row to row.
 pub fn fill_by(
     w: Wiring,
     sources: [Source; 8],
@@ -23,18 +24,39 @@ pub fn fill_by(
     ensures { λ _. ⌜ now (table .exit) ≡ tableBy w sources pad (now (images .entry)) entries (now (table .entry)) ⌝ }
 {
     let bytes = w.word_bytes as usize;
-    let lows = low_parts(w);
-    let low_bytes = scrambles(w, 1);
-    let high_bytes = scrambles(w, 256);
-    let mut high = part_of(w, 0);
+    let lines = w.address;
+    let picks = w.picks;
+    let line_moves = moves(&lines, w.num_lines as usize);
+    let picking = moves(&picks, w.num_picks as usize);
+    let lows = scrambles(w, 0);
+    let highs = scrambles(w, 8);
+    let mut address: u32 = 0;
+    let mut picked: u32 = 0;
     let mut i: u32 = 0;
     while i < entries {
-        let low = lows[(i % 256) as usize];
-        let source = sources[(low.picks + high.picks) as usize];
-        let word = raw(images, bytes, source, pad, low.address + high.address);
-        let entry = low_bytes[(word % 256) as usize] | high_bytes[(word / 256) as usize];
-        put_word(table, i as usize * bytes, bytes, entry);
-        high = next_high(w, high, i);
-        i += 1;
+        let row = Row {
+            first: i,
+            count: fewer(256, entries - i),
+            part: Part {
+                address: address,
+                picks: picked,
+            },
+        };
+        write_row(
+            w,
+            bytes,
+            sources,
+            pad,
+            row,
+            &line_moves,
+            &picking,
+            &lows,
+            &highs,
+            images,
+            table,
+        );
+        address = next_row(&line_moves, address, i);
+        picked = next_row(&picking, picked, i);
+        i += 256;
     }
 }

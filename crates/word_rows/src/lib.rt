@@ -10,7 +10,7 @@ ghost use lib.ListN.{length};
 ghost use Rattle.word_rows.specs.design.Wrote.{RowIn, SameRow, Wrote, rowSays, saidBy};
 
 // What an entry says, by the tables of its bytes.
-fn said(low_bytes: &[u32], high_bytes: &[u32], entry: u32) -> u32
+pub fn said(low_bytes: &[u32], high_bytes: &[u32], entry: u32) -> u32
     requires { ⌜ (entry < 2 ^ 16) × (length (now «low_bytes») ≡ 256) × (length (now «high_bytes») ≡ 256) ⌝ }
     ensures { λ r. ⌜ r ≡ saidBy (now («low_bytes» .entry)) (now («high_bytes» .entry)) entry ⌝ }
 {

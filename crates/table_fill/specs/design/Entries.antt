@@ -77,9 +77,3 @@ pub record Filling (w : Wiring) (sources : List Source) (pad : ℕ) (images : Li
   pub pad-short : pad < 2 ^ (8 * w .«word_bytes»)
   pub few : entries ≤ 2 ^ 20
   pub room : entries * w .«word_bytes» ≤ length table
-
--- what the bits above the low eight say of index i
-pub record HighIn (w : Wiring) (high : Part) (i : ℕ) : Type 0 where
-  pub wiring-in : WiringIn w
-  pub few : i < 2 ^ 24
-  pub high-is : high ≡ partOf w (i / 256 * 256)

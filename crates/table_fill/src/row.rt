@@ -1,0 +1,166 @@
+// The entries of a row.
+use crate::sources::Source;
+use crate::sources::all_stand;
+use crate::sources::mask_of;
+use crate::sources::none_stand;
+use crate::sources::raw;
+use crate::wiring::Part;
+use crate::wiring::Wiring;
+use running_address::next_address;
+use table_rows::ChipRow;
+use table_rows::scrambled;
+use table_rows::write_pads;
+use table_rows::write_words;
+use words::put_word;
+ghost use Rattle.table_fill.specs.design.Rows.{RowIn, RowWritten};
+
+// A row: its first index, how many there are, and what the first one says.
+pub struct Row {
+    pub first: u32,
+    pub count: u32,
+    pub part: Part,
+}
+
+// Each entry asks the source that its index picks. The address and the bits that pick are kept from entry to entry.
+fn each_entry(
+    w: Wiring,
+    bytes: usize,
+    sources: [Source; 8],
+    pad: u32,
+    row: Row,
+    moves: &[u32],
+    picking: &[u32],
+    lows: &[u32],
+    highs: &[u32],
+    images: &[u8],
+    table: &mut [u8],
+)
+    requires { ⌜ RowIn w bytes sources pad row (now moves) (now picking) (now lows) (now highs) (now images) (now table) ⌝ }
+    ensures { λ _. ⌜ RowWritten w bytes sources pad row (now (images .entry)) (now (table .entry)) (now (table .exit)) ⌝ }
+{
+    let mut address = row.part.address;
+    let mut picks = row.part.picks;
+    let mut q: u32 = 0;
+    while q < row.count {
+        let word = raw(images, bytes, sources[picks as usize], pad, address);
+        let entry = scrambled(bytes, lows, highs, word);
+        put_word(table, (row.first + q) as usize * bytes, bytes, entry);
+        address = next_address(moves, address, row.first + q);
+        picks = next_address(picking, picks, row.first + q);
+        q += 1;
+    }
+}
+
+// Any row, with a loop of its own for words of one byte.
+fn any_row(
+    w: Wiring,
+    bytes: usize,
+    sources: [Source; 8],
+    pad: u32,
+    row: Row,
+    moves: &[u32],
+    picking: &[u32],
+    lows: &[u32],
+    highs: &[u32],
+    images: &[u8],
+    table: &mut [u8],
+)
+    requires { ⌜ RowIn w bytes sources pad row (now moves) (now picking) (now lows) (now highs) (now images) (now table) ⌝ }
+    ensures { λ _. ⌜ RowWritten w bytes sources pad row (now (images .entry)) (now (table .entry)) (now (table .exit)) ⌝ }
+{
+    if bytes == 1 {
+        each_entry(
+            w,
+            1,
+            sources,
+            pad,
+            row,
+            moves,
+            picking,
+            lows,
+            highs,
+            images,
+            table,
+        );
+    } else {
+        each_entry(
+            w,
+            bytes,
+            sources,
+            pad,
+            row,
+            moves,
+            picking,
+            lows,
+            highs,
+            images,
+            table,
+        );
+    }
+}
+
+// Writes a row: of one chip's words, of pads, or any other. Where no line that picks is at one of the low eight positions, the row picks one
+// chip, and its addresses go from the first index's up to that with all lines of these positions.
+pub fn write_row(
+    w: Wiring,
+    bytes: usize,
+    sources: [Source; 8],
+    pad: u32,
+    row: Row,
+    moves: &[u32],
+    picking: &[u32],
+    lows: &[u32],
+    highs: &[u32],
+    images: &[u8],
+    table: &mut [u8],
+)
+    requires { ⌜ RowIn w bytes sources pad row (now moves) (now picking) (now lows) (now highs) (now images) (now table) ⌝ }
+    ensures { λ _. ⌜ RowWritten w bytes sources pad row (now (images .entry)) (now (table .entry)) (now (table .exit)) ⌝ }
+{
+    let lines = w.address;
+    let source = sources[row.part.picks as usize];
+    let mask = mask_of(source);
+    let one_chip = picking[7] == 0;
+    if one_chip & all_stand(source, mask, row.part.address + moves[7]) {
+        let words = ChipRow {
+            first: row.first,
+            count: row.count,
+            address: row.part.address,
+            start: source.start,
+            mask: mask,
+        };
+        write_words(
+            bytes,
+            words,
+            &lines,
+            w.num_lines as usize,
+            moves,
+            lows,
+            highs,
+            images,
+            table,
+        );
+    } else if one_chip & none_stand(source, row.part.address) {
+        write_pads(
+            bytes,
+            scrambled(bytes, lows, highs, pad),
+            row.first,
+            row.count,
+            table,
+        );
+    } else {
+        any_row(
+            w,
+            bytes,
+            sources,
+            pad,
+            row,
+            moves,
+            picking,
+            lows,
+            highs,
+            images,
+            table,
+        );
+    }
+}
