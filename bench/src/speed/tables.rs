@@ -71,6 +71,7 @@ pub fn of_build() -> Vec<Input> {
     let mut inputs = of_chips();
     inputs.push(input("27C080", single(chip_32(&ADDRESS_27C080))));
     inputs.extend(of_sets());
+    inputs.extend(of_other_rows());
     inputs
 }
 
@@ -144,6 +145,29 @@ fn of_512_kib() -> [(&'static str, Description); 3] {
     ]
 }
 
+/// Tables that are not made of whole rows of one chip's words and of pads: the lines that pick have
+/// the lowest positions, so that each entry is another chip's. And a chip that is read again.
+fn of_other_rows() -> Vec<Input> {
+    let four = &chip_32(&ADDRESS_27C040[..17]);
+    let mut again = single(chip_28(16));
+    again.chips[0].size /= 2;
+    vec![
+        input(
+            "four 27C010, Banked, picked low",
+            picked_low(four, SetType::Banked, 4),
+        ),
+        input(
+            "three 27C256, Multi, picked low",
+            picked_low(&chip_28(15), SetType::Multi, 3),
+        ),
+        input(
+            "four 16-bit chips, Banked, picked low",
+            picked_low(&chip_16_bit(16), SetType::Banked, 4),
+        ),
+        input("27C512 of 32 KiB, read twice", again),
+    ]
+}
+
 fn single(chip: Pinout) -> Description {
     board(&chip, SetType::Single, 1)
 }
@@ -160,31 +184,35 @@ fn input(name: &'static str, slot: Description) -> Input {
     }
 }
 
-/// The chip on a board that gives its first GPIOs to the lines that index the table, the next ones
-/// to data and selects.
+/// The chip on a board that gives its first GPIOs to the lines that index the table, those that
+/// pick a chip behind the address lines.
 fn board(pinout: &Pinout, set_type: SetType, chips: usize) -> Description {
+    let mut slot = slot(pinout, set_type, chips);
+    let mut gpios = 0..48;
+    wire(&mut slot, &mut gpios, lines(pinout));
+    wire_picks(&mut slot, &mut gpios, pinout);
+    wire_rest(&mut slot, &mut gpios, pinout);
+    slot
+}
+
+/// The same, with those that pick a chip ahead of the address lines.
+fn picked_low(pinout: &Pinout, set_type: SetType, chips: usize) -> Description {
+    let mut slot = slot(pinout, set_type, chips);
+    let mut gpios = 0..48;
+    wire_picks(&mut slot, &mut gpios, pinout);
+    wire(&mut slot, &mut gpios, lines(pinout));
+    wire_rest(&mut slot, &mut gpios, pinout);
+    slot
+}
+
+/// A slot of such chips on a board that is not wired yet.
+fn slot(pinout: &Pinout, set_type: SetType, chips: usize) -> Description {
     let mut slot = sample();
     slot.board_pins = pinout.pins;
     slot.set_type = set_type;
     slot.word_bytes = if pinout.data.len() > 8 { 2 } else { 1 };
     slot.largest_table = pinout.size.max(512 * 1024);
     slot.socket = [Candidates::Absent; 40];
-    let mut gpios = 0..48;
-    let selects = [pinout.ce, pinout.oe];
-    // In 16-bit mode the first address pin is not used.
-    let lines = &pinout.address[usize::from(slot.word_bytes) - 1..];
-    wire(&mut slot, &mut gpios, lines);
-    if set_type == SetType::Multi {
-        wire(&mut slot, &mut gpios, &selects);
-    }
-    if set_type != SetType::Single {
-        slot.x
-            .fill_with(|| gpios.next().map_or(Candidates::Absent, Candidates::One));
-    }
-    wire(&mut slot, &mut gpios, pinout.data);
-    if set_type != SetType::Multi {
-        wire(&mut slot, &mut gpios, &selects);
-    }
     slot.multi = (set_type == SetType::Multi).then(|| Multi {
         select: Kind::Ce,
         commoned: vec![Kind::Oe],
@@ -192,6 +220,30 @@ fn board(pinout: &Pinout, set_type: SetType, chips: usize) -> Description {
     });
     slot.chips = vec![chip(pinout); chips];
     slot
+}
+
+/// The pins of the address lines. In 16-bit mode the first address pin is not used.
+fn lines(pinout: &Pinout) -> &[u8] {
+    &pinout.address[usize::from(pinout.data.len() > 8)..]
+}
+
+/// The next GPIOs for the selects, where they pick a chip, and for X1 and X2.
+fn wire_picks(slot: &mut Description, gpios: &mut impl Iterator<Item = u8>, pinout: &Pinout) {
+    if slot.set_type == SetType::Multi {
+        wire(slot, gpios, &[pinout.ce, pinout.oe]);
+    }
+    if slot.set_type != SetType::Single {
+        slot.x
+            .fill_with(|| gpios.next().map_or(Candidates::Absent, Candidates::One));
+    }
+}
+
+/// The next GPIOs for data, and for the selects, where they pick no chip.
+fn wire_rest(slot: &mut Description, gpios: &mut impl Iterator<Item = u8>, pinout: &Pinout) {
+    wire(slot, gpios, pinout.data);
+    if slot.set_type != SetType::Multi {
+        wire(slot, gpios, &[pinout.ce, pinout.oe]);
+    }
 }
 
 fn chip(pinout: &Pinout) -> Chip {

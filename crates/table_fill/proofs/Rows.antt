@@ -20,7 +20,7 @@ use Rattle.word_rows.proofs.Rows.{wrote-none, wrote-turn}
 use Rattle.running_address.specs.design.Moves.{Moves, Next}
 use Rattle.table_rows.specs.design.Rows.{ByteTables}
 use Rattle.table_fill.specs.design.Entries.{WiringIn, SourceIn, partOf, scrambledBy, noSource, rawFrom, entryBy}
-use Rattle.table_fill.specs.design.Rows.{TablesOf, RowIn, linePositions, pickPositions}
+use Rattle.table_fill.specs.design.Rows.{TablesOf, RowIn, RowWritten, linePositions, pickPositions}
 use Rattle.table_fill.specs.declared.wiring.Wiring.{Wiring}
 use Rattle.table_fill.specs.declared.wiring.Part.{Part}
 use Rattle.table_fill.specs.declared.sources.Source.{Source}
@@ -143,3 +143,12 @@ module _ (w : Wiring) (bytes : ℕ) (sources : List Source) (pad : ℕ) (r : Row
   highest-lt =
       let first : r .part .address ≡ partOf w (r .first) .address = ap (λ (p : Part). p .address) (i .says) in
       omega (arith, first, i .tables .moves-are .up-to 7 (omega arith), address-lt w (r .first) (i .wiring-in), address-lt w (2 ^ 8 - 1) (i .wiring-in))
+
+-- a width by another name
+module _ (w : Wiring) (bytes : ℕ) (sources : List Source) (pad : ℕ) (r : Row) (images old : List ℕ) (e : bytes ≡ w .«word_bytes») where
+  pub row-of-width : (moves picking lows highs : List ℕ) → RowIn w (w .«word_bytes») sources pad r moves picking lows highs images old
+      → RowIn w bytes sources pad r moves picking lows highs images old
+  row-of-width moves picking lows highs i = rw e i
+
+  pub written-of-width : (new : List ℕ) → RowWritten w bytes sources pad r images old new → RowWritten w (w .«word_bytes») sources pad r images old new
+  written-of-width new h = rw e at h

@@ -1,5 +1,5 @@
 // The entries of a row.
-use crate::sources::Source;
+use crate::sources::Chips;
 use crate::sources::all_stand;
 use crate::sources::mask_of;
 use crate::sources::none_stand;
@@ -25,8 +25,7 @@ pub struct Row {
 fn each_entry(
     w: Wiring,
     bytes: usize,
-    sources: [Source; 8],
-    pad: u32,
+    from: Chips,
     row: Row,
     moves: &[u32],
     picking: &[u32],
@@ -35,14 +34,16 @@ fn each_entry(
     images: &[u8],
     table: &mut [u8],
 )
-    requires { ⌜ RowIn w bytes sources pad row (now moves) (now picking) (now lows) (now highs) (now images) (now table) ⌝ }
-    ensures { λ _. ⌜ RowWritten w bytes sources pad row (now (images .entry)) (now (table .entry)) (now (table .exit)) ⌝ }
+    requires { ⌜ RowIn w bytes (from .sources) (from .pad) row (now moves) (now picking) (now lows) (now highs) (now images) (now table) ⌝ }
+    ensures { λ _. ⌜ RowWritten w bytes (from .sources) (from .pad) row (now (images .entry)) (now (table .entry)) (now (table .exit)) ⌝ }
 {
+    let sources = from.sources;
     let mut address = row.part.address;
     let mut picks = row.part.picks;
     let mut q: u32 = 0;
     while q < row.count {
-        let word = raw(images, bytes, sources[picks as usize], pad, address);
+        let source = sources[picks as usize];
+        let word = raw(images, bytes, source, from.pad, address);
         let entry = scrambled(bytes, lows, highs, word);
         put_word(table, (row.first + q) as usize * bytes, bytes, entry);
         address = next_address(moves, address, row.first + q);
@@ -51,12 +52,10 @@ fn each_entry(
     }
 }
 
-// Any row, with a loop of its own for words of one byte.
+// Any row, with a loop of its own for each width.
 fn any_row(
     w: Wiring,
-    bytes: usize,
-    sources: [Source; 8],
-    pad: u32,
+    from: Chips,
     row: Row,
     moves: &[u32],
     picking: &[u32],
@@ -65,37 +64,15 @@ fn any_row(
     images: &[u8],
     table: &mut [u8],
 )
-    requires { ⌜ RowIn w bytes sources pad row (now moves) (now picking) (now lows) (now highs) (now images) (now table) ⌝ }
-    ensures { λ _. ⌜ RowWritten w bytes sources pad row (now (images .entry)) (now (table .entry)) (now (table .exit)) ⌝ }
+    requires { ⌜ RowIn w (w .«word_bytes») (from .sources) (from .pad) row (now moves) (now picking) (now lows) (now highs) (now images) (now table) ⌝ }
+    ensures { λ _. ⌜ RowWritten w (w .«word_bytes») (from .sources) (from .pad) row (now (images .entry)) (now (table .entry)) (now (table .exit)) ⌝ }
 {
-    if bytes == 1 {
-        each_entry(
-            w,
-            1,
-            sources,
-            pad,
-            row,
-            moves,
-            picking,
-            lows,
-            highs,
-            images,
-            table,
-        );
+    if w.word_bytes == 1 {
+        each_entry(w, 1, from, row, moves, picking, lows, highs, images, table);
+    } else if w.word_bytes == 2 {
+        each_entry(w, 2, from, row, moves, picking, lows, highs, images, table);
     } else {
-        each_entry(
-            w,
-            bytes,
-            sources,
-            pad,
-            row,
-            moves,
-            picking,
-            lows,
-            highs,
-            images,
-            table,
-        );
+        each_entry(w, 0, from, row, moves, picking, lows, highs, images, table);
     }
 }
 
@@ -103,9 +80,7 @@ fn any_row(
 // chip, and its addresses go from the first index's up to that with all lines of these positions.
 pub fn write_row(
     w: Wiring,
-    bytes: usize,
-    sources: [Source; 8],
-    pad: u32,
+    from: Chips,
     row: Row,
     moves: &[u32],
     picking: &[u32],
@@ -114,13 +89,16 @@ pub fn write_row(
     images: &[u8],
     table: &mut [u8],
 )
-    requires { ⌜ RowIn w bytes sources pad row (now moves) (now picking) (now lows) (now highs) (now images) (now table) ⌝ }
-    ensures { λ _. ⌜ RowWritten w bytes sources pad row (now (images .entry)) (now (table .entry)) (now (table .exit)) ⌝ }
+    requires { ⌜ RowIn w (w .«word_bytes») (from .sources) (from .pad) row (now moves) (now picking) (now lows) (now highs) (now images) (now table) ⌝ }
+    ensures { λ _. ⌜ RowWritten w (w .«word_bytes») (from .sources) (from .pad) row (now (images .entry)) (now (table .entry)) (now (table .exit)) ⌝ }
 {
-    let lines = w.address;
+    let bytes = w.word_bytes as usize;
+    let n = w.num_lines as usize;
+    let sources = from.sources;
     let source = sources[row.part.picks as usize];
     let mask = mask_of(source);
     let one_chip = picking[7] == 0;
+    let lines = w.address;
     if one_chip & all_stand(source, mask, row.part.address + moves[7]) {
         let words = ChipRow {
             first: row.first,
@@ -129,38 +107,11 @@ pub fn write_row(
             start: source.start,
             mask: mask,
         };
-        write_words(
-            bytes,
-            words,
-            &lines,
-            w.num_lines as usize,
-            moves,
-            lows,
-            highs,
-            images,
-            table,
-        );
+        write_words(bytes, words, &lines, n, moves, lows, highs, images, table);
     } else if one_chip & none_stand(source, row.part.address) {
-        write_pads(
-            bytes,
-            scrambled(bytes, lows, highs, pad),
-            row.first,
-            row.count,
-            table,
-        );
+        let entry = scrambled(bytes, lows, highs, from.pad);
+        write_pads(bytes, entry, row.first, row.count, table);
     } else {
-        any_row(
-            w,
-            bytes,
-            sources,
-            pad,
-            row,
-            moves,
-            picking,
-            lows,
-            highs,
-            images,
-            table,
-        );
+        any_row(w, from, row, moves, picking, lows, highs, images, table);
     }
 }

@@ -18,6 +18,12 @@ pub struct Source {
     pub mirrored: bool,
 }
 
+// What an address reads: a source for each value of the bits that pick, and the word where none stands.
+pub struct Chips {
+    pub sources: [Source; 8],
+    pub pad: u32,
+}
+
 // Word n of a source.
 fn word_of(images: &[u8], w: usize, s: Source, n: u32) -> u32
     requires { ⌜ (w ≤ 2) × (s .start + n * w + w ≤ length (now images)) ⌝ }

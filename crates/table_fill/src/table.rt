@@ -2,6 +2,7 @@
 use crate::row::Row;
 use crate::row::write_row;
 use crate::scramble::scrambles;
+use crate::sources::Chips;
 use crate::sources::Source;
 use crate::wiring::Part;
 use crate::wiring::Wiring;
@@ -23,13 +24,16 @@ pub fn fill_by(
     requires { ⌜ Filling w sources pad (now images) entries (now table) ⌝ }
     ensures { λ _. ⌜ now (table .exit) ≡ tableBy w sources pad (now (images .entry)) entries (now (table .entry)) ⌝ }
 {
-    let bytes = w.word_bytes as usize;
     let lines = w.address;
     let picks = w.picks;
-    let line_moves = moves(&lines, w.num_lines as usize);
+    let moved = moves(&lines, w.num_lines as usize);
     let picking = moves(&picks, w.num_picks as usize);
     let lows = scrambles(w, 0);
     let highs = scrambles(w, 8);
+    let from = Chips {
+        sources: sources,
+        pad: pad,
+    };
     let mut address: u32 = 0;
     let mut picked: u32 = 0;
     let mut i: u32 = 0;
@@ -42,20 +46,8 @@ pub fn fill_by(
                 picks: picked,
             },
         };
-        write_row(
-            w,
-            bytes,
-            sources,
-            pad,
-            row,
-            &line_moves,
-            &picking,
-            &lows,
-            &highs,
-            images,
-            table,
-        );
-        address = next_row(&line_moves, address, i);
+        write_row(w, from, row, &moved, &picking, &lows, &highs, images, table);
+        address = next_row(&moved, address, i);
         picked = next_row(&picking, picked, i);
         i += 256;
     }

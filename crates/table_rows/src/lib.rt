@@ -1,5 +1,5 @@
-// Rows of a table: up to 256 entries, one behind the other, of words that stand in one chip, or of pads. A width that is handed over as a
-// number is known to the compiler, which then makes a loop of its own for it.
+// Rows of a table: entries one behind the other, of words that stand in one chip, or of pads. A width that is written out in a call is
+// known to the compiler, which then makes a loop of its own for it.
 use running_address::next_address;
 use word_rows::said;
 use words::put_word;

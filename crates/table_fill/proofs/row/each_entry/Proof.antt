@@ -12,13 +12,13 @@ use Rattle.table_fill.proofs.row.each_entry.Statement.{statement}
 use Rattle.table_fill.proofs.row.each_entry.Tie as tie
 
 abbrev Inv-loop : tie.InvT-loop
-Inv-loop bytes pad row moves picking lows highs images table₀ sources address₀ picks₀ q₀ table address picks q =
+Inv-loop bytes from row moves picking lows highs images table₀ sources address₀ picks₀ q₀ table address picks q =
     (q ≤ row .count)
     × (length table ≡ length table₀)
-    × ((w : Wiring) → RowIn w bytes sources pad row moves picking lows highs images table₀ → Reached w bytes sources pad row images table₀ table address picks q)
+    × ((w : Wiring) → RowIn w bytes (from .sources) (from .pad) row moves picking lows highs images table₀ → Reached w bytes (from .sources) (from .pad) row images table₀ table address picks q)
 
 abbrev μ-loop : tie.MeasureT-loop
-μ-loop bytes pad row moves picking lows highs images table₀ sources address₀ picks₀ q₀ table address picks q =
+μ-loop bytes from row moves picking lows highs images table₀ sources address₀ picks₀ q₀ table address picks q =
     row .count - q
 
 loop-holds : tie.Need-loop-holds Inv-loop μ-loop
@@ -27,9 +27,9 @@ loop-holds c = (omega arith, refl, λ w h. reached-none w _ _ _ _ _ _ _ _ _ _ h)
 -- what is known in a turn: the function's start, what the index says, and its entry's room in the table
 module _ (c : tie.Then1 Inv-loop μ-loop) where
   abbrev start : tie.Start Inv-loop μ-loop
-  start = c .before .before .before .before .before .before .before .before .before
+  start = c .before .before .before .before .before .before .before .before .before .before
 
-  reached : Reached (start .args .w) (start .args .bytes) (start .args .t3) (start .args .pad) (start .args .row) (start .args .images .now) (start .args .table .now) (c .before .before .loop .table) (c .before .before .loop .address) (c .before .before .loop .picks) (c .before .before .loop .q)
+  reached : Reached (start .args .w) (start .args .bytes) (start .args .from .sources) (start .args .from .pad) (start .args .row) (start .args .images .now) (start .args .table .now) (c .before .before .loop .table) (c .before .before .loop .address) (c .before .before .loop .picks) (c .before .before .loop .q)
   reached = c .before .before .loop .inv .2 (start .args .w) (start .pre)
 
   bytes : start .args .bytes ≤ 2
@@ -60,8 +60,8 @@ past-address c = c .before .before .before .before .before .before .before .befo
 abbrev past-picks : tie.After-next-address2 Inv-loop μ-loop → tie.Then1 Inv-loop μ-loop
 past-picks c = c .before .before .before .before .before .before .before .before .before .before .before .before
 
-mul-raw : tie.Need-mul-raw Inv-loop μ-loop
-mul-raw c = record { fits = omega (arith, picks c) }
+mul-source : tie.Need-mul-source Inv-loop μ-loop
+mul-source c = record { fits = omega (arith, picks c) }
 
 raw-requires : tie.Need-raw-requires Inv-loop μ-loop
 raw-requires c κs =
@@ -109,7 +109,7 @@ loop-again c =
 returns : tie.Need-returns Inv-loop μ-loop
 returns c =
     let v = c .before .before .loop in
-    let s = c .before .before .before .before .before .before .before .before .before in
+    let s = c .before .before .before .before .before .before .before .before .before .before in
     wrote-done _ _ _ _ _ _ _ (omega (arith, v .inv .0, c .if1 .left)) (v .inv .2 (s .args .w) (s .pre) .wrote)
 
 pub each-entry-spec : {M : Type 1} → statement M
@@ -120,7 +120,7 @@ each-entry-spec =
     μ-loop
     loop-holds
     (λ c. record { fits = omega (arith, picks c) })
-    mul-raw
+    mul-source
     picks
     raw-requires
     scrambled-requires

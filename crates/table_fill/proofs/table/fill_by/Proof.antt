@@ -12,16 +12,16 @@ use Rattle.table_fill.proofs.table.fill_by.Statement.{statement}
 use Rattle.table_fill.proofs.table.fill_by.Tie as tie
 
 abbrev Inv-loop : tie.InvT-loop
-Inv-loop w sources pad images entries table₀ bytes line-moves picking lows highs address₀ picked₀ i₀ table address picked i =
+Inv-loop w pad images entries table₀ moved picking lows highs from address₀ picked₀ i₀ table address picked i =
     (i % 256 ≡ 0)
     × (i < entries + 256)
     × (length table ≡ length table₀)
     × (address ≡ partOf w i .address)
     × (picked ≡ partOf w i .picks)
-    × (table ≡ tableBy w sources pad images (min i entries) table₀)
+    × (table ≡ tableBy w (from .sources) (from .pad) images (min i entries) table₀)
 
 abbrev μ-loop : tie.MeasureT-loop
-μ-loop w sources pad images entries table₀ bytes line-moves picking lows highs address₀ picked₀ i₀ table address picked i =
+μ-loop w pad images entries table₀ moved picking lows highs from address₀ picked₀ i₀ table address picked i =
     entries - i
 
 loop-holds : tie.Need-loop-holds Inv-loop μ-loop
@@ -30,7 +30,7 @@ loop-holds c = (refl, omega arith, refl, sym (gather-zero _ _), sym (gather-zero
 -- what is known in a turn: the function's start, the tables, and that the index stays small
 module _ (c : tie.In-loop Inv-loop μ-loop) where
   abbrev start : tie.Start Inv-loop μ-loop
-  start = c .before .before .before .before .before .before .before .before .before .before .before .before .before .before .before
+  start = c .before .before .before .before .before .before .before .before .before .before .before .before .before .before
 
   tables : TablesOf (start .args .w) (c .before .before .before .before .before .before .before .moves .result) (c .before .before .before .before .moves2 .result) (c .before .before .before .scrambles .result) (c .before .before .scrambles2 .result)
   tables = record { moves-are = c .before .before .before .before .before .before .before .moves .ensures; picking-are = c .before .before .before .before .moves2 .ensures; lows-are = c .before .before .before .scrambles .ensures; highs-are = c .before .before .scrambles2 .ensures }
@@ -73,7 +73,7 @@ loop-again c =
     let w = start t .args .w in (
       omega (arith, v .inv .0),
       omega (arith, t .loop-test .taken),
-      c .before .before .before .before .before .before .write-row .kept .1 .1 .1 .1 .1 .1 .1 .1 .1 .1 .0 ∙ v .inv .2,
+      c .before .before .before .before .before .before .write-row .kept .1 .1 .1 .1 .1 .1 .1 .1 .0 ∙ v .inv .2,
       c .before .before .next-row .ensures (w .«num_lines») (linePositions w) (tables t .moves-are) (v .inv .3),
       c .next-row2 .ensures (w .«num_picks») (pickPositions w) (tables t .picking-are) (v .inv .4),
       rows-turn _ _ _ _ _ _ _ _ _ _ (t .loop-test .taken) (c .before .before .before .before .before .before .before .before .before .before .before .before .fewer .ensures) (v .inv .5) (c .before .before .before .before .before .before .write-row .ensures),
@@ -88,7 +88,6 @@ fill-by-spec =
     (tie.spec
     Inv-loop
     μ-loop
-    (λ c. search needs)
     (λ c. search needs)
     (λ c. search needs)
     (λ c κs. search needs)
