@@ -17,6 +17,8 @@ use Rattle.lists.proofs.Tab.{tab-is}
 use Rattle.gpio.specs.declared.candidates.Candidates.{Candidates}
 use Rattle.gpio.specs.declared.candidates.Candidates.the-variants.{Absent, One, Two}
 use Rattle.slot.specs.declared.description.Board.{Board}
+use Rattle.slot.specs.declared.description.Package.{Package}
+use Rattle.slot.specs.declared.description.Package.the-variants.{A, B}
 use Rattle.slot.specs.declared.description.Chip.{Chip}
 use Rattle.slot.specs.declared.description.ChipSetType.{ChipSetType}
 use Rattle.slot.specs.declared.description.ChipSetType.the-variants.{Single, Banked, Multi}
@@ -30,11 +32,11 @@ use Rattle.slot.specs.declared.description.MultiCsConfig.{MultiCsConfig}
 use Rattle.slot.specs.declared.description.Description.{Description}
 use Rattle.domain.specs.Domain.{descriptionIn}
 use Rattle.refusal.specs.declared.Answer.the-variants.{Done}
-use Rattle.description_record.specs.Record.{recordSize, setTypeOf, offsetOf, offsetIn, logicFrom, logicIn, settingOf, settingIn, csConfigAt, csConfigIn, multiAt, boardAt, chipAt, described, headIn, pairsIn, wellFormed, decodedOf}
+use Rattle.description_record.specs.Record.{recordSize, packageOf, setTypeOf, offsetOf, offsetIn, logicFrom, logicIn, settingOf, settingIn, csConfigAt, csConfigIn, multiAt, boardAt, chipAt, described, headIn, pairsIn, wellFormed, decodedOf}
 use Rattle.fields.specs.Candidates.{pairAt, pairIn, pairBytes, pairField}
 use Rattle.fields.specs.Fields.{fourAt, field, fourBytes}
 use Rattle.slot.specs.Description.{noPin, noLine, noChip}
-use Rattle.description_law.specs.Encoded.{setTypeByte, offsetByte, logicByte, settingByte, csConfigBytes, multiBytes, socketPinOf, controlLineOf, chipOf, boardBytes, lineBytes, chipRecord, descriptionHead, encoded, Bytes, ValuedBoard, ValuedChip, ValuedMulti, Valued}
+use Rattle.description_law.specs.Encoded.{packageByte, setTypeByte, offsetByte, logicByte, settingByte, csConfigBytes, multiBytes, socketPinOf, controlLineOf, chipOf, boardBytes, lineBytes, chipRecord, descriptionHead, encoded, Bytes, ValuedBoard, ValuedChip, ValuedMulti, Valued}
 use Rattle.description_law.proofs.InDomain.{GpiosIn, OffsetIn, EncodableBoard, Encodable, in-domain}
 
 -- lists of bytes
@@ -100,6 +102,10 @@ record Coded {A : Type 0} (of : ℕ → A) (fits : ℕ → Bool) (byte : A → �
   back : of (byte a) ≡ a
   named : fits (byte a) ≡ true
   below : byte a < 2 ^ 8
+
+package-code : (p : Package) → Coded packageOf (λ x. leb x 1) packageByte p
+package-code A = record { back = refl; named = refl; below = lit< tt }
+package-code B = record { back = refl; named = refl; below = lit< tt }
 
 set-type : (t : ChipSetType) → Coded setTypeOf (λ x. leb x 2) setTypeByte t
 set-type Single = record { back = refl; named = refl; below = lit< tt }
@@ -227,6 +233,7 @@ described-back : (d : Description) → Valued d → Encodable d → described (e
 unfolding described csConfigAt chipAt encoded joined tab
 described-back d v e = λ i. record {
   board = board-back d (v .board) (e .board) i;
+  «package» = package-code (d .«package») .back i;
   «set_type» = set-type (d .«set_type») .back i;
   «word_bytes» = d .«word_bytes»;
   «pin_offset» = offset (d .«pin_offset») (e .«pin_offset») .back i;
@@ -244,7 +251,7 @@ described-back d v e = λ i. record {
 
 head-formed : (d : Description) → Encodable d → headIn (encoded d) ≡ true
 unfolding headIn encoded joined tab
-head-formed d e = rw (set-type (d .«set_type») .named, offset (d .«pin_offset») (e .«pin_offset») .named, flag (d .«has_multi») .named)
+head-formed d e = rw (package-code (d .«package») .named, set-type (d .«set_type») .named, offset (d .«pin_offset») (e .«pin_offset») .named, flag (d .«has_multi») .named)
 
 socket-formed : (b : Board) → EncodableBoard b → each 40 (λ k. pairIn (pairBytes (socketPinOf b k .gpios)) 0) ≡ true
 socket-formed b e = each-all _ 40 (λ k h. pair-in (socketPinOf b k .gpios) (e .socket k h))
@@ -267,7 +274,7 @@ head-below d v o =
     let numbers = both (four-below (d .«max_image_size»)) (four-below 0) in
     let counts = one (v .«num_chips») (one (v .«num_qualifiers») (one (flag (d .«has_multi») .below) numbers)) in
     let codes = one (set-type (d .«set_type») .below) (one (v .«word_bytes») (one (offset (d .«pin_offset») o .below) counts)) in
-    one (v .board .pins) (one (lit< tt) codes)
+    one (v .board .pins) (one (package-code (d .«package») .below) codes)
 
 multi-below : (m : MultiCsConfig) → ValuedMulti m → Below (multiBytes m)
 multi-below m v =

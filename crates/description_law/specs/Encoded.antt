@@ -12,6 +12,8 @@ use Rattle.lists.specs.Tab.{joined}
 use Rattle.gpio.specs.declared.candidates.Pin.{Pin}
 use Rattle.slot.specs.Description.{noPin, noLine, noChip}
 use Rattle.slot.specs.declared.description.Board.{Board}
+use Rattle.slot.specs.declared.description.Package.{Package}
+use Rattle.slot.specs.declared.description.Package.the-variants.{A, B}
 use Rattle.slot.specs.declared.description.ControlLine.{ControlLine}
 use Rattle.slot.specs.declared.description.Chip.{Chip}
 use Rattle.slot.specs.declared.description.ChipSetType.{ChipSetType}
@@ -24,6 +26,11 @@ use Rattle.slot.specs.declared.description.CsConfig.{CsConfig}
 use Rattle.slot.specs.declared.description.CsConfig.the-variants.{ChipSelect, CeOe, CeOeExplicit}
 use Rattle.slot.specs.declared.description.MultiCsConfig.{MultiCsConfig}
 use Rattle.slot.specs.declared.description.Description.{Description}
+
+-- "0 B, 1 A"
+abbrev pub packageByte : Package → ℕ
+packageByte A = 1
+packageByte B = 0
 
 -- "0 Single, 1 Banked, 2 Multi"
 abbrev pub setTypeByte : ChipSetType → ℕ
@@ -84,7 +91,7 @@ chipRecord c =
 
 abbrev pub descriptionHead : Description → List ℕ
 descriptionHead d =
-    (d .board .pins ∷ 0 ∷ setTypeByte (d .«set_type») ∷ d .«word_bytes» ∷ offsetByte (d .«pin_offset») ∷ d .«num_chips»
+    (d .board .pins ∷ packageByte (d .«package») ∷ setTypeByte (d .«set_type») ∷ d .«word_bytes» ∷ offsetByte (d .«pin_offset») ∷ d .«num_chips»
     ∷ d .«num_qualifiers» ∷ cond (d .«has_multi») 1 0 ∷ [])
     ++ fourBytes (d .«max_image_size») ++ fourBytes 0
 

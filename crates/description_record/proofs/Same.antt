@@ -84,6 +84,7 @@ module _ (b : List ℕ) where
   padded-same =
       rw (
         board-same,
+        same 1 (omega arith),
         same 2 (omega arith),
         same 3 (omega arith),
         same 4 (omega arith),

@@ -12,6 +12,8 @@ use Rattle.lists.specs.Each.{each}
 use Rattle.lists.specs.Tab.{tab}
 use Rattle.gpio.specs.declared.candidates.Pin.{Pin}
 use Rattle.slot.specs.declared.description.Board.{Board}
+use Rattle.slot.specs.declared.description.Package.{Package}
+use Rattle.slot.specs.declared.description.Package.the-variants.{A, B}
 use Rattle.slot.specs.declared.description.ControlLine.{ControlLine}
 use Rattle.slot.specs.declared.description.ControlLines.{ControlLines}
 use Rattle.slot.specs.declared.description.Chip.{Chip}
@@ -32,6 +34,10 @@ use Rattle.description_record.specs.declared.Decoded.{Decoded}
 -- "424 bytes"
 abbrev pub recordSize : ℕ
 recordSize = 424
+
+-- "0 B, 1 A"
+abbrev pub packageOf : ℕ → Package
+packageOf x = cond (eqb x 0) B A
 
 -- "0 Single, 1 Banked, 2 Multi"
 abbrev pub setTypeOf : ℕ → ChipSetType
@@ -128,6 +134,7 @@ chipsAt b = tab 4 (λ k. chipAt b (136 + 72 * k))
 unfoldable pub described : List ℕ → Description
 described b = record {
   board = boardAt b;
+  «package» = packageOf (byteAt b 1);
   «set_type» = setTypeOf (byteAt b 2);
   «word_bytes» = byteAt b 3;
   «pin_offset» = offsetOf (byteAt b 4);
@@ -142,9 +149,10 @@ described b = record {
 }
 
 -- the places that must be 0, and those that are one of a few values
+-- 02 Slip 3 3: a package that is neither A nor B is refused
 unfoldable pub headIn : List ℕ → Bool
 headIn b =
-    eqb (byteAt b 1) 0 && leb (byteAt b 2) 2 && offsetIn (byteAt b 4) && leb (byteAt b 7) 1 && eqb (fourAt b 12) 0
+    leb (byteAt b 1) 1 && leb (byteAt b 2) 2 && offsetIn (byteAt b 4) && leb (byteAt b 7) 1 && eqb (fourAt b 12) 0
     && eqb (byteAt b 26) 0 && eqb (byteAt b 27) 0
 
 -- the candidates of the socket's pins, of X1 and of X2

@@ -13,11 +13,21 @@ use slot::description::CsConfig;
 use slot::description::CsLogic;
 use slot::description::Description;
 use slot::description::MultiCsConfig;
+use slot::description::Package;
 use slot::description::Setting;
 ghost use mathlib.Core.Path.{_≡_};
 ghost use Prim.Native.Nat.{_+_, _≤_};
 ghost use lib.ListN.{length};
-ghost use Rattle.description_record.specs.Record.{recordSize, setTypeOf, offsetOf, logicFrom, settingOf, csConfigAt, multiAt, socketAt, boardAt, controlLineAt, controlLinesAt, controlAt, chipAt, chipsAt, described};
+ghost use Rattle.description_record.specs.Record.{recordSize, packageOf, setTypeOf, offsetOf, logicFrom, settingOf, csConfigAt, multiAt, socketAt, boardAt, controlLineAt, controlLinesAt, controlAt, chipAt, chipsAt, described};
+
+fn package_of(x: u8) -> Package
+    ensures { λ r. ⌜ r ≡ packageOf x ⌝ }
+{
+    if x == 0 {
+        return Package::B;
+    }
+    Package::A
+}
 
 fn set_type(x: u8) -> ChipSetType
     ensures { λ r. ⌜ r ≡ setTypeOf x ⌝ }
@@ -190,6 +200,7 @@ pub fn description(b: &[u8]) -> Description
 {
     Description {
         board: board(b),
+        package: package_of(entry(b, 1)),
         set_type: set_type(entry(b, 2)),
         word_bytes: entry(b, 3),
         pin_offset: pin_offset(entry(b, 4)),

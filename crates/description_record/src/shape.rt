@@ -39,7 +39,7 @@ fn head_in(b: &[u8]) -> bool
     let inverted = whole::four_at(b, 12);
     let spare = entry(b, 26);
     let spare_2 = entry(b, 27);
-    (package == 0)
+    (package <= 1)
         & (set_type <= 2)
         & offset_in(offset)
         & (has_multi <= 1)

@@ -18,7 +18,7 @@ use Rattle.slot.specs.declared.description.Board.{Board}
 use Rattle.slot.specs.declared.description.Chip.{Chip}
 use Rattle.slot.specs.declared.description.MultiCsConfig.{MultiCsConfig}
 use Rattle.slot.specs.declared.description.Description.{Description}
-use Rattle.domain.specs.Domain.{socketIn, boardIn, lineIn, linesIn, chipIn, chipsIn, multiIn, descriptionIn}
+use Rattle.domain.specs.Domain.{socketIn, boardIn, lineIn, linesIn, chipIn, chipsIn, multiIn, packageIn, slotIn, descriptionIn}
 
 -- a number between two others
 pub between-is : (low high x : ℕ) → between low high x ≡ true → (low ≤ x) × (x ≤ high)
@@ -97,10 +97,12 @@ pub record DescriptionIn (d : Description) : Type 0 where
   pub chip : (k : ℕ) → k < d .«num_chips» → ChipIn (getD (d .chips) k noChip)
   pub config : d .«has_multi» ≡ true → MultiIn (d .multi)
   pub config-there : isMulti (d .«set_type») ≡ true → d .«has_multi» ≡ true
+  pub package-within : packageIn (d .«package») (d .board) ≡ true
 
 pub description-in : (d : Description) → descriptionIn d ≡ true → DescriptionIn d
-unfolding descriptionIn chipsIn
+unfolding descriptionIn slotIn chipsIn
 description-in d e =
+    let (e, within) = both _ _ e in
     let (e, there) = both _ _ e in
     let (e, config) = both _ _ e in
     let (e, chips) = both _ _ e in
@@ -120,6 +122,7 @@ description-in d e =
           chip-in (getD (d .chips) k noChip) (d .«word_bytes») (rw (lt-leb (d .«num_chips») k l) at one);
       config = λ h. multi-in (d .multi) (asked _ _ config h);
       config-there = asked _ _ there;
+      package-within = within;
     }
 
 -- chip 0 is there, and so is a Multi set's configuration

@@ -7,10 +7,11 @@ use mathlib.Core.List.{List}
 use lib.Dec.{leb, ltb, eqb}
 use lib.IntN.{ℤ}
 use lib.ListN.{getD}
-use Rattle.gpio.specs.Candidates.{candidatesIn}
-use Rattle.slot.specs.Description.{isMulti, noPin, noChip, lineAt, kindAt, ceKind, cs4Kind, otherKind}
+use Rattle.gpio.specs.Candidates.{candidatesIn, noneAbove, lastGpioA}
+use Rattle.slot.specs.Description.{isA, isMulti, noPin, noChip, lineAt, kindAt, ceKind, cs4Kind, otherKind}
 use Rattle.slot.specs.SlotContext.{boardPinsIn, raisedOf}
 use Rattle.slot.specs.declared.description.Board.{Board}
+use Rattle.slot.specs.declared.description.Package.{Package}
 use Rattle.slot.specs.declared.description.ControlLines.{ControlLines}
 use Rattle.slot.specs.declared.description.Chip.{Chip}
 use Rattle.slot.specs.declared.description.MultiCsConfig.{MultiCsConfig}
@@ -95,9 +96,9 @@ configIn d = not (d .«has_multi») || multiIn (d .multi)
 abbrev pub configThere : Description → Bool
 configThere d = not (isMulti (d .«set_type»)) || d .«has_multi»
 
--- the whole, as every call given the description tests it, a test a line
-unfoldable pub descriptionIn : Description → Bool
-descriptionIn d =
+-- document 01's sentences on a description, a test a line
+unfoldable pub slotIn : Description → Bool
+slotIn d =
     boardIn (d .board)
     && wordBytesIn (d .«word_bytes»)
     && maxImageSizeIn (d .«max_image_size»)
@@ -106,6 +107,19 @@ descriptionIn d =
     && chipsIn (d .chips) (d .«num_chips») (d .«word_bytes»)
     && configIn d
     && configThere d
+
+-- whether no candidate of a board is above a GPIO, neither at any of the socket's 40 places nor of X1 or X2
+unfoldable pub noCandidateAbove : ℕ → Board → Bool
+noCandidateAbove last b =
+    each 40 (λ k. noneAbove last (getD (b .socket) k noPin .gpios)) && noneAbove last (b .x1) && noneAbove last (b .x2)
+
+-- 02 Slip 3 2: on A no candidate is above 29
+unfoldable pub packageIn : Package → Board → Bool
+packageIn p b = not (isA p) || noCandidateAbove lastGpioA b
+
+-- the whole, as both searches and the build test it before all else
+unfoldable pub descriptionIn : Description → Bool
+descriptionIn d = slotIn d && packageIn (d .«package») (d .board)
 
 -- 01 Domain 10: a qualifier is the index of an address line, and its GPIO is that of the line
 abbrev pub qualifierGpio : List ℕ → List ℕ → ℕ → ℕ

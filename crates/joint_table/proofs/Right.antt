@@ -6,7 +6,7 @@ use Rattle.lists.specs.Each.{each, tally}
 use Rattle.lists.specs.Tab.{tab, joined}
 use Rattle.gpio.specs.Set.{setOf}
 use Rattle.slot.specs.SlotContext.{knownPairs, offsetFrom}
-use Rattle.domain.specs.Domain.{socketIn, lineIn, linesIn, chipsIn, descriptionIn}
+use Rattle.domain.specs.Domain.{socketIn, lineIn, linesIn, chipsIn, slotIn, packageIn, descriptionIn}
 use Rattle.search.specs.Search.{best}
 use Rattle.listing.specs.Listing.{twos, faultFrom}
 use Rattle.listing.specs.Choice.{restAt, gpioAt}
@@ -37,7 +37,7 @@ pub right : map (λ c. c .answered) cases ≡ map (λ c. c .told) cases
 unfolding cases
     each tally tab joined setOf leadingZeros trailingZeros
     knownPairs offsetFrom
-    socketIn lineIn linesIn chipsIn descriptionIn
+    socketIn lineIn linesIn chipsIn slotIn packageIn descriptionIn
     best twos faultFrom restAt gpioAt pinCandidates
     lineSocket lineListed addrListed layoutIn reach fixedSpan spanUpTo spanTrial addrBest
     pinListed dataListed activeListed selectListed commonedListed numbered csSearchIn orNoActive checked

@@ -8,6 +8,7 @@ use lib.ListN.{length, replicate}
 use Rattle.gpio.specs.declared.candidates.Candidates.{Candidates}
 use Rattle.gpio.specs.declared.candidates.Candidates.the-variants.{Absent, One}
 use Rattle.slot.specs.Description.{noPin, noLine}
+use Rattle.slot.specs.declared.description.Package.the-variants.{B}
 use Rattle.slot.specs.declared.description.ControlLine.{ControlLine}
 use Rattle.slot.specs.declared.description.Chip.{Chip}
 use Rattle.slot.specs.declared.description.ChipSetType.the-variants.{Single}
@@ -44,6 +45,7 @@ chipWith address dataPins lines size = record {
 abbrev pub slotWith : List Candidates → Chip → Description
 slotWith gpios chip = record {
   board = record { socket = array 40 (map (λ c. record { gpios = c }) gpios) noPin; pins = 24; x1 = Absent; x2 = Absent };
+  «package» = B;
   «set_type» = Single;
   «word_bytes» = 1;
   «pin_offset» = pos 0;

@@ -164,6 +164,38 @@ fn board() {
     two(134, 0, 135, 1);
 }
 
+// The sample on A and on a socket of 24 pins, with candidates at the first 29 places alone.
+fn sample_on_a() -> [u8; 424] {
+    repeated(with(with(sample(), 0, 24), 1, 1), 110, 132, 1, 255)
+}
+
+// Two numbers of it changed, which are the candidates of a pin.
+fn pair(place: usize, first: u8, second: u8) {
+    if place < 423 {
+        say_place(place, first);
+        say(b" ");
+        say_place(place + 1, second);
+        say_verdict(taken(with(with(sample_on_a(), place, first), place + 1, second)));
+    }
+}
+
+// The edge of A: at the first place, at the last, which is past the board's pins, and at both X pins.
+fn package() {
+    say(b"package\n");
+    one(1, 2);
+    pair(52, 29, 255);
+    pair(52, 30, 255);
+    pair(52, 0, 29);
+    pair(52, 0, 30);
+    pair(52, 0, 47);
+    pair(130, 29, 255);
+    pair(130, 30, 255);
+    pair(132, 29, 255);
+    pair(132, 30, 255);
+    pair(134, 28, 29);
+    pair(134, 29, 30);
+}
+
 fn numbers() {
     say(b"numbers\n");
     one(2, 1);
@@ -399,6 +431,7 @@ fn one_entry(size: u8, gpios: [u8; 16], bytes: &[u8], index: usize) {
 
 fn main() {
     board();
+    package();
     numbers();
     settings();
     multi();

@@ -23,6 +23,7 @@ use slot::description::CsConfig;
 use slot::description::CsLogic;
 use slot::description::Description;
 use slot::description::MultiCsConfig;
+use slot::description::Package;
 use slot::description::Setting;
 use std::num::wrapping_add_u8;
 use wired::well_wired;
@@ -177,6 +178,7 @@ fn description(case: Case) -> Description {
     let set_type = case.set_type;
     Description {
         board: board(case.lines, case.pins),
+        package: Package::B,
         set_type,
         word_bytes: case.word_bytes,
         pin_offset: 0,

@@ -5,12 +5,19 @@ use mathlib.Core.List.{[]}
 use lib.ListN.{getD}
 use Rattle.gpio.specs.declared.candidates.Candidates.the-variants.{Absent}
 use Rattle.gpio.specs.declared.candidates.Pin.{Pin}
+use Rattle.slot.specs.declared.description.Package.{Package}
+use Rattle.slot.specs.declared.description.Package.the-variants.{A, B}
 use Rattle.slot.specs.declared.description.ControlLine.{ControlLine}
 use Rattle.slot.specs.declared.description.ControlLines.{ControlLines}
 use Rattle.slot.specs.declared.description.Chip.{Chip}
 use Rattle.slot.specs.declared.description.ChipSetType.{ChipSetType}
 use Rattle.slot.specs.declared.description.ChipSetType.the-variants.{Single, Banked, Multi}
 use Rattle.slot.specs.declared.description.Description.{Description}
+
+-- 02 Slip 3 2: the package is A, or it is B
+abbrev pub isA : Package → Bool
+isA A = true
+isA B = false
 
 abbrev pub isSingle : ChipSetType → Bool
 isSingle Single = true

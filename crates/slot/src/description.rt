@@ -3,7 +3,7 @@
 use gpio::candidates::Candidates;
 use gpio::candidates::Pin;
 ghost use mathlib.Core.Path.{_≡_};
-ghost use Rattle.slot.specs.Description.{isSingle, isMulti, chip0};
+ghost use Rattle.slot.specs.Description.{isA, isSingle, isMulti, chip0};
 
 // The board's socket and its two X pins.
 pub struct Board {
@@ -12,6 +12,24 @@ pub struct Board {
     pub pins: u8,
     pub x1: Candidates,
     pub x2: Candidates,
+}
+
+// The package of the board's RP2350, which tells how many GPIOs are bonded out: 30 on A, 48 on B.
+pub enum Package {
+    A,
+    B,
+}
+
+impl Package {
+    // Whether it is the smaller one.
+    pub fn is_a(self) -> bool
+        ensures { λ r. ⌜ r ≡ isA self ⌝ }
+    {
+        match self {
+            Package::A => true,
+            Package::B => false,
+        }
+    }
 }
 
 // A control line of a chip. Kinds: 0 ce, 1 oe, 2 to 5 cs1 to cs4, 6 any other line.
@@ -108,6 +126,7 @@ pub struct MultiCsConfig {
 // A slot as every call takes it: the board, the chips on it and how they are selected.
 pub struct Description {
     pub board: Board,
+    pub package: Package,
     pub set_type: ChipSetType,
     // Bytes of a word: 1 in 8-bit mode, 2 in 16-bit mode.
     pub word_bytes: u8,

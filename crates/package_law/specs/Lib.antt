@@ -1,0 +1,4 @@
+pub mod Before
+pub mod Law
+pub mod Calls
+pub mod Padded
