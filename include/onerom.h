@@ -171,6 +171,14 @@ enum {
     ONEROM_NO_IGNORE_INDEX = 255,
 };
 
+/* Packages. */
+enum {
+    /* The RP2350B, GPIOs 0 to 47. */
+    ONEROM_PACKAGE_B = 0,
+    /* The RP2350A, GPIOs 0 to 29. */
+    ONEROM_PACKAGE_A = 1,
+};
+
 /* Set types. */
 enum {
     /* One chip. */
@@ -281,20 +289,27 @@ enum {
 
 /* The description record, place by place. A board's socket, the chips of one slot on it, and which GPIOs can serve
    each pin. Another length is refusal 1, and so is a byte that is none of the values named here, in every call
-   that takes the record. Two rules depend on the call. Qualifiers are held against the lines of an address
-   layout, so that only a call which has one tests them: a build always, the select search if a layout is handed
-   in. More than 8 of them, an index that is not below the layout's lines in use, or GPIOs of which two are more
-   than 7 apart are refusal 1 there. The address search does not look at them, and a select search without a
-   layout answers 5 to any count but 0. Each search counts the two-candidate pins among the pins that it lists,
-   and more than 16 are refusal 1. The address search lists its lines, one off the socket with the candidates of
-   the X pin that stands in for it, and the X pins that pick; the select search lists data pins, select lines and,
-   in Multi, the X pins that select and the commoned lines. A build lists none. */
+   that takes the record; but onerom_well_wired looks at the length, the package, set type, offset, form and
+   settings, the flag of the Multi configuration, the places kept, and that no second candidate is without a
+   first, and takes other numbers as they stand. Two rules depend on the call. Qualifiers are held against the
+   lines of an address layout, so that only a call which has one tests them: a build always, the select search if
+   a layout is handed in. More than 8 of them, an index that is not below the layout's lines in use, or GPIOs of
+   which two are more than 7 apart are refusal 1 there. The address search does not look at them, and a select
+   search without a layout answers 5 to any count but 0. Each search counts the two-candidate pins among the pins
+   that it lists, and more than 16 are refusal 1. The address search lists its lines, one off the socket with the
+   candidates of the X pin that stands in for it, and the X pins that pick; the select search lists data pins,
+   select lines and, in Multi, the X pins that select and the commoned lines. A build lists none. On package A a
+   candidate above GPIO 29 is refusal 1, in every call that takes the record: at each of the 40 socket pins, those
+   past the board's socket too, at X1 and at X2, first or second, whether a line is on the pin or not. In all else
+   package A answers as B. Only candidates are bound: a layout that is handed in may name GPIOs up to 47, and the
+   pins of an address layout that is found may reach past 29, since there are 8 at least. A stored slot has no
+   package. */
 enum {
     /* Bytes of the record. */
     ONEROM_DESCRIPTION_RECORD_SIZE = 424,
     /* Pins of the board's socket. Values: 24, 28, 32 or 40. */
     ONEROM_DESCRIPTION_BOARD_PINS = 0,
-    /* Package. Values: 0 (kept for the package's name). */
+    /* Package of the RP2350. Values: 0 B, 1 A. */
     ONEROM_DESCRIPTION_PACKAGE = 1,
     /* Set type. Values: 0 Single, 1 Banked, 2 Multi. */
     ONEROM_DESCRIPTION_SET_TYPE = 2,
@@ -337,7 +352,7 @@ enum {
     /* 8 bytes: qualifiers: indices of address lines in use. Values: below the lines in use where they are tested. */
     ONEROM_DESCRIPTION_QUALIFIERS = 44,
     /* 80 bytes: candidates of socket pins 1 to 40, two bytes a pin. Values: 255 255 none; g 255 one; g h two; GPIOs
-       0 to 47 that differ. */
+       0 to 47 that differ, on package A 0 to 29. */
     ONEROM_DESCRIPTION_SOCKET = 52,
     /* 2 bytes: candidates of X1. Values: as above. */
     ONEROM_DESCRIPTION_X1 = 132,
@@ -540,7 +555,8 @@ enum {
  * The number of the result; layout as before the call where no more is said:
  *
  *   0: a layout is found. Afterwards its first 36 bytes are the record, later ones as before.
- *   ONEROM_OUT_OF_DOMAIN: the bytes are no description record, or what they describe is outside the domain.
+ *   ONEROM_OUT_OF_DOMAIN: the bytes are no description record, or what they describe is outside the domain, such as
+ *       a candidate above 29 on package A.
  *   ONEROM_UNMAPPED_PIN, place socket pin: a line's socket pin has no GPIO: give it one.
  *   ONEROM_MISSING_X_PIN, place 1 or 2: X1 or X2 is needed and has no GPIO: give it one.
  *   ONEROM_NO_VALID_LAYOUT: a line is off the socket and no X pin takes it, or no choice lies in one PIO window.
@@ -563,7 +579,8 @@ uint64_t onerom_derive_addr_layout(const uint8_t *description, size_t descriptio
  * The number of the result; layout as before the call where no more is said:
  *
  *   0: a layout is found. Afterwards its first 100 bytes are the record, later ones as before.
- *   ONEROM_OUT_OF_DOMAIN: bytes that are no record, or what they describe is outside the domain.
+ *   ONEROM_OUT_OF_DOMAIN: bytes that are no record, or what they describe is outside the domain, such as a
+ *       candidate above 29 on package A.
  *   ONEROM_NO_SELECT_LINE: no active select line, or a line that the Multi configuration names is not on chip 0.
  *   ONEROM_UNMAPPED_PIN, place chip pin: a data or select pin is off the socket or has no GPIO: give it one.
  *   ONEROM_MISSING_X_PIN, place 1 or 2: Multi: X1 or X2 has no GPIO: give it one.
@@ -600,7 +617,8 @@ uint64_t onerom_derive_cs_data_layout(const uint8_t *description, size_t descrip
  *
  *   0: the table is built. Afterwards its first bytes, as many as the table has, are the table, later ones as
  *       before.
- *   ONEROM_OUT_OF_DOMAIN: bytes that are no record, or what they describe is outside the domain.
+ *   ONEROM_OUT_OF_DOMAIN: bytes that are no record, or what they describe is outside the domain, such as a
+ *       candidate above 29 on package A.
  *   ONEROM_ROM_TABLE_TOO_LARGE: the table is larger than the description allows.
  *   ONEROM_INVALID_CONFIG: not 1 chip (Single), 2 to 4 (Banked), 2 or 3 (Multi).
  *   ONEROM_BAD_POSITION: the GPIO of an address line in use, of a line that picks a chip or of a data line lies
@@ -682,10 +700,10 @@ uint64_t onerom_unscramble_slot(const uint8_t *slot, size_t slot_len, const uint
  *   any of the read-back's: the table is built, and the read-back refuses. Afterwards the first bytes of table are
  *       the table, later ones as before; output and marks are what the read-back leaves.
  *
- * Bytes that are no record, spans or description, are 1 before anything else; then the first of the four that
- * refuses answers. 16 is said of table last in the build, of output and marks only when the table is built.
- * Number 3 names a socket pin if the address search refuses and a chip pin if the select search does; the single
- * calls tell which.
+ * Bytes that are no record, spans or description, and a candidate above 29 on package A are 1 before anything
+ * else; then the first of the four that refuses answers. 16 is said of table last in the build, of output and
+ * marks only when the table is built. Number 3 names a socket pin if the address search refuses and a chip pin if
+ * the select search does; the single calls tell which.
  *
  * If the slot is well wired, which onerom_well_wired tests, and the four succeed, each chip's words are the first
  * of its bytes in images, byte for byte. Where it is not, words can come back as others.
@@ -708,7 +726,8 @@ uint64_t onerom_round_trip(const uint8_t *description, size_t description_len, c
  *
  *   0, place 0: the slot is well wired.
  *   0, place 1: the slot is not: the result is 1.
- *   ONEROM_OUT_OF_DOMAIN: the bytes are no description record, or no address layout record.
+ *   ONEROM_OUT_OF_DOMAIN: the bytes are no description record, or no address layout record, or a candidate is above
+ *       29 on package A, whatever the wiring.
  */
 uint64_t onerom_well_wired(const uint8_t *description, size_t description_len, const uint8_t *addr_layout,
                            size_t addr_layout_len);

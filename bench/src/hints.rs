@@ -64,12 +64,8 @@ struct Line {
 
 impl Line {
     fn of(name: impl Into<String>, candidates: Candidates) -> Self {
-        let gpios = match candidates {
-            Candidates::Absent => vec![],
-            Candidates::One(one) => vec![one],
-            Candidates::Two(one, two) => vec![one, two],
-        };
         let name = name.into();
+        let gpios = candidates.gpios().collect();
         Self { name, gpios }
     }
 

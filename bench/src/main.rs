@@ -26,6 +26,9 @@ use onerom::{
 /// The sample's description, a 2764 on a 28-pin board.
 const SAMPLE: &str = include_str!("../sample/2764.txt");
 
+/// The same chip on a board with the smaller RP2350.
+const SAMPLE_A: &str = include_str!("../sample/2764a.txt");
+
 fn main() -> ExitCode {
     let words: Vec<OsString> = std::env::args_os().skip(1).collect();
     commands::run(&words)

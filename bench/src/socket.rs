@@ -30,7 +30,8 @@ pub fn drawing(slot: &Description, addr: &AddrLayout, cs_data: &CsDataLayout) ->
 }
 
 fn heading(slot: &Description) -> String {
-    let mut text = format!("socket of {} pins from above", slot.board_pins);
+    let (pins, package) = (slot.board_pins, slot.package);
+    let mut text = format!("socket of {pins} pins from above, {package}");
     let offset = i16::from(slot.pin_offset);
     if offset != 0 {
         let (socket, chip) = (1.max(1 + offset), 1.max(1 - offset));

@@ -28,20 +28,12 @@ pub fn complaints(slot: &Description, addr: &AddrLayout) -> Result<String, Fault
     Ok(lines.chain([others]).collect())
 }
 
-fn gpios(candidates: Candidates) -> Vec<u8> {
-    match candidates {
-        Candidates::Absent => vec![],
-        Candidates::One(gpio) => vec![gpio],
-        Candidates::Two(one, other) => vec![one, other],
-    }
-}
-
 /// GPIOs that are candidates of two pins of the board.
 fn shared_gpios(slot: &Description) -> Vec<String> {
     let socket = (1..).zip(&slot.socket).take(slot.board_pins.into());
-    let socket = socket.map(|(pin, &own)| (format!("socket pin {pin}"), gpios(own)));
+    let socket = socket.map(|(pin, &own)| (format!("socket pin {pin}"), own.gpios().collect()));
     let x = (1..).zip(slot.x);
-    let x = x.map(|(number, own)| (format!("X{number}"), gpios(own)));
+    let x = x.map(|(number, own)| (format!("X{number}"), own.gpios().collect()));
     let pins: Vec<(String, Vec<u8>)> = socket.chain(x).collect();
     let mut reasons = Vec::new();
     for (place, (name, own)) in pins.iter().enumerate() {
@@ -126,7 +118,7 @@ fn x_pins(slot: &Description, addr: &AddrLayout) -> Vec<String> {
     );
     let mut reasons = Vec::new();
     for (number, x) in (1..).zip(slot.x).take(needed) {
-        let own: BTreeSet<u8> = gpios(x).into_iter().collect();
+        let own: BTreeSet<u8> = x.gpios().collect();
         let inside = own.iter().filter(|gpio| (from..=to).contains(gpio)).count();
         if inside != 1 {
             reasons.push(format!(

@@ -2,7 +2,7 @@
 
 use crate::answer::answer;
 use crate::case::{Build, Case};
-use crate::description::{Description, MULTI, Multi};
+use crate::description::{Description, MULTI, Multi, NONE, Package};
 use crate::engine::{Engine, Job};
 use crate::model::Model;
 use crate::original::Original;
@@ -48,6 +48,32 @@ fn address_searches() {
     choice.socket[2] = [9, 10];
     let found = "5 0 0 8 8 255 255 3 0 8 15 9";
     answers(Case::AddressSearch(Box::new(choice.write())), found);
+}
+
+/// Slip 3 of document 02: lines on the last GPIOs of package A are padded past them, and a candidate
+/// above 29 is refused at every pin, on which the original is not asked.
+#[test]
+fn packages() {
+    let mut last = address_lines(&[27, 28, 29]);
+    last.package = Package::A;
+    let search = |slot: &Description| Case::AddressSearch(Box::new(slot.write()));
+    answers(search(&last), "5 0 0 27 8 255 255 3 0 27 28 29");
+    for pin in 0..42 {
+        for candidates in [[29, 0], [30, NONE], [0, 30], [47, 29]] {
+            let mut slot = last.clone();
+            match pin {
+                0..40 => slot.socket[pin] = candidates,
+                _ => slot.x[pin - 40] = candidates,
+            }
+            let above = candidates.iter().any(|&gpio| gpio != NONE && gpio > 29);
+            answers(search(&slot), if above { "5 1 0" } else { "5 0 0" });
+            slot.package = Package::B;
+            answers(search(&slot), if pin < 3 { "5 " } else { "5 0 0" });
+        }
+    }
+    let mut record = last.write();
+    record[1] = 2;
+    answers(Case::AddressSearch(Box::new(record)), "5 1 0");
 }
 
 /// Data on GPIO 16, ce and oe on two GPIOs, cs1 on 19.

@@ -6,6 +6,22 @@ pub const SINGLE: u8 = 0;
 pub const BANKED: u8 = 1;
 pub const MULTI: u8 = 2;
 
+/// The package of the board's RP2350, by its number in the record.
+#[derive(Debug, Clone, Copy, PartialEq, Eq)]
+#[repr(u8)]
+pub enum Package {
+    B = 0,
+    A = 1,
+}
+
+impl Package {
+    fn of(number: u8) -> Option<Self> {
+        [Self::B, Self::A]
+            .into_iter()
+            .find(|package| *package as u8 == number)
+    }
+}
+
 /// No GPIO, or a setting that nobody gave.
 pub const NONE: u8 = 255;
 
@@ -45,6 +61,7 @@ pub struct Chip {
 #[derive(Debug, Clone, PartialEq, Eq)]
 pub struct Description {
     pub board_pins: u8,
+    pub package: Package,
     pub set_type: u8,
     pub word_bytes: u8,
     pub offset: i16,
@@ -63,13 +80,14 @@ impl Description {
     /// The record's bytes as a description; none where a byte has a value that the record does not
     /// name. What 01's domain asks beyond that is not looked at here.
     pub fn read(bytes: &[u8; LENGTH]) -> Option<Self> {
-        let kept_free = [1, 12, 13, 14, 15, 26, 27];
+        let kept_free = [12, 13, 14, 15, 26, 27];
         if kept_free.iter().any(|&place| bytes[place] != 0) || bytes[7] > 1 {
             return None;
         }
         let pin = |place: usize| [bytes[place], bytes[place + 1]];
         Some(Self {
             board_pins: bytes[0],
+            package: Package::of(bytes[1])?,
             set_type: bytes[2],
             word_bytes: bytes[3],
             offset: i16::from(bytes[4] as i8),
@@ -89,6 +107,7 @@ impl Description {
     pub fn write(&self) -> [u8; LENGTH] {
         let mut bytes = [0; LENGTH];
         bytes[0] = self.board_pins;
+        bytes[1] = self.package as u8;
         bytes[2] = self.set_type;
         bytes[3] = self.word_bytes;
         bytes[4] = self.offset as u8;

@@ -2,7 +2,9 @@
 
 use crate::answer::answer;
 use crate::case::{Build, Case, MultiSelect, ReadBack};
-use crate::description::{BANKED, Chip, Description, MULTI, Multi, NO_PIN, NONE, SINGLE, Settings};
+use crate::description::{
+    BANKED, Chip, Description, MULTI, Multi, NO_PIN, NONE, Package, SINGLE, Settings,
+};
 use crate::layout::{AddressLayout, SelectLayout};
 use crate::model::Model;
 use crate::original::Original;
@@ -45,6 +47,7 @@ pub fn plain() -> Description {
     };
     Description {
         board_pins: 24,
+        package: Package::B,
         set_type: SINGLE,
         word_bytes: 1,
         offset: 0,

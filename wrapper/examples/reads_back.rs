@@ -1,7 +1,7 @@
 //! A slot through the four calls: a chip of 256 bytes on a 24-pin board is laid out, its table is
 //! built and read back.
 
-use onerom::description::{Candidates, Chip, Kind, SetType, Setting, Settings};
+use onerom::description::{Candidates, Chip, Kind, Package, SetType, Setting, Settings};
 use onerom::{Description, Refusal, derive_addr_layout, round_trip};
 
 /// Socket pins 1 to 8 are the address lines, on GPIOs 0 to 7; 9 to 16 the data lines, on 16 to 23;
@@ -13,6 +13,7 @@ fn slot() -> Description {
     }
     Description {
         board_pins: 24,
+        package: Package::B,
         set_type: SetType::Single,
         word_bytes: 1,
         pin_offset: 0,

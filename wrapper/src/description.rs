@@ -1,5 +1,7 @@
 //! The description of a slot, and its record.
 
+use std::fmt;
+
 use crate::bytes::{count, gpio, put};
 use crate::interface::values::{self, GPIO_NONE, NOT_GIVEN};
 use crate::interface::{chip as chip_at, description as at};
@@ -13,7 +15,36 @@ pub const SOCKET_PINS: usize = (at::SOCKET.end - at::SOCKET.start) / 2;
 /// How many chips the record has places for.
 pub const MOST_CHIPS: usize = (at::CHIPS.end - at::CHIPS.start) / chip_at::RECORD_SIZE;
 
-/// The GPIOs that can serve a pin: those that the board connects to it, 0 to 47.
+/// The package of the board's RP2350.
+#[derive(Debug, Clone, Copy, PartialEq, Eq, Default)]
+#[repr(u8)]
+pub enum Package {
+    /// The RP2350B, with GPIOs 0 to 47.
+    #[default]
+    B = values::PACKAGE_B,
+    /// The RP2350A, with GPIOs 0 to 29.
+    A = values::PACKAGE_A,
+}
+
+impl Package {
+    /// Its last GPIO, above which no pin has a candidate.
+    pub fn last_gpio(self) -> u8 {
+        match self {
+            Self::A => 29,
+            Self::B => 47,
+        }
+    }
+}
+
+impl fmt::Display for Package {
+    /// The name of the chip, as its data sheet has it.
+    fn fmt(&self, f: &mut fmt::Formatter<'_>) -> fmt::Result {
+        write!(f, "RP2350{self:?}")
+    }
+}
+
+/// The GPIOs that can serve a pin: those that the board connects to it, 0 to 47, or 0 to 29 on
+/// [`Package::A`].
 #[derive(Debug, Clone, Copy, PartialEq, Eq, Default)]
 pub enum Candidates {
     /// No GPIO. A line on this pin is refused.
@@ -23,6 +54,18 @@ pub enum Candidates {
     One(u8),
     /// Two GPIOs that differ. The searches take the one that makes the better layout.
     Two(u8, u8),
+}
+
+impl Candidates {
+    /// The GPIOs one by one, the first candidate first.
+    pub fn gpios(self) -> impl Iterator<Item = u8> {
+        let (one, two) = match self {
+            Self::Absent => (None, None),
+            Self::One(one) => (Some(one), None),
+            Self::Two(one, two) => (Some(one), Some(two)),
+        };
+        one.into_iter().chain(two)
+    }
 }
 
 /// How many chips share the socket, and what picks one of them.
@@ -121,6 +164,8 @@ pub struct Chip {
 pub struct Description {
     /// Pins of the board's socket: 24, 28, 32 or 40.
     pub board_pins: u8,
+    /// The package of its RP2350. On A no candidate is above GPIO 29, at any pin, used or not.
+    pub package: Package,
     /// How many chips there are, and what picks one.
     pub set_type: SetType,
     /// Bytes in a word: 1, or 2 in 16-bit mode.
@@ -149,6 +194,7 @@ impl Description {
     pub fn to_bytes(&self) -> [u8; LENGTH] {
         let mut record = [0; LENGTH];
         record[at::BOARD_PINS] = self.board_pins;
+        record[at::PACKAGE] = self.package as u8;
         record[at::SET_TYPE] = self.set_type as u8;
         record[at::WORD_BYTES] = self.word_bytes;
         record[at::PIN_OFFSET] = self.pin_offset as u8;

@@ -74,6 +74,10 @@ pub mod values {
     pub const NOT_GIVEN: u8 = 255;
     /// A select layout without an ignore index.
     pub const NO_IGNORE_INDEX: u8 = 255;
+    /// The RP2350B, GPIOs 0 to 47.
+    pub const PACKAGE_B: u8 = 0;
+    /// The RP2350A, GPIOs 0 to 29.
+    pub const PACKAGE_A: u8 = 1;
     /// One chip.
     pub const SET_SINGLE: u8 = 0;
     /// 2 to 4 chips, picked by X1 and X2 as the bits of a bank.
@@ -154,16 +158,23 @@ pub mod values {
 
 /// The description record: A board's socket, the chips of one slot on it, and which GPIOs can serve
 /// each pin. Another length is refusal 1, and so is a byte that is none of the values named here,
-/// in every call that takes the record. Two rules depend on the call. Qualifiers are held against
-/// the lines of an address layout, so that only a call which has one tests them: a build always,
-/// the select search if a layout is handed in. More than 8 of them, an index that is not below the
-/// layout's lines in use, or GPIOs of which two are more than 7 apart are refusal 1 there. The
-/// address search does not look at them, and a select search without a layout answers 5 to any
-/// count but 0. Each search counts the two-candidate pins among the pins that it lists, and more
-/// than 16 are refusal 1. The address search lists its lines, one off the socket with the
-/// candidates of the X pin that stands in for it, and the X pins that pick; the select search lists
-/// data pins, select lines and, in Multi, the X pins that select and the commoned lines. A build
-/// lists none.
+/// in every call that takes the record; but onerom_well_wired looks at the length, the package, set
+/// type, offset, form and settings, the flag of the Multi configuration, the places kept, and that
+/// no second candidate is without a first, and takes other numbers as they stand. Two rules depend
+/// on the call. Qualifiers are held against the lines of an address layout, so that only a call
+/// which has one tests them: a build always, the select search if a layout is handed in. More than
+/// 8 of them, an index that is not below the layout's lines in use, or GPIOs of which two are more
+/// than 7 apart are refusal 1 there. The address search does not look at them, and a select search
+/// without a layout answers 5 to any count but 0. Each search counts the two-candidate pins among
+/// the pins that it lists, and more than 16 are refusal 1. The address search lists its lines, one
+/// off the socket with the candidates of the X pin that stands in for it, and the X pins that pick;
+/// the select search lists data pins, select lines and, in Multi, the X pins that select and the
+/// commoned lines. A build lists none. On package A a candidate above GPIO 29 is refusal 1, in
+/// every call that takes the record: at each of the 40 socket pins, those past the board's socket
+/// too, at X1 and at X2, first or second, whether a line is on the pin or not. In all else package
+/// A answers as B. Only candidates are bound: a layout that is handed in may name GPIOs up to 47,
+/// and the pins of an address layout that is found may reach past 29, since there are 8 at least. A
+/// stored slot has no package.
 pub mod description {
     use std::ops::Range;
 
@@ -171,7 +182,7 @@ pub mod description {
     pub const RECORD_SIZE: usize = 424;
     /// Pins of the board's socket. Values: 24, 28, 32 or 40.
     pub const BOARD_PINS: usize = 0;
-    /// Package. Values: 0 (kept for the package's name).
+    /// Package of the RP2350. Values: 0 B, 1 A.
     pub const PACKAGE: usize = 1;
     /// Set type. Values: 0 Single, 1 Banked, 2 Multi.
     pub const SET_TYPE: usize = 2;
@@ -217,7 +228,7 @@ pub mod description {
     /// they are tested.
     pub const QUALIFIERS: Range<usize> = 44..52;
     /// 80 bytes: candidates of socket pins 1 to 40, two bytes a pin. Values: 255 255 none; g 255
-    /// one; g h two; GPIOs 0 to 47 that differ.
+    /// one; g h two; GPIOs 0 to 47 that differ, on package A 0 to 29.
     pub const SOCKET: Range<usize> = 52..132;
     /// 2 bytes: candidates of X1. Values: as above.
     pub const X1: Range<usize> = 132..134;

@@ -29,13 +29,13 @@ pub const PAIRINGS: Command = Command {
     summary: "Tries every board of a folder with every chip of another",
     help: "\
 Reads every file *.txt of the folders BOARDS and CHIPS, in the order of their
-names: lines of a description, a board's (socket, pin, x1, x2, offset, limit)
-and a chip's (word, chip, package, address, data, control, settings,
-qualifiers). Lays out each chip on each board, builds a table of made bytes and
-reads it back. A chip sits at the bottom of a larger socket, unless the board
-has an `offset` line; one with more pins than the socket is not tried, unless
-that line is below 0. A board's `set` and `multi` lines are not looked at, and
-how its pins are wired is taken as told.
+names: lines of a description, a board's (socket, package a or b, pin, x1, x2,
+offset, limit) and a chip's (word, chip, package with its pins, address, data,
+control, settings, qualifiers). Lays out each chip on each board, builds a table
+of made bytes and reads it back. A chip sits at the bottom of a larger socket,
+unless the board has an `offset` line; one with more pins than the socket is not
+tried, unless that line is below 0. A board's `set` and `multi` lines are not
+looked at, and how its pins are wired is taken as told.
 
 Writes a table to the standard output, boards down and chips across, and below
 it what its marks mean: `ok` reads back whole, `a3` is refusal 3 of the address

@@ -11,9 +11,9 @@ use onerom_bench::text;
 use super::layout::print_layouts;
 use super::verify::verified;
 use super::{Command, Flags};
-use crate::SAMPLE;
 use crate::ending::{Done, Fault, say};
 use crate::outputs::{make_folder, write_new};
+use crate::{SAMPLE, SAMPLE_A};
 
 /// What the program does without a command.
 pub const SUMMARY: &str = "Runs the sample, a 2764, to a table that reads back";
@@ -23,11 +23,12 @@ pub const SAMPLE_FILES: Command = Command {
     words: "[FOLDER]",
     summary: "Writes the sample's files, to try the commands on",
     help: "\
-Reads no file. Writes 2764.txt, the sample's description, and 2764.bin, its
-ROM's 8192 bytes, to FOLDER, which is made if it is not there, or else to the
-folder that it runs in. The byte at an address is the address's low byte plus 31
-times its high byte, modulo 256. No file is replaced: where one of the two is
-there already, none is written.
+Reads no file. Writes 2764.txt, the sample's description, 2764a.txt, the same
+chip on a board with the smaller RP2350A, and 2764.bin, the 8192 bytes of the
+ROM, to FOLDER, which is made if it is not there, or else to the folder that it
+runs in. The byte at an address is the address's low byte plus 31 times its high
+byte, modulo 256. No file is replaced: where one of the three is there already,
+none is written.
 
 Exit codes: 0 written; 2 other words, or a file that cannot be written.
 
@@ -39,6 +40,7 @@ Example:
 };
 
 const DESCRIPTION: &str = "2764.txt";
+const DESCRIPTION_A: &str = "2764a.txt";
 const ROM: &str = "2764.bin";
 const ROM_BYTES: u32 = 8192;
 
@@ -73,11 +75,18 @@ fn run(words: &[OsString], _: &Flags) -> Done {
         _ => return Err(Fault::Words),
     };
     make_folder(folder)?;
-    let [description, rom] = [DESCRIPTION, ROM].map(|name| folder.join(name));
-    write_new(&[(&description, SAMPLE.as_bytes()), (&rom, &rom_bytes())])?;
-    let (text, bytes) = (description.display(), rom.display());
+    let files = [DESCRIPTION, DESCRIPTION_A, ROM].map(|name| folder.join(name));
+    let [description, description_a, rom] = &files;
+    write_new(&[
+        (description, SAMPLE.as_bytes()),
+        (description_a, SAMPLE_A.as_bytes()),
+        (rom, &rom_bytes()),
+    ])?;
+    let [text, text_a, bytes] = files.each_ref().map(|file| file.display());
     say(&format!(
-        "{text}: description of a 2764 on a 28-pin board\n{bytes}: its ROM, {ROM_BYTES} bytes\n"
+        "{text}: description of a 2764 on a 28-pin board\n\
+         {text_a}: the same chip on a board with the smaller RP2350A\n\
+         {bytes}: the ROM of both, {ROM_BYTES} bytes\n"
     ))?;
     say(&next_commands(folder))?;
     Ok(ExitCode::SUCCESS)
@@ -86,7 +95,7 @@ fn run(words: &[OsString], _: &Flags) -> Done {
 /// What can be typed then.
 fn next_commands(folder: &Path) -> String {
     let file = |name: &str| quoted(&folder.join(name));
-    let [description, rom] = [DESCRIPTION, ROM].map(file);
+    let [description, description_a, rom] = [DESCRIPTION, DESCRIPTION_A, ROM].map(file);
     let [slot, table, back] = ["slot.txt", "table.bin", "back.bin"].map(file);
     format!(
         "
@@ -95,6 +104,7 @@ next:
     onerom-bench build {description} {table} {rom}
     onerom-bench read-back {slot} {table} {back}
     onerom-bench verify {description} {rom}
+    onerom-bench verify {description_a} {rom}
 "
     )
 }

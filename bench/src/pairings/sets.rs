@@ -51,6 +51,7 @@ pub fn slot(board: &Board, told: &ChipFacts, set: Set) -> Result<Description, Un
     };
     Ok(Description {
         board_pins: board.pins,
+        package: board.package,
         set_type: set.set_type,
         word_bytes: told.word_bytes,
         pin_offset,

@@ -36,7 +36,7 @@ impl Uses {
     /// What is taken, and in brackets what could have been. Of a pin that serves nothing all are
     /// shown alike.
     pub fn gpio_words(&self, candidates: Candidates) -> String {
-        let all = list(candidates);
+        let all: Vec<u8> = candidates.gpios().collect();
         if self.gpios.is_empty() {
             return numbers(&all).unwrap_or("-".into());
         }
@@ -48,14 +48,6 @@ impl Uses {
             Some(others) => format!("{taken} ({others})"),
             None => taken,
         }
-    }
-}
-
-fn list(candidates: Candidates) -> Vec<u8> {
-    match candidates {
-        Candidates::Absent => vec![],
-        Candidates::One(one) => vec![one],
-        Candidates::Two(one, two) => vec![one, two],
     }
 }
 

@@ -5,10 +5,10 @@ use super::facts::{Draft, Told, add_part, missing, wrong};
 use super::included::Place;
 use super::words::{KINDS, Words};
 use onerom::description::{
-    Candidates, Chip, Description, Kind, Multi, SOCKET_PINS, SetType, Setting, Settings,
+    Candidates, Chip, Description, Kind, Multi, Package, SOCKET_PINS, SetType, Setting, Settings,
 };
 
-const LINES: &str = "socket, pin, x1, x2, set, word, offset, limit, chip, package, address, data, \
+const LINES: &str = "socket, package, pin, x1, x2, set, word, offset, limit, chip, address, data, \
     control, settings, qualifiers, multi or include";
 
 /// The original's largest table.
@@ -36,8 +36,17 @@ const FORMS: [(&str, Form); 3] = [
 /// How many kinds of lines a Multi set can name: all but the other lines. A list has no more.
 const NAMED: usize = 6;
 
-/// Pins that a socket or a package has.
+/// The packages of the RP2350.
+const PACKAGES: [(&str, Package); 2] = [("a", Package::A), ("b", Package::B)];
+
+/// The fact that a line with one of them tells.
+const RP2350: &str = "package of the RP2350";
+
+/// Pins that a socket or a chip's package has.
 const PIN_COUNTS: [(&str, u8); 4] = [("24", 24), ("28", 28), ("32", 32), ("40", 40)];
+
+/// What a chip's `package` line has.
+const CHIP_PACKAGE: &str = "the package's pins";
 
 /// The highest pin of any package.
 const HIGHEST_PIN: u8 = 40;
@@ -45,7 +54,7 @@ const HIGHEST_PIN: u8 = 40;
 pub struct DescriptionDraft {
     pub slot: Description,
     pub told: Told,
-    /// Pins of each chip's package, where they are told.
+    /// Pins of each chip's own package, where they are told.
     pub packages: Vec<Option<u8>>,
     /// The line on which each chip begins.
     pub chip_lines: Vec<Place>,
@@ -55,6 +64,7 @@ impl Default for DescriptionDraft {
     fn default() -> Self {
         let slot = Description {
             board_pins: 0,
+            package: Package::B,
             set_type: SetType::Single,
             word_bytes: 1,
             pin_offset: 0,
@@ -82,7 +92,8 @@ impl Draft for DescriptionDraft {
         match head {
             "pin" => return self.pin(words),
             "chip" => return self.chip(words),
-            "package" | "address" | "data" | "control" => return self.chip_pins(head, words),
+            "package" => return self.either_package(words),
+            "address" | "data" | "control" => return self.chip_pins(head, words),
             "word" | "settings" => return self.shared(head, words),
             _ => {}
         }
@@ -104,6 +115,7 @@ impl Draft for DescriptionDraft {
 
     fn finished(mut self, last: usize) -> Result<Description, TextError> {
         self.whole_socket(last)?;
+        self.within_package()?;
         self.whole_chips(last)?;
         let slot = &self.slot;
         if slot.set_type == SetType::Multi && slot.multi.is_none() {
@@ -140,6 +152,39 @@ impl DescriptionDraft {
             }
         }
         Ok(())
+    }
+
+    /// Tells of a candidate that the package of the RP2350 has not.
+    pub fn within_package(&self) -> Result<(), TextError> {
+        let package = self.slot.package;
+        let socket = (1..).zip(self.slot.socket);
+        let socket = socket.map(|(pin, own): (u8, _)| (format!("pin {pin}"), own));
+        let x = (1..).zip(self.slot.x);
+        let x = x.map(|(number, own): (u8, _)| (format!("x{number}"), own));
+        for (fact, candidates) in socket.chain(x) {
+            let past = candidates.gpios().find(|&gpio| gpio > package.last_gpio());
+            if let (Some(gpio), Some(place)) = (past, self.told.place(&fact)) {
+                let what = self.past_package(gpio, &place);
+                return wrong(place, what);
+            }
+        }
+        Ok(())
+    }
+
+    /// What is said of a GPIO past the package, on this line.
+    fn past_package(&self, gpio: u8, place: &Place) -> String {
+        let package = self.slot.package;
+        let own = PACKAGES.iter().find(|(_, own)| *own == package);
+        let name = own.map_or("", |(name, _)| *name);
+        let told = self.told.place(RP2350);
+        let told = told.map_or(String::new(), |told| {
+            format!(
+                "; `package {name}` stands on {}",
+                told.seen_from(&place.part)
+            )
+        });
+        let last = package.last_gpio();
+        format!("expected a GPIO of the {package}, 0 to {last}, found `{gpio}`{told}")
     }
 
     /// Tells what is missing of the chips, or wrong with one.
@@ -199,6 +244,31 @@ impl DescriptionDraft {
             }
             _ => Ok(()),
         }
+    }
+
+    /// A number has the pins of the last chip's package, a letter is the RP2350's.
+    fn either_package(&mut self, words: &mut Words) -> Result<(), TextError> {
+        if words.is_number() {
+            return self.chip_pins("package", words);
+        }
+        let names: Vec<&str> = PIN_COUNTS.iter().map(|(name, _)| *name).collect();
+        let pins = format!("the pins of a chip's package ({})", names.join(", "));
+        self.board_package(&format!("{pins} or the RP2350's package"), words)
+    }
+
+    /// The package of the RP2350; what was expected is said of any other word.
+    pub fn board_package(&mut self, what: &str, words: &mut Words) -> Result<(), TextError> {
+        self.told.once(RP2350.into(), words)?;
+        self.slot.package = words.one_of(what, &PACKAGES)?;
+        Ok(())
+    }
+
+    /// The pins of the last chip's package; any other word is told, ahead of a missing `chip` line.
+    pub fn chip_package(&mut self, words: &mut Words) -> Result<(), TextError> {
+        if words.is_number() {
+            return self.chip_pins("package", words);
+        }
+        words.one_of(CHIP_PACKAGE, &PIN_COUNTS).map(drop)
     }
 
     fn pin(&mut self, words: &mut Words) -> Result<(), TextError> {
@@ -281,7 +351,7 @@ fn slip(chip: &Chip, word_bytes: u8) -> Option<String> {
 
 /// The pins of a package: no line that was told before lies above them.
 fn package(chip: &Chip, words: &mut Words) -> Result<u8, TextError> {
-    let pins = words.one_of("the package's pins", &PIN_COUNTS)?;
+    let pins = words.one_of(CHIP_PACKAGE, &PIN_COUNTS)?;
     let lines = chip.address_pins.iter().chain(&chip.data_pins);
     let highest = lines.chain(chip.control.iter().map(|(_, pin)| pin)).max();
     match highest {

@@ -4,7 +4,7 @@ use super::TextError;
 use super::described::DescriptionDraft;
 use super::facts::{Draft, missing};
 use super::words::Words;
-use onerom::description::{Candidates, Chip, SOCKET_PINS, Settings};
+use onerom::description::{Candidates, Chip, Package, SOCKET_PINS, Settings};
 
 /// What a chip's file tells.
 #[derive(Debug, Clone, PartialEq, Eq)]
@@ -26,6 +26,8 @@ pub struct ChipFacts {
 pub struct Board {
     /// Pins of its socket: 24, 28, 32 or 40.
     pub pins: u8,
+    /// The package of its RP2350.
+    pub package: Package,
     /// Socket pin less chip pin, if the file says so.
     pub offset: Option<i8>,
     /// The largest table in bytes.
@@ -47,8 +49,8 @@ const CHIP_LINES: [&str; 8] = [
     "qualifiers",
 ];
 
-const BOARD_LINES: [&str; 8] = [
-    "socket", "pin", "x1", "x2", "offset", "limit", "set", "multi",
+const BOARD_LINES: [&str; 9] = [
+    "socket", "package", "pin", "x1", "x2", "offset", "limit", "set", "multi",
 ];
 
 /// A line that is of this half.
@@ -71,8 +73,10 @@ impl Draft for ChipDraft {
 
     fn line(&mut self, head: &str, words: &mut Words) -> Result<(), TextError> {
         expect(head, &CHIP_LINES, "chip", words)?;
-        if head == "chip" {
-            self.0.told.once(head.into(), words)?;
+        match head {
+            "chip" => self.0.told.once(head.into(), words)?,
+            "package" => return self.0.chip_package(words),
+            _ => {}
         }
         self.0.line(head, words)
     }
@@ -105,14 +109,19 @@ impl Draft for BoardDraft {
 
     fn line(&mut self, head: &str, words: &mut Words) -> Result<(), TextError> {
         expect(head, &BOARD_LINES, "board", words)?;
-        self.0.line(head, words)
+        match head {
+            "package" => self.0.board_package("the RP2350's package", words),
+            _ => self.0.line(head, words),
+        }
     }
 
     fn finished(self, last: usize) -> Result<Board, TextError> {
         self.0.whole_socket(last)?;
+        self.0.within_package()?;
         let DescriptionDraft { slot, told, .. } = self.0;
         Ok(Board {
             pins: slot.board_pins,
+            package: slot.package,
             offset: told.place("offset").map(|_| slot.pin_offset),
             largest_table: slot.largest_table,
             socket: slot.socket,

@@ -1,6 +1,8 @@
 //! Whatever values are put together, the wrapper answers: with a result, a refusal or a text.
 
-use onerom::description::{Candidates, Chip, Description, Kind, Multi, SetType, Setting, Settings};
+use onerom::description::{
+    Candidates, Chip, Description, Kind, Multi, Package, SetType, Setting, Settings,
+};
 use onerom::layout::cs_data::{Line, Qualifiers, Role};
 use onerom::slot::{Layout, Map, Rom, SlotKind};
 use onerom::{
@@ -77,7 +79,7 @@ fn chip(random: &mut Random) -> Chip {
 fn description(random: &mut Random) -> Description {
     let mut slot = sample();
     for _ in 0..=random.below(3) {
-        match random.below(12) {
+        match random.below(13) {
             0 => slot.board_pins = random.byte(),
             1 => slot.set_type = random.pick(&[SetType::Banked, SetType::Multi]),
             2 => slot.word_bytes = random.pick(&[0, 2, 3, 255]),
@@ -95,6 +97,7 @@ fn description(random: &mut Random) -> Description {
             8 => slot.socket = std::array::from_fn(|_| candidates(random)),
             9 => slot.x = [candidates(random), candidates(random)],
             10 => slot.chips = list(random, chip),
+            11 => slot.package = Package::A,
             _ => slot.chips.extend([chip_2764(), chip_2764()]),
         }
     }

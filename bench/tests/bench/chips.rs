@@ -7,7 +7,7 @@ use std::path::{Path, PathBuf};
 
 use super::folder::Folder;
 use super::slots::random;
-use onerom::description::{Candidates, Settings};
+use onerom::description::{Candidates, Package, Settings};
 use onerom_bench::text::{self, Board, ChipFacts};
 
 /// Name, pins of the package, address lines and data lines of each chip.
@@ -27,6 +27,15 @@ const CHIPS: [(&str, u8, usize, usize); 15] = [
     ("27C020", 32, 18, 8),
     ("27C040", 32, 19, 8),
     ("27C400", 40, 18, 16),
+];
+
+/// Name, pins of the socket and package of the RP2350 of each board.
+const BOARDS: [(&str, u8, Package); 5] = [
+    ("24", 24, Package::B),
+    ("28", 28, Package::B),
+    ("28a", 28, Package::A),
+    ("32", 32, Package::B),
+    ("40", 40, Package::B),
 ];
 
 /// GND and Vcc of each package; of 40 pins it is the 27C400's.
@@ -82,7 +91,7 @@ fn names(folder: &str) -> BTreeSet<String> {
 fn every_file_is_looked_at() {
     let chips = CHIPS.map(|(name, ..)| name.to_string());
     assert_eq!(names("chips"), BTreeSet::from(chips));
-    let boards = POWER.map(|(pins, _)| pins.to_string());
+    let boards = BOARDS.map(|(name, ..)| name.to_string());
     assert_eq!(names("boards"), BTreeSet::from(boards));
 }
 
@@ -147,26 +156,24 @@ fn a_family_shares_its_pins() {
 
 #[test]
 fn boards_wire_every_pin_but_power() {
-    for (pins, power) in POWER {
-        let told = board(&pins.to_string());
-        assert_eq!((told.pins, told.offset), (pins, None));
+    for (name, pins, package) in BOARDS {
+        let told = board(name);
+        let head = (told.pins, told.package, told.offset);
+        assert_eq!(head, (pins, package, None), "{name}");
         let wired = (1..)
             .zip(told.socket)
             .filter(|(_, own)| *own != Candidates::Absent);
         let wired: Vec<u8> = wired.map(|(pin, _)| pin).collect();
-        let wanted: Vec<u8> = (1..=pins).filter(|pin| !power.contains(pin)).collect();
-        assert_eq!(wired, wanted, "board of {pins} pins");
-        let gpios: Vec<u8> = told.socket.iter().chain(&told.x).flat_map(gpios).collect();
+        let wanted = (1..=pins).filter(|pin| !power(pins).contains(pin));
+        assert_eq!(wired, wanted.collect::<Vec<u8>>(), "{name}");
+        let candidates = told.socket.into_iter().chain(told.x);
+        let gpios: Vec<u8> = candidates.flat_map(Candidates::gpios).collect();
         let once: BTreeSet<u8> = gpios.iter().copied().collect();
-        assert_eq!(once.len(), gpios.len(), "board of {pins} pins");
-    }
-}
-
-fn gpios(candidates: &Candidates) -> Vec<u8> {
-    match *candidates {
-        Candidates::Absent => vec![],
-        Candidates::One(one) => vec![one],
-        Candidates::Two(one, two) => vec![one, two],
+        assert_eq!(once.len(), gpios.len(), "{name}");
+        assert!(
+            once.iter().all(|&gpio| gpio <= package.last_gpio()),
+            "{name}"
+        );
     }
 }
 
@@ -179,25 +186,42 @@ fn pairing(board: &str, chip: &str) -> String {
 #[test]
 fn each_chip_reads_back() {
     for (seed, (name, package, lines, data)) in (1..).zip(CHIPS) {
-        let folder = Folder::new("verify", &format!("chips/{name}"));
-        let bytes = random(seed, (data / 8) << lines);
-        folder.write("chip.bin", &bytes);
-        folder.write("slot.txt", pairing(&package.to_string(), name).as_bytes());
-        let said = folder.done(&["slot.txt", "chip.bin"]);
-        let words = 1 << lines;
-        assert_eq!(said, format!("reads back: {words} words of 1 chip\n"));
-        for (command, words) in [
-            ("layout", &["slot.txt", "stored.txt"][..]),
-            ("build", &["slot.txt", "table.bin", "chip.bin"]),
-            ("read-back", &["slot.txt", "table.bin", "back.bin"]),
-            ("read-back", &["stored.txt", "table.bin", "again.bin"]),
-        ] {
-            let told = folder.run_other(command, words);
-            assert_eq!(told.status.code(), Some(0), "{name}, {command}");
-        }
-        assert!(folder.read("back.bin") == bytes, "{name}");
-        assert!(folder.read("again.bin") == bytes, "{name}");
+        reads_back(
+            &package.to_string(),
+            name,
+            &random(seed, (data / 8) << lines),
+        );
     }
+}
+
+/// Chips of 24 pins sit at the bottom of the same board.
+#[test]
+fn each_chip_of_28_pins_or_fewer_reads_back_on_the_smaller_rp2350() {
+    let small = CHIPS.into_iter().filter(|(_, package, ..)| *package <= 28);
+    for (seed, (name, _, lines, _)) in (1..).zip(small) {
+        reads_back("28a", name, &random(seed, 1 << lines));
+    }
+}
+
+/// From a pairing to the chip's bytes again, by each command.
+fn reads_back(board: &str, chip: &str, bytes: &[u8]) {
+    let folder = Folder::new("verify", &format!("chips/{board}/{chip}"));
+    folder.write("chip.bin", bytes);
+    folder.write("slot.txt", pairing(board, chip).as_bytes());
+    let said = folder.done(&["slot.txt", "chip.bin"]);
+    let words = bytes.len() / usize::from(self::chip(chip).word_bytes);
+    assert_eq!(said, format!("reads back: {words} words of 1 chip\n"));
+    for (command, words) in [
+        ("layout", &["slot.txt", "stored.txt"][..]),
+        ("build", &["slot.txt", "table.bin", "chip.bin"]),
+        ("read-back", &["slot.txt", "table.bin", "back.bin"]),
+        ("read-back", &["stored.txt", "table.bin", "again.bin"]),
+    ] {
+        let told = folder.run_other(command, words);
+        assert_eq!(told.status.code(), Some(0), "{chip} on {board}, {command}");
+    }
+    assert!(folder.read("back.bin") == bytes, "{chip} on {board}");
+    assert!(folder.read("again.bin") == bytes, "{chip} on {board}");
 }
 
 /// A 24-pin chip sits at the bottom of a 28-pin socket: pin 1 in pin 3.

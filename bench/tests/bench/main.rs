@@ -16,6 +16,8 @@ mod include;
 mod jobs;
 mod layout;
 mod make;
+mod package;
+mod package_text;
 mod pairings;
 mod program;
 mod progress;

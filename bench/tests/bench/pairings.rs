@@ -66,6 +66,7 @@ single
 board  23128  2316  23256  2332  2364  27128  2716  27256  2732  27512  2764  27C010  27C020  27C040  27C400
 24     -      ok    -      ok    ok    -      ok    -      ok    -      -     -       -       -       -
 28     ok     ok    ok     ok    ok    ok     ok    ok     ok    ok     ok    -       -       -       -
+28a    ok     ok    ok     ok    ok    ok     ok    ok     ok    ok     ok    -       -       -       -
 32     ok     ok    ok     ok    ok    ok     ok    ok     ok    ok     ok    ok      ok      ok      -
 40     10     10    10     10    10    10     10    10     10    10     10    10      10      10      ok
 
@@ -73,12 +74,12 @@ ok       reads back whole
 -        not tried: the chip has more pins than the socket
 10       not tried: 10 IncompatiblePinCount: the chip does not go into this socket
 
-60 pairings: 31 whole, 0 in part, 0 refused, 29 not tried, 0 at fault
+75 pairings: 42 whole, 0 in part, 0 refused, 33 not tried, 0 at fault
 ";
     assert_eq!(said, wanted);
     assert_eq!(folder.names(), names);
     let page = include_str!("../../README.md");
-    let shown = wanted.lines().skip(2).take(9);
+    let shown = wanted.lines().skip(2).take(10);
     assert!(
         shown
             .filter(|line| !line.is_empty())
@@ -93,16 +94,16 @@ fn sets_have_a_table_each() {
     let said = folder.done(&["--sets", "boards", "chips"]);
     let rows = |set: &str| -> Vec<String> {
         let (_, table) = said.split_once(&format!("{set}\n\n")).expect("a table");
-        let rows = table.lines().skip(1).take(4);
+        let rows = table.lines().skip(1).take(5);
         rows.map(str::to_string).collect()
     };
     let tables = SETS.map(rows);
-    assert!(tables.iter().all(|rows| rows.len() == 4));
+    assert!(tables.iter().all(|rows| rows.len() == 5));
     // Four banks of 64 KiB are past the largest table on this board, two of 8 KiB are not.
     assert!(tables[2][1].contains("b11") && tables[3][1].contains("ok"));
     assert!(said.contains("\nb11      build refused: 11 RomTableTooLarge: the table is larger"));
     assert!(said.contains("\ns7       select search refused: 7 NonContiguousSelect: the select"));
-    assert!(said.contains("\n300 pairings: "));
+    assert!(said.contains("\n375 pairings: "));
 }
 
 #[test]
@@ -110,17 +111,18 @@ fn a_line_for_each_pairing() {
     let folder = folder("csv");
     folder.write("chips/a, \"b\".txt", &folder.read("chips/2764.txt"));
     let said = folder.done(&["boards", "--sets", "--csv", "list.csv", "chips"]);
-    assert!(said.ends_with("\nlist.csv: 320 pairings\n"));
+    assert!(said.ends_with("\nlist.csv: 400 pairings\n"));
     let list = text(&folder.read("list.csv"));
     let mut lines = list.lines();
     assert_eq!(
         lines.next(),
         Some("board,chip,set,result,call,number,place")
     );
-    assert_eq!(lines.clone().count(), 320);
+    assert_eq!(lines.clone().count(), 400);
     assert_eq!(lines.next(), Some("24,23128,single,larger,,,"));
     for line in [
         "28,2764,single,ok,,,",
+        "28a,2764,multi 3,ok,,,",
         "28,\"a, \"\"b\"\"\",single,ok,,,",
         "40,2764,banked 2,no-offset,,10,0",
         "32,27C040,banked 2,refused,build,11,0",
@@ -256,8 +258,8 @@ fn files_that_cannot_be_used_are_named() {
     }
     assert_eq!(folder.unread(&["empty", "chips"]), none);
     let said = folder.unread(&["chips", "boards"]);
-    let wanted = "chips/23128.txt, line 7: expected a line of a board (socket, pin, x1, x2, \
-        offset, limit, set or multi), found `word`\n";
+    let wanted = "chips/23128.txt, line 7: expected a line of a board (socket, package, pin, \
+        x1, x2, offset, limit, set or multi), found `word`\n";
     assert_eq!(said, wanted);
     let said = folder.unread(&["boards", "boards"]);
     assert!(said.starts_with("boards/24.txt, line 5: expected a line of a chip (word, "));
@@ -398,7 +400,7 @@ fn sets_answer_as_verify_does() {
     let folder = folder("sets-held");
     folder.done(&["boards", "chips", "--sets", "--csv", "list.csv"]);
     let list = text(&folder.read("list.csv"));
-    assert_eq!(as_verified(&folder, list.lines().skip(1)), 155);
+    assert_eq!(as_verified(&folder, list.lines().skip(1)), 210);
 }
 
 #[test]

@@ -62,7 +62,8 @@ fn the_sample() {
         2 select pins from base pin 22\n\nGPIO  role            base pin\n   0  D0                     0\n";
     assert!(told.contains(select));
     let select = "\n   7  D7                     7\n  22  ce, active low        22\n  23  oe, active low        23\n";
-    let socket = "\nsocket of 28 pins from above\n\nrole     GPIO  +---\\__/---+  GPIO     role\n";
+    let socket =
+        "\nsocket of 28 pins from above, RP2350B\n\nrole     GPIO  +---\\__/---+  GPIO     role\n";
     assert!(told.contains(&(select.to_string() + socket)));
     assert!(told.contains("\n A12  11 (26)  |  2    27 |  -        -\n"));
     let verified = "\n\nX1  24  not used\nX2  25  not used\n\ntable of 8192 bytes\n\

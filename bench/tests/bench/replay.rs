@@ -34,7 +34,7 @@ fn the_list_of_the_proved_replay() {
         kind 4: 1000 cases, no exported call\n\
         kind 5: 600 cases, 0 differ\n\
         kind 6: 400 cases, 0 differ\n\
-        kind 7: 356 cases, 0 differ\n\
+        kind 7: 348 cases, 0 differ\n\
         unread: 0\n";
     assert_eq!(told, (Some(0), said.to_string()));
 }

@@ -4,6 +4,7 @@ use std::fs;
 use std::process::Output;
 
 use super::folder::{Folder, SAMPLE, text};
+use super::slots::SAMPLE_A;
 
 fn folder(name: &str) -> Folder {
     Folder::new("sample", name)
@@ -25,18 +26,21 @@ fn typed(folder: &Folder, line: &str) -> Output {
 fn the_files_are_written() {
     let folder = folder("written");
     let wanted = "2764.txt: description of a 2764 on a 28-pin board
-2764.bin: its ROM, 8192 bytes
+2764a.txt: the same chip on a board with the smaller RP2350A
+2764.bin: the ROM of both, 8192 bytes
 
 next:
     onerom-bench layout 2764.txt slot.txt
     onerom-bench build 2764.txt table.bin 2764.bin
     onerom-bench read-back slot.txt table.bin back.bin
     onerom-bench verify 2764.txt 2764.bin
+    onerom-bench verify 2764a.txt 2764.bin
 ";
     assert_eq!(folder.done(&[]), wanted);
     assert_eq!(text(&folder.read("2764.txt")), SAMPLE);
+    assert_eq!(text(&folder.read("2764a.txt")), SAMPLE_A);
     assert_eq!(folder.read("2764.bin"), rom());
-    let names = ["2764.bin", "2764.txt", "chip.bin", "slot.txt"];
+    let names = ["2764.bin", "2764.txt", "2764a.txt", "chip.bin", "slot.txt"];
     assert_eq!(folder.names(), names);
 }
 
@@ -64,7 +68,7 @@ fn names_are_said_as_a_shell_takes_them() {
 #[test]
 fn no_file_is_replaced() {
     let folder = folder("kept");
-    for name in ["2764.bin", "2764.txt"] {
+    for name in ["2764.bin", "2764a.txt", "2764.txt"] {
         folder.write(name, b"old");
         let names = folder.names();
         let said = folder.unread(&[]);

@@ -5,6 +5,8 @@
 use onerom::slot::Layout;
 
 pub const SAMPLE: &str = include_str!("../../sample/2764.txt");
+/// The same chip on a board with an RP2350A.
+pub const SAMPLE_A: &str = include_str!("../../sample/2764a.txt");
 
 /// A layout whose numbers are those of their places in the record.
 pub const NUMBERED: Layout = Layout {

@@ -48,7 +48,7 @@ fn moved(socket: u8, offset: i8) -> Description {
 
 #[test]
 fn the_sample() {
-    let wanted = r"socket of 28 pins from above
+    let wanted = r"socket of 28 pins from above, RP2350B
 
 role     GPIO  +---\__/---+  GPIO     role
    -        -  |  1    28 |  -        -
@@ -91,7 +91,7 @@ fn banks_and_chip_selects() {
 #[test]
 fn the_first_address_pin_of_wide_words_is_no_line() {
     let drawing = drawn(&described(&wide([30, 31])));
-    assert!(drawing.starts_with("socket of 40 pins from above\n"));
+    assert!(drawing.starts_with("socket of 40 pins from above, RP2350B\n"));
     has(&drawing, "A0 0 | 1 40 | - -");
     has(&drawing, "A8 8 | 9 32 | - -");
     has(&drawing, "D4 20 | 14 27 | - -");
@@ -103,7 +103,9 @@ fn the_first_address_pin_of_wide_words_is_no_line() {
 #[test]
 fn a_chip_that_is_smaller_than_the_socket() {
     let drawing = drawn(&moved(32, 2));
-    assert!(drawing.starts_with("socket of 32 pins from above, chip pin 1 in socket pin 3\n"));
+    assert!(
+        drawing.starts_with("socket of 32 pins from above, RP2350B, chip pin 1 in socket pin 3\n")
+    );
     has(&drawing, "- - | 2 31 | - -");
     has(&drawing, "A12 11 (26) | 4 29 | - -");
     has(&drawing, "- - | 16 17 | 3 D3");
@@ -112,7 +114,9 @@ fn a_chip_that_is_smaller_than_the_socket() {
 #[test]
 fn lines_off_the_socket_are_on_x_pins() {
     let drawing = drawn(&moved(24, -2));
-    assert!(drawing.starts_with("socket of 24 pins from above, chip pin 3 in socket pin 1\n"));
+    assert!(
+        drawing.starts_with("socket of 24 pins from above, RP2350B, chip pin 3 in socket pin 1\n")
+    );
     has(&drawing, "A7 14 | 1 24 | - -");
     has(&drawing, "- - | 12 13 | 3 D3");
     assert!(drawing.ends_with("\n\nX1  24  A12\nX2  25  not used\n"));

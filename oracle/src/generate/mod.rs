@@ -1,4 +1,4 @@
-//! Seeded cases inside 01's domain, and texts of Intel HEX.
+//! Seeded cases inside 01's domain but for some candidates past package A, and texts of Intel HEX.
 
 mod faults;
 mod hex;

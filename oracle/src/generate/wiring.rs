@@ -3,7 +3,7 @@
 use super::leaves;
 use crate::case::MultiSelect;
 use crate::description::{
-    BANKED, Chip, Description, IGNORED, MULTI, Multi, NO_PIN, NONE, Pin, SINGLE, Settings,
+    BANKED, Chip, Description, IGNORED, MULTI, Multi, NO_PIN, NONE, Package, Pin, SINGLE, Settings,
 };
 use crate::model::{domain, multi};
 use crate::random::Random;
@@ -19,7 +19,28 @@ pub fn description(random: &mut Random) -> Description {
     second_candidates(random, &mut slot, &tokens);
     faults(random, &mut slot);
     within_choices(random, &mut slot);
+    if slot.package == Package::A && random.chance(12) {
+        past_package(random, &mut slot);
+    }
     slot
+}
+
+/// How many GPIOs the description's package has.
+fn gpio_count(slot: &Description) -> usize {
+    usize::from(domain::last_gpio(slot.package)) + 1
+}
+
+/// Any GPIO of the package.
+fn gpio(random: &mut Random, slot: &Description) -> u8 {
+    random.below(gpio_count(slot)) as u8
+}
+
+/// A GPIO at an edge of a window or of the package.
+fn edge(random: &mut Random, slot: &Description) -> u8 {
+    match slot.package {
+        Package::A => random.pick(&[0, 15, 16, 27, 28, 29]),
+        Package::B => random.pick(&[0, 15, 16, 31, 32, 45, 46, 47]),
+    }
 }
 
 fn set_and_chips(random: &mut Random) -> (u8, usize) {
@@ -64,6 +85,7 @@ fn unwired(random: &mut Random) -> Description {
     };
     let mut slot = Description {
         board_pins,
+        package: random.pick(&[Package::A, Package::B]),
         set_type,
         word_bytes,
         offset: offset(random),
@@ -315,8 +337,10 @@ fn order(random: &mut Random, slot: &Description) -> Vec<Token> {
         let place = random.between(0, address.len());
         address.insert(place, Token::Gap);
     }
-    if slot.set_type != MULTI && slot.set_type != BANKED {
-        address.extend([Token::X(1), Token::X(2)]);
+    if slot.set_type == SINGLE {
+        // Ahead of the address lines they leave these the last GPIOs, where a span is padded.
+        let place = random.pick(&[0, address.len(), address.len()]);
+        address.splice(place..place, [Token::X(1), Token::X(2)]);
     }
     let mut data = tokens(&chip.data_pins);
     mix(random, &mut data);
@@ -339,16 +363,18 @@ fn place_of(slot: &mut Description, token: Token) -> Option<&mut Pin> {
 }
 
 fn wire(random: &mut Random, slot: &mut Description, tokens: &[Token]) {
-    let last = 48usize.saturating_sub(tokens.len());
+    let count = gpio_count(slot);
+    let last = count.saturating_sub(tokens.len());
     let start = match random.below(6) {
         0 => 0,
         1 => last,
+        2 if slot.package == Package::A => last,
         2 => last.min(16),
         _ => random.between(0, last),
     };
     let mut gpio = start;
     for &token in tokens {
-        let next = (gpio % 48) as u8;
+        let next = (gpio % count) as u8;
         match place_of(slot, token) {
             Some(pin) if *pin == NO_PIN => *pin = [next, NONE],
             Some(_) => continue,
@@ -360,7 +386,7 @@ fn wire(random: &mut Random, slot: &mut Description, tokens: &[Token]) {
     }
     for pin in &mut slot.socket {
         if *pin == NO_PIN && random.chance(40) {
-            *pin = [random.gpio(), NONE];
+            *pin = [random.below(count) as u8, NONE];
         }
     }
 }
@@ -423,12 +449,15 @@ fn crowd(random: &mut Random, slot: &mut Description) {
 
 fn add_second(random: &mut Random, slot: &mut Description, token: Token) {
     let near = random.between(0, 6) as i16 - 3;
-    let any = random.gpio();
-    let other = random.pick(&[any, any, any, 15, 16, 31, 32, 47]);
+    let other = match random.chance(40) {
+        true => gpio(random, slot),
+        false => edge(random, slot),
+    };
     let is_near = random.chance(40);
     let swap = random.chance(50);
+    let last = i16::from(domain::last_gpio(slot.package));
     if let Some(pin) = place_of(slot, token).filter(|pin| pin[0] != NONE) {
-        let beside = (i16::from(pin[0]) + near).clamp(0, 47) as u8;
+        let beside = (i16::from(pin[0]) + near).clamp(0, last) as u8;
         let second = if is_near { beside } else { other };
         if second != pin[0] {
             *pin = if swap {
@@ -450,19 +479,102 @@ fn faults(random: &mut Random, slot: &mut Description) {
     }
     if random.chance(8) {
         let pin = random.below(usize::from(slot.board_pins));
-        slot.socket[pin] = [random.pick(&[0, 15, 16, 31, 32, 45, 46, 47]), NONE];
+        slot.socket[pin] = [edge(random, slot), NONE];
+    }
+}
+
+/// The candidates of a pin: of the 40 of a socket, then X1 and X2.
+fn nth_pin(slot: &mut Description, number: usize) -> &mut Pin {
+    match number {
+        0..40 => &mut slot.socket[number],
+        _ => &mut slot.x[number - 40],
+    }
+}
+
+/// Puts candidates past the package's GPIOs: one mostly, at any pin of the 42, used or not, first or
+/// second. Such a description is in no call's domain.
+fn past_package(random: &mut Random, slot: &mut Description) {
+    let next = domain::last_gpio(slot.package) + 1;
+    for _ in 0..random.pick(&[1, 1, 1, 1, 2, 3, 8]) {
+        let any = random.between(next.into(), 47) as u8;
+        let past = random.pick(&[next, next, 31, 32, 47, any]);
+        let number = match random.chance(15) {
+            true => random.between(40, 41),
+            false => random.below(40),
+        };
+        let second = random.chance(50);
+        let pin = nth_pin(slot, number);
+        match pin {
+            [NONE, _] => *pin = [past, NONE],
+            [first, other] if second && *first != past => *other = past,
+            [first, other] if *other != past => *first = past,
+            _ => {}
+        }
     }
 }
 
 /// Takes second candidates away until no search lists more than 16.
 fn within_choices(random: &mut Random, slot: &mut Description) {
     while !(domain::address_search(slot) && domain::select_search(slot)) {
-        let pin = random.below(42);
-        let pin = if pin < 40 {
-            &mut slot.socket[pin]
-        } else {
-            &mut slot.x[pin - 40]
+        nth_pin(slot, random.below(42))[1] = NONE;
+    }
+}
+
+#[cfg(test)]
+mod tests {
+    use super::*;
+
+    /// How many of 4000 descriptions pass a test.
+    fn count(passes: impl Fn(&Description) -> bool) -> usize {
+        let made = (0..4000).map(|number| description(&mut Random::of_case(3, number)));
+        made.filter(passes).count()
+    }
+
+    fn above(pin: &Pin) -> bool {
+        pin.iter().any(|&gpio| gpio != NONE && gpio > 29)
+    }
+
+    #[test]
+    fn half_is_of_each_package() {
+        let a = count(|slot| slot.package == Package::A);
+        assert!((1800..2200).contains(&a), "{a}");
+    }
+
+    #[test]
+    fn candidates_past_the_package_stand_everywhere() {
+        let pins = |slot: &Description| [&slot.socket[..], &slot.x].concat();
+        let some = |passes: fn(&Description, usize, &Pin) -> bool| {
+            let found = count(|slot| {
+                let pins = pins(slot);
+                let mut past = (0..).zip(&pins).filter(|(_, pin)| above(pin));
+                slot.package == Package::A && past.any(|(place, pin)| passes(slot, place, pin))
+            });
+            assert!(found > 10, "{found}");
+            found
         };
-        pin[1] = NONE;
+        let all = some(|_, _, _| true);
+        assert!((150..350).contains(&all), "{all}");
+        some(|_, _, pin| pin[0] > 29);
+        some(|_, _, pin| pin[0] <= 29);
+        some(|_, place, _| place >= 40);
+        some(|slot, place, _| (usize::from(slot.board_pins)..40).contains(&place));
+        let outside = count(|slot| slot.package == Package::A && !domain::description(slot));
+        assert_eq!(outside, all);
+        assert_eq!(
+            count(|slot| slot.package == Package::B && !domain::description(slot)),
+            0
+        );
+    }
+
+    #[test]
+    fn spans_are_padded_past_the_package() {
+        let padded = |slot: &Description| {
+            let found = crate::model::address::search(slot);
+            slot.package == Package::A
+                && domain::description(slot)
+                && found.is_ok_and(|layout| layout.base + layout.pins > 30)
+        };
+        let found = count(padded);
+        assert!(found > 50, "{found}");
     }
 }

@@ -2,7 +2,7 @@
 
 use super::choice::has_two;
 use crate::case::MultiSelect;
-use crate::description::{Chip, Description, MULTI, Multi, NONE, Pin, SINGLE, Settings};
+use crate::description::{Chip, Description, MULTI, Multi, NONE, Package, Pin, SINGLE, Settings};
 use crate::layout::{AddressLayout, Line, SelectLayout};
 use crate::slot::Slot;
 
@@ -14,11 +14,19 @@ pub fn board_pins(pins: u8) -> bool {
     [24, 28, 32, 40].contains(&pins)
 }
 
-fn pin(pin: Pin) -> bool {
+/// The last GPIO that a pin of a board with this package can be wired to.
+pub fn last_gpio(package: Package) -> u8 {
+    match package {
+        Package::A => 29,
+        Package::B => LAST_GPIO,
+    }
+}
+
+fn pin(pin: Pin, last: u8) -> bool {
     match pin {
         [NONE, NONE] => true,
-        [one, NONE] => one <= LAST_GPIO,
-        [one, two] => one <= LAST_GPIO && two <= LAST_GPIO && one != two,
+        [one, NONE] => one <= last,
+        [one, two] => one <= last && two <= last && one != two,
     }
 }
 
@@ -65,9 +73,11 @@ pub fn description(slot: &Description) -> bool {
         && (-4..=4).contains(&slot.offset)
         && (256..=1 << 20).contains(&slot.largest_table)
         && (1..=4).contains(&slot.chips.len());
+    let last = last_gpio(slot.package);
+    let mut pins = slot.socket.iter().chain(&slot.x);
     numbers
         && settings(&slot.settings)
-        && slot.socket.iter().chain(&slot.x).all(|&one| pin(one))
+        && pins.all(|&one| pin(one, last))
         && slot.chips.iter().all(|one| chip(one, slot.word_bytes))
         && slot.multi.as_ref().is_none_or(multi)
         && (slot.set_type != MULTI || slot.multi.is_some())
@@ -179,8 +189,9 @@ pub fn select_layout(layout: &SelectLayout) -> bool {
         && lines(&layout.commoned)
 }
 
+/// A stored slot names no package: its X pins can be on any GPIO.
 pub fn slot(slot: &Slot) -> bool {
-    let x = slot.x.iter().all(|&one| pin(one));
+    let x = slot.x.iter().all(|&one| pin(one, LAST_GPIO));
     x && slot.overrides.len() <= 64
         && slot.roms.len() <= 4
         && slot.roms.iter().all(|rom| rom.size <= LARGEST_CHIP)

@@ -1,6 +1,6 @@
 //! Places that the page keeps at 0 hold nothing else: the library refuses every other byte there.
 
-use onerom::description::{Candidates, Chip, Description, Kind, SetType, Settings};
+use onerom::description::{Candidates, Chip, Description, Kind, Package, SetType, Settings};
 use onerom::images::joined;
 use onerom::{
     StoredSlot, build_rom_image_into, derive_addr_layout_into, derive_cs_data_layout_into,
@@ -47,6 +47,7 @@ fn sample() -> Description {
     }
     Description {
         board_pins: 24,
+        package: Package::B,
         set_type: SetType::Single,
         word_bytes: 1,
         pin_offset: 0,
@@ -121,6 +122,18 @@ fn of_a_stored_slot() {
     };
     let call = |slot: &[u8]| unscramble_slot_into(slot, &[7], &mut [0], &mut []);
     are_refused(&plugin.to_bytes(), &places, call);
+}
+
+#[test]
+fn packages_have_no_other_number() {
+    let mut record = sample().to_bytes();
+    assert_eq!(record[1], Package::B as u8);
+    for number in 0..=255 {
+        record[1] = number;
+        let told = derive_addr_layout_into(&record, &mut [0; 36]);
+        let wanted = if number <= 1 { 0 } else { OUT_OF_DOMAIN };
+        assert_eq!(told, wanted, "{number}");
+    }
 }
 
 #[test]
