@@ -15,7 +15,7 @@ use Rattle.refusal.specs.declared.Refusal.{Refusal}
 use Rattle.refusal.specs.declared.Refusal.the-variants.{OutOfDomain}
 use Rattle.refusal.specs.declared.Answer.{Answer}
 use Rattle.refusal.specs.declared.Answer.the-variants.{Done, Refused}
-use Rattle.description_record.specs.Record.{recordSize, boardAt, csConfigAt, multiAt, chipAt, described, headIn, csConfigIn, pairsIn, chipPlacesIn, wellFormed}
+use Rattle.description_record.specs.Record.{recordSize, boardAt, csConfigAt, multiAt, chipAt, described, headIn, csConfigIn, pairsIn, chipPlacesIn, wellFormed, decodedOf}
 use Rattle.addr_layout.specs.declared.layout.AddrAnswer.{AddrAnswer}
 use Rattle.addr_record.specs.AddrRecord.{layoutAt, layoutFormed, givenAt, givenFormed}
 use Rattle.cs_data_layout.specs.declared.layout.CsDataAnswer.{CsDataAnswer}
@@ -23,11 +23,11 @@ use Rattle.cs_data_record.specs.CsDataRecord.{csDataAt}
 use Rattle.image_record.specs.ImageRecord.{spansAt, spansFormed}
 use Rattle.round_trip.specs.Chain.{stopped}
 use Rattle.calls.specs.Packed.{packed}
-use Rattle.calls.specs.Calls.{ifDescribed, callRefused, addrFound, addrCall, csDataFound, csDataCall, buildFormed, buildRefused, buildCall}
+use Rattle.calls.specs.Calls.{ifDescribed, ifRecord, callRefused, addrFound, addrCall, csDataFound, csDataCall, buildFormed, buildRefused, buildCall}
 use Rattle.onerom.specs.Trip.{tripCall}
 use Rattle.onerom.specs.Wired.{wiredCall}
 use Rattle.package_law.specs.Law.{on, CandidateOn, PackageLaw}
-use Rattle.package_law.specs.Calls.{boardOf, PlaceLaw, calledBy, PlaceLaws}
+use Rattle.package_law.specs.Calls.{boardOf, PlaceLaw, formedBefore, calledBefore, PlaceLaws}
 use Rattle.package_law.proofs.Law.{package-laws}
 
 -- what is made of an answer keeps the law
@@ -63,6 +63,10 @@ module _ (pins : ℕ) (rest : List ℕ) where
   board-a : boardOf (pins ∷ 1 ∷ rest) ≡ boardOf (pins ∷ 0 ∷ rest)
   board-a = ap (λ (d : Description). d .board) described-a
 
+  formed-b : wellFormed (pins ∷ 0 ∷ rest) ≡ formedBefore (pins ∷ 0 ∷ rest)
+  unfolding wellFormed headIn
+  formed-b = refl
+
   formed-a : wellFormed (pins ∷ 1 ∷ rest) ≡ wellFormed (pins ∷ 0 ∷ rest)
   unfolding wellFormed headIn csConfigIn each
   formed-a = refl
@@ -80,15 +84,19 @@ module _ (pins : ℕ) (rest : List ℕ) where
 abbrev answerOf : Bool → Answer
 answerOf formed = cond formed Done (Refused OutOfDomain)
 
+-- what a call makes of bytes, by what it answers to a description
+abbrev calledBy : {R : Type 0} → Bool → (Description → R) → (Refusal → R) → List ℕ → R
+calledBy formed now refuse description = cond formed (ifRecord now refuse (decodedOf description)) (refuse OutOfDomain)
+
 module _ {R : Type 0} (formed : Bool) (now before : Description → R) (refuse : Refusal → R) (law : PackageLaw now before (refuse OutOfDomain)) where
   abbrev by : Answer → Description → R
   by x d = ifDescribed now refuse x d
 
   -- the board keeps to its package, or it does not
 
-  b-same : (x : Answer) (d : Description) → ifDescribed now refuse x (on B d) ≡ ifDescribed before refuse x d
-  b-same Done d = law .on-b d
-  b-same (Refused why) d = refl
+  b-same : (t : Bool) (d : Description) → by (answerOf t) (on B d) ≡ cond t (before d) (refuse OutOfDomain)
+  b-same true d = law .on-b d
+  b-same false d = refl
 
   a-same : (x : Answer) (d : Description) → ((g : ℕ) → CandidateOn (d .board) g → g ≤ 29) → by x (on A d) ≡ by x (on B d)
   a-same Done d h = law .on-a d h
@@ -98,10 +106,11 @@ module _ {R : Type 0} (formed : Bool) (now before : Description → R) (refuse :
   a-above true d g e l = law .above d g e l
   a-above false d g e l = refl
 
-  zero-b : (pins : ℕ) (rest : List ℕ) → calledBy formed now refuse (pins ∷ 0 ∷ rest) ≡ calledBy formed before refuse (pins ∷ 0 ∷ rest)
-  unfolding described
+  zero-b : (pins : ℕ) (rest : List ℕ) → calledBy formed now refuse (pins ∷ 0 ∷ rest) ≡ calledBefore formed before refuse (pins ∷ 0 ∷ rest)
   zero-b pins rest =
-      ap (λ (x : R). cond formed x (refuse OutOfDomain)) (b-same (answerOf (wellFormed (pins ∷ 0 ∷ rest))) (described (pins ∷ 0 ∷ rest)))
+      let d = described (pins ∷ 0 ∷ rest) in
+      ap (λ (x : R). cond formed x (refuse OutOfDomain))
+      (rw (formed-b pins rest) (ap (by (answerOf (formedBefore (pins ∷ 0 ∷ rest)))) (described-b pins rest) ∙ b-same (formedBefore (pins ∷ 0 ∷ rest)) d))
 
   one-a : (pins : ℕ) (rest : List ℕ) → ((g : ℕ) → CandidateOn (boardOf (pins ∷ 1 ∷ rest)) g → g ≤ 29)
       → calledBy formed now refuse (pins ∷ 1 ∷ rest) ≡ calledBy formed now refuse (pins ∷ 0 ∷ rest)
@@ -123,7 +132,7 @@ module _ {R : Type 0} (formed : Bool) (now before : Description → R) (refuse :
   neither : (pins x : ℕ) (rest : List ℕ) → 1 < x → calledBy formed now refuse (pins ∷ x ∷ rest) ≡ refuse OutOfDomain
   neither pins x rest l = either formed _ _ (rw (not-formed pins rest x l))
 
-  place-law : PlaceLaw (calledBy formed now refuse) (calledBy formed before refuse) (refuse OutOfDomain)
+  place-law : PlaceLaw (calledBy formed now refuse) (calledBefore formed before refuse) (refuse OutOfDomain)
   place-law = record { zero-b = zero-b; one-a = one-a; above = above; neither = neither }
 
 pub place-laws : PlaceLaws

@@ -57,7 +57,7 @@ pub record CandidatesLaw (b : Board) (last : ℕ) : Type 0 where
   pub none-is : noCandidateAbove last b ≡ true → (g : ℕ) → CandidateOn b g → g ≤ last
   pub none-if : ((g : ℕ) → CandidateOn b g → g ≤ last) → noCandidateAbove last b ≡ true
 
--- of what a call answers now, what it answered before, and its answer of refusal 1, each lent buffer in them
+-- of a call: what it answers now, what it answered before, and its refusal 1, each lent buffer being part of an answer
 pub record PackageLaw {R : Type 0} (now before : Description → R) (refused : R) : Type 0 where
   -- 02 Slip 3 5: on B the answer is what it was of the same description without a package
   pub on-b : (d : Description) → now (on B d) ≡ before d
@@ -79,8 +79,7 @@ pub record PackageLaws : Type 0 where
       (stopped OutOfDomain table output marks)
   pub wiring : (layout : List ℕ) → PackageLaw (λ d. wiredFrom d layout) (λ d. wiredAs d layout) (packed OutOfDomain)
 
--- of two calls that keep the law beside the same earlier answers, both answer the same to every description, so that a law which said less
--- would not do
+-- two calls that keep the law by the same earlier answers answer the same to every description, so that a law which said less would not do
 abbrev pub OneAnswer : Type 1
 OneAnswer =
     (R : Type 0) (now other before : Description → R) (refused : R) → PackageLaw now before refused → PackageLaw other before refused
