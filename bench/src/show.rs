@@ -59,11 +59,12 @@ pub fn addr_table(layout: &AddrLayout) -> String {
     roles.table("table bit", |gpio| layout.table_bit(gpio))
 }
 
-/// The address layout in a line, and an empty line to go before its table: base, pins, and the
-/// table's size, with the description's limit if that is passed.
+/// The address layout in a line, and an empty line to go before its table: the package, which no
+/// drawing names where the select search refuses, base, pins, and the table's size, with the
+/// description's limit if that is passed.
 pub fn addr_summary(slot: &Description, layout: &AddrLayout) -> String {
-    let (base, pins) = (layout.base, layout.pins);
-    let mut text = format!("base GPIO {base}, {pins} pins, ");
+    let (package, base, pins) = (slot.package, layout.base, layout.pins);
+    let mut text = format!("{package}, base GPIO {base}, {pins} pins, ");
     match layout.table_bytes(slot.word_bytes) {
         Some(bytes) => {
             let _ = write!(text, "table of {} bytes", bytes);

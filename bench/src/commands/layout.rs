@@ -24,12 +24,11 @@ pub const LAYOUT: Command = Command {
     words: "[--part] FILE [SLOT]",
     summary: "Lays out the slot that a file describes, and draws its socket",
     help: "\
-Reads FILE, a description. Writes the GPIOs of the address lines, those of the
-data and select lines and a drawing of the socket, headed by its pins and the
-RP2350's package, to the standard output; to SLOT, if it is given, the slot that
-stores the table, for `read-back`. SLOT is written when both layouts are found,
-whole or not at all, and may replace a file that is there, but none that is
-read.
+Reads FILE, a description. Writes the RP2350's package, the GPIOs of the address
+lines, those of the data and select lines and a drawing of the socket to the
+standard output; to SLOT, if it is given, the slot that stores the table, for
+`read-back`. SLOT is written when both layouts are found, whole or not at all,
+and may replace a file that is there, but none that is read.
 
 Where the slot is not well wired it says why: what is built may not read back.
 Where the address lines in use do not reach all words of a chip, and no excess

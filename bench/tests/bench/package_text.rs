@@ -184,11 +184,11 @@ fn a_board_has_a_letter_and_a_chip_a_number() {
 }
 
 #[test]
-fn the_drawing_names_the_package() {
+fn the_layout_and_the_drawing_name_the_package() {
     let folder = Folder::new("layout", "package");
     folder.write("a.txt", SAMPLE_A.as_bytes());
     let said = folder.done(&["a.txt", "stored.txt"]);
-    let head = "base GPIO 3, 13 pins, table of 8192 bytes\n";
+    let head = "RP2350A, base GPIO 3, 13 pins, table of 8192 bytes\n";
     assert!(said.starts_with(head), "{said}");
     let socket = "\nsocket of 28 pins from above, RP2350A\n\nrole    GPIO  ";
     assert!(said.contains(socket), "{said}");

@@ -55,7 +55,7 @@ fn the_sample() {
         (Some(0), String::new())
     );
     let told = text(&told.stdout);
-    assert!(told.starts_with("base GPIO 9, 13 pins, table of 8192 bytes\n"));
+    assert!(told.starts_with("RP2350B, base GPIO 9, 13 pins, table of 8192 bytes\n"));
     assert!(told.contains("\n   9  A10           0\n"));
     assert!(told.contains("\n  21  A0           12\n"));
     let select = "\n\nselect and data: base GPIO 0, 8 data lines from base pin 0, \
@@ -124,9 +124,9 @@ fn x_pins_gaps_and_excess_lines() {
         .collect();
     let told = on_file("banked.txt", &(slot.to_string() + &pins));
     let told = text(&told.stdout);
-    assert!(
-        told.starts_with("base GPIO 10, 11 pins, table of 2048 bytes, past the limit of 256\n")
-    );
+    assert!(told.starts_with(
+        "RP2350B, base GPIO 10, 11 pins, table of 2048 bytes, past the limit of 256\n"
+    ));
     assert!(told.contains("\n  18  A8, excess line          8\n"));
     assert!(told.contains("\n  19  no address line          9\n"));
     assert!(told.contains("\n  20  X1                      10\n"));
@@ -150,7 +150,7 @@ fn a_refusal_of_the_select_search() {
     let told = on_file("unselected.txt", slot);
     assert_eq!(told.status.code(), Some(1));
     // The address layout is of use without the other.
-    assert!(text(&told.stdout).starts_with("base GPIO 5, 8 pins, table of 256 bytes\n"));
+    assert!(text(&told.stdout).starts_with("RP2350B, base GPIO 5, 8 pins, table of 256 bytes\n"));
     let wanted = "select search refused: 3 UnmappedPin, place 2 (chip pin 2): \
         a needed pin is off the socket or has no GPIO\n";
     assert_eq!(text(&told.stderr), wanted);
