@@ -35,8 +35,6 @@ use Rattle.package_law.specs.Before.{addrInBefore, addrBefore}
 use Rattle.package_law.specs.Law.{on}
 
 module _ (p : Package) (d : Description) where
-  -- the address search
-
   at-same : (n : ℕ) (s : Socket) → atSocket (on p d) n s ≡ atSocket d n s
   unfolding lineSocket
   at-same n (On s) = refl

@@ -2,7 +2,8 @@
 use mathlib.Core.Path.{_≡_, refl, sym, ap, subst, _∙_}
 use mathlib.Core.Bool.{Bool, true, false, _&&_, cond}
 use mathlib.Core.List.{List, _∷_}
-use Prim.Native.Nat.{ℕ, _≤_, _<_}
+use Prim.Native.Nat.{ℕ, zero, suc, _≤_, _<_}
+use native.Mathlib.Omega.{arith}
 use lib.Dec.{eqb}
 use lib.ListN.{length}
 use borrow.Author.Tests.{lt-leb}
@@ -27,7 +28,8 @@ use Rattle.calls.specs.Calls.{ifDescribed, ifRecord, callRefused, addrFound, ad
 use Rattle.onerom.specs.Trip.{tripCall}
 use Rattle.onerom.specs.Wired.{wiredCall}
 use Rattle.package_law.specs.Law.{on, CandidateOn, PackageLaw}
-use Rattle.package_law.specs.Calls.{boardOf, PlaceLaw, formedBefore, calledBefore, PlaceLaws}
+use Rattle.package_law.specs.Calls.{boardOf, PlaceLaw, formedBefore, calledBefore, PlaceLaws, OneCall}
+use Rattle.package_law.proofs.Candidates.{either-way}
 use Rattle.package_law.proofs.Law.{package-laws}
 
 -- what is made of an answer keeps the law
@@ -133,7 +135,7 @@ module _ {R : Type 0} (formed : Bool) (now before : Description → R) (refuse :
   neither pins x rest l = either formed _ _ (rw (not-formed pins rest x l))
 
   place-law : PlaceLaw (calledBy formed now refuse) (calledBefore formed before refuse) (refuse OutOfDomain)
-  place-law = record { zero-b = zero-b; one-a = one-a; above = above; neither = neither }
+  place-law = record { zero-b = zero-b; one-a = one-a; above = above; neither = λ pins x rest l. neither pins x rest (omega arith) }
 
 pub place-laws : PlaceLaws
 unfolding addrCall csDataCall buildCall tripCall wiredCall
@@ -150,3 +152,19 @@ place-laws = record {
       place-law (spansFormed spans) _ _ (λ why. stopped why table output marks) (package-laws .trip images (spansAt spans) table output marks);
   wiring = λ layout. place-law (layoutFormed layout) _ _ (λ why. packed why) (package-laws .wiring layout);
 }
+
+module _ {R : Type 0} (call other before : List ℕ → R) (refused : R) (law : PlaceLaw call before refused) (also : PlaceLaw other before refused)
+    (pins : ℕ) (rest : List ℕ) where
+  as-b : call (pins ∷ 0 ∷ rest) ≡ other (pins ∷ 0 ∷ rest)
+  as-b = law .zero-b pins rest ∙ sym (also .zero-b pins rest)
+
+  at-place : (x : ℕ) → call (pins ∷ x ∷ rest) ≡ other (pins ∷ x ∷ rest)
+  at-place zero = as-b
+  at-place (suc zero) =
+      either-way (boardOf (pins ∷ 1 ∷ rest)) 29 (λ h. law .one-a pins rest h ∙ as-b ∙ sym (also .one-a pins rest h))
+      (λ g e l. law .above pins rest g e l ∙ sym (also .above pins rest g e l))
+  at-place (suc (suc x)) =
+      law .neither pins (suc (suc x)) rest (omega arith) ∙ sym (also .neither pins (suc (suc x)) rest (omega arith))
+
+pub one-call : OneCall
+one-call R call other before refused law also pins x rest = at-place call other before refused law also pins rest x

@@ -77,7 +77,7 @@ module _ (b : Board) (last : ℕ) where
   none-is h g (x2 e) = pin-is last (b .x2) (and-right (places && noneAbove last (b .x1)) _ h) g e
 
   -- where the test fails a candidate is above
-  pub some-above : noCandidateAbove last b ≡ false → (g : ℕ) × CandidateOn b g × (last < g)
+  some-above : noCandidateAbove last b ≡ false → (g : ℕ) × CandidateOn b g × (last < g)
   unfolding noCandidateAbove
   some-above h = of-three places (noneAbove last (b .x1)) (noneAbove last (b .x2)) refl refl refl h where
     of-three : (s t u : Bool) → places ≡ s → noneAbove last (b .x1) ≡ t → noneAbove last (b .x2) ≡ u → s && t && u ≡ false → (g : ℕ) × CandidateOn b g × (last < g)
@@ -88,6 +88,13 @@ module _ (b : Board) (last : ℕ) where
     of-three true false u p q r e = let (g, c, m) = pin-above last (b .x1) q in (g, x1 c, m)
     of-three true true false p q r e = let (g, c, m) = pin-above last (b .x2) r in (g, x2 c, m)
     of-three true true true p q r e = absurd (zero-one cc)
+
+  -- no candidate is above, or one is
+  pub either-way : {P : Type 0} → (((g : ℕ) → CandidateOn b g → g ≤ last) → P) → ((g : ℕ) → CandidateOn b g → last < g → P) → P
+  either-way {P} none some = by (noCandidateAbove last b) refl where
+    by : (t : Bool) → noCandidateAbove last b ≡ t → P
+    by true q = none (none-is q)
+    by false q = let (g, e, l) = some-above q in some g e l
 
   pub candidates-law : CandidatesLaw b last
   candidates-law = record { none-is = none-is; none-if = none-if }

@@ -10,7 +10,7 @@ use Rattle.slot.specs.declared.description.Description.{Description}
 use Rattle.domain.specs.Domain.{noCandidateAbove, packageIn}
 use Rattle.build_args.specs.Args.{argsOf}
 use Rattle.package_law.specs.Law.{on, CandidateOn, PackageLaw, PackageLaws, OneAnswer}
-use Rattle.package_law.proofs.Candidates.{candidates-law, some-above}
+use Rattle.package_law.proofs.Candidates.{candidates-law, either-way}
 use Rattle.package_law.proofs.AddrSame.{addr-same}
 use Rattle.package_law.proofs.SelectSame.{cs-data-same}
 use Rattle.package_law.proofs.BuildSame.{build-same, trip-same, wired-same}
@@ -56,12 +56,9 @@ module _ {R : Type 0} (now other before : Description → R) (refused : R) (law 
   as-b : (d : Description) → now (on B d) ≡ other (on B d)
   as-b d = law .on-b d ∙ sym (also .on-b d)
 
-  as-a : (d : Description) (t : Bool) → noCandidateAbove 29 (d .board) ≡ t → now (on A d) ≡ other (on A d)
-  as-a d true q = let h = candidates-law (d .board) 29 .none-is q in law .on-a d h ∙ as-b d ∙ sym (also .on-a d h)
-  as-a d false q = let (g, e, l) = some-above (d .board) 29 q in law .above d g e l ∙ sym (also .above d g e l)
-
   on-either : (p : Package) (d : Description) → now (on p d) ≡ other (on p d)
-  on-either A d = as-a d (noCandidateAbove 29 (d .board)) refl
+  on-either A d =
+      either-way (d .board) 29 (λ h. law .on-a d h ∙ as-b d ∙ sym (also .on-a d h)) (λ g e l. law .above d g e l ∙ sym (also .above d g e l))
   on-either B d = as-b d
 
 pub one-answer : OneAnswer

@@ -75,3 +75,10 @@ pub record PlaceLaws : Type 0 where
       (stopped OutOfDomain table output marks)
   pub wiring : (layout : List ℕ)
       → PlaceLaw (λ b. wiredCall b layout) (calledBefore (layoutFormed layout) (λ d. wiredAs d layout) (λ why. packed why)) (packed OutOfDomain)
+
+-- two calls that keep the law by the same earlier answers answer the same to every record, whatever its place 1, so that a law which said
+-- less would not do
+abbrev pub OneCall : Type 1
+OneCall =
+    (R : Type 0) (call other before : List ℕ → R) (refused : R) → PlaceLaw call before refused → PlaceLaw other before refused
+    → (pins x : ℕ) (rest : List ℕ) → call (pins ∷ x ∷ rest) ≡ other (pins ∷ x ∷ rest)
