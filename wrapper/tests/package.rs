@@ -1,10 +1,13 @@
 //! The package of a description: its place in the record, and what each function says of a GPIO that
 //! the package has not.
 
-use onerom::description::{Candidates, Chip, Description, Kind, Package, SetType, Settings};
+mod slot;
+
+use onerom::description::{Candidates, Chip, Description, Kind, Package};
 use onerom::{
     Refusal, build_rom_image, derive_addr_layout, derive_cs_data_layout, round_trip, well_wired,
 };
+use slot::single;
 
 /// A chip of 8 bytes: its address lines on GPIOs 27 to 29, the last of package A, data on 16 to 23,
 /// ce on 24.
@@ -13,24 +16,15 @@ fn sample(package: Package) -> Description {
     for (pin, gpio) in (1..).zip((27..30).chain(16..25)) {
         socket[pin - 1] = Candidates::One(gpio);
     }
+    let chip = Chip {
+        size: 8,
+        address_pins: (1..=3).collect(),
+        data_pins: (4..=11).collect(),
+        control: vec![(Kind::Ce, 12)],
+    };
     Description {
-        board_pins: 24,
         package,
-        set_type: SetType::Single,
-        word_bytes: 1,
-        pin_offset: 0,
-        largest_table: 256,
-        settings: Settings::CeOe,
-        multi: None,
-        qualifiers: vec![],
-        socket,
-        x: [Candidates::Absent; 2],
-        chips: vec![Chip {
-            size: 8,
-            address_pins: (1..=3).collect(),
-            data_pins: (4..=11).collect(),
-            control: vec![(Kind::Ce, 12)],
-        }],
+        ..single(socket, chip)
     }
 }
 

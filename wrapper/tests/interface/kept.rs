@@ -1,6 +1,6 @@
 //! Places that the page keeps at 0 hold nothing else: the library refuses every other byte there.
 
-use onerom::description::{Candidates, Chip, Description, Kind, Package, SetType, Settings};
+use onerom::description::{Candidates, Chip, Description, Kind, Package, SetType};
 use onerom::images::joined;
 use onerom::{
     StoredSlot, build_rom_image_into, derive_addr_layout_into, derive_cs_data_layout_into,
@@ -8,6 +8,7 @@ use onerom::{
 };
 
 use super::page::Page;
+use super::slot::single;
 
 const OUT_OF_DOMAIN: u64 = 1 << 48;
 
@@ -45,25 +46,13 @@ fn sample() -> Description {
     for (pin, gpio) in (1..=16).zip((0..8).chain(16..24)).chain([(20, 8)]) {
         socket[pin - 1] = Candidates::One(gpio);
     }
-    Description {
-        board_pins: 24,
-        package: Package::B,
-        set_type: SetType::Single,
-        word_bytes: 1,
-        pin_offset: 0,
-        largest_table: 256,
-        settings: Settings::CeOe,
-        multi: None,
-        qualifiers: vec![],
-        socket,
-        x: [Candidates::Absent; 2],
-        chips: vec![Chip {
-            size: 256,
-            address_pins: (1..=8).collect(),
-            data_pins: (9..=16).collect(),
-            control: vec![(Kind::Ce, 20)],
-        }],
-    }
+    let chip = Chip {
+        size: 256,
+        address_pins: (1..=8).collect(),
+        data_pins: (9..=16).collect(),
+        control: vec![(Kind::Ce, 20)],
+    };
+    single(socket, chip)
 }
 
 fn addr_layout() -> [u8; 36] {

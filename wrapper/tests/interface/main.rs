@@ -7,6 +7,8 @@ mod kept;
 mod markdown;
 mod page;
 mod rust;
+#[path = "../slot/mod.rs"]
+mod slot;
 mod words;
 
 use std::fs;
