@@ -34,7 +34,7 @@ fn commoned_line(c: CsDataLayout, k: usize) -> SelectLine
 }
 
 // A commoned line, or a select line; all 0 past the last.
-fn line_of(c: CsDataLayout, commoned: bool, k: usize) -> SelectLine
+pub fn line_of(c: CsDataLayout, commoned: bool, k: usize) -> SelectLine
     ensures { λ r. ⌜ r ≡ selectLineOf c commoned k ⌝ }
 {
     if commoned {
@@ -76,7 +76,7 @@ fn qualifier_pin_in(q: Qualifiers) -> bool
 }
 
 // Whether a select layout keeps to the domain.
-fn cs_data_in(c: CsDataLayout) -> bool
+pub fn cs_data_in(c: CsDataLayout) -> bool
     ensures { λ r. ⌜ r ≡ csDataIn c ⌝ }
 {
     let gpios = c.data_pin_gpios;

@@ -11,7 +11,7 @@ use lib.Dec.{ltb}
 use lib.ListN.{length, take, getD, set, replicate, length-set, length-append, length-replicate, List·getD-append}
 use lib.Seq.{take-suc-set, take-all, take-suc, getD-at, getD-take, getD-set-other}
 use borrow.Author.Tests.{ltb-true, ltb-false}
-use Rattle.lists.specs.Tab.{tab}
+use Rattle.lists.specs.Tab.{tab, joined}
 
 -- the loop's invariant: the first k of n entries are in place
 pub record Filled {A : Type 0} (n : ℕ) (f : ℕ → A) (out : List A) (k : ℕ) : Type 0 where
@@ -70,6 +70,12 @@ pub tab-cong : {A : Type 0} (f g : ℕ → A) (n : ℕ) → ((k : ℕ) → k < n
 unfolding tab
 tab-cong f g zero h = refl
 tab-cong f g (suc n) h = rw (tab-cong f g n (λ k l. h k (omega arith)), h n (omega arith))
+
+-- the same of lists one after the other
+pub joined-cong : {A : Type 0} (n : ℕ) (f g : ℕ → List A) → ((k : ℕ) → k < n → f k ≡ g k) → joined n f ≡ joined n g
+unfolding joined
+joined-cong zero f g h = refl
+joined-cong (suc n) f g h = rw (joined-cong n f g (λ k l. h k (omega arith)), h n (omega arith))
 
 -- an entry of a list that begins with a filling
 pub getD-begins : {A : Type 0} (f : ℕ → A) (l : List A) (n k : ℕ) (z : A) → take n l ≡ tab n f → k < n → getD l k z ≡ f k

@@ -1,5 +1,6 @@
 // The C interface: calls on numbers and byte slices. docs/INTERFACE.md has the records byte by byte and each call's answers;
 // include/onerom.h declares the calls for C.
+mod page; // the pin page
 mod trip; // the round trip's answer, handed over
 mod wiring; // the wiring's test
 
@@ -23,7 +24,8 @@ use table_calls::read_back;
 ghost use mathlib.Core.Path.{_≡_};
 ghost use Rattle.calls.specs.Calls.{addrCall, csDataCall, buildCall, readBackCall};
 ghost use Rattle.calls.specs.Calls.{returned, readReturned, searchResult, buildResult, readResult};
-ghost use Rattle.calls.specs.Hex.{readHexCall, writeHexCall};
+ghost use Rattle.calls.specs.Hex.{readHexCall, writeHexCall, hexWriteResult};
+ghost use Rattle.calls.specs.Page.{pageCall};
 ghost use Rattle.hex_read.specs.Read.{faultLine};
 ghost use Rattle.onerom.specs.Trip.{tripCall, tripReturned, tripResult, CallDemanded};
 ghost use Rattle.onerom.specs.Wired.{wiredCall};
@@ -180,4 +182,20 @@ pub extern "C" fn onerom_hex_fault_line(text: &[u8], chip_size: u64) -> u64
     ensures { λ r. ⌜ r ≡ faultLine (now (text .entry)) «chip_size» ⌝ }
 {
     fault_line(text, chip_size as usize) as u64
+}
+
+// Writes the pin page of the layouts that the records give: the role of each GPIO, a row each. Returns its length.
+#[no_mangle]
+pub extern "C" fn onerom_write_page(
+    addr_layout: &[u8],
+    cs_data_layout: &[u8],
+    page: &mut [u8],
+) -> u64
+    ensures { λ r. ⌜ returned r (now (page .exit))
+        ≡ hexWriteResult (pageCall (now («addr_layout» .entry)) (now («cs_data_layout» .entry)) (now (page .entry))) ⌝ }
+{
+    if !page::formed(addr_layout, cs_data_layout) {
+        return packed(Refusal::OutOfDomain);
+    }
+    page::hand_over(addr_layout, cs_data_layout, page)
 }

@@ -2,11 +2,12 @@
 use mathlib.Core.Path.{_≡_, refl, sym, _∙_, ap}
 use mathlib.Core.Bool.{Bool, true, false, not, _&&_}
 use mathlib.Core.List.{List}
-use Prim.Native.Nat.{ℕ, zero, suc, _^_, _<_}
+use Prim.Native.Nat.{ℕ, _^_, _<_}
 use native.Mathlib.Omega.{arith}
 use lib.ListN.{getD}
 use borrow.Author.Tests.{eq-eqb, ne-eqb}
 use Rattle.lists.specs.Tab.{joined}
+use Rattle.lists.proofs.Tab.{joined-cong}
 use Rattle.words.specs.Words.{word, wordsBytes}
 use Rattle.words.proofs.Words.{words-cong}
 use Rattle.slot.specs.declared.description.Description.{Description}
@@ -40,11 +41,6 @@ use Rattle.round_trip.proofs.Values.{value-is, index, index-lt, index-p
 never : (b c : Bool) (why : Refusal) → (b ≡ true → c ≡ true) → faultIf (b && not c) why ≡ None
 never true c why h = rw (h refl)
 never false c why h = refl
-
-pub joined-cong : (n : ℕ) (f g : ℕ → List ℕ) → ((k : ℕ) → k < n → f k ≡ g k) → joined n f ≡ joined n g
-unfolding joined
-joined-cong zero f g h = refl
-joined-cong (suc n) f g h = rw (joined-cong n f g (λ k l. h k (omega arith)), h n (omega arith))
 
 module _ (d : Description) (a : AddrLayout) (c : CsDataLayout) (images : List ℕ) (spans : List ImageSpan) (s : StoredSlot)
     (f : Fitted d a c s) (t : ToldApart d a c) (fit : chipsFit (d .«set_type») (d .«num_chips») ≡ true)

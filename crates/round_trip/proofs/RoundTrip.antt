@@ -12,6 +12,7 @@ use borrow.Author.Tests.{le-leb, eq-eqb, ltb-true, ltb-false}
 use Rattle.gpio.specs.Candidates.{candidatesIn}
 use Rattle.lists.specs.Each.{each}
 use Rattle.lists.specs.Tab.{joined}
+use Rattle.lists.proofs.Tab.{joined-cong}
 use Rattle.lists.proofs.Each.{each-all}
 use Rattle.lists.proofs.Loops.{zero-one}
 use Rattle.gpio.proofs.Fits.{fits-within}
@@ -59,7 +60,7 @@ use Rattle.round_trip.proofs.Told.{told-apart, select-at}
 use Rattle.round_trip.proofs.Given.{fitted}
 use Rattle.round_trip.proofs.Accepted.{both-none, Small, none-refused}
 use Rattle.round_trip.proofs.Bytes.{words-take}
-use Rattle.round_trip.proofs.Read.{joined-cong, consistent, all-served, recovered-words}
+use Rattle.round_trip.proofs.Read.{consistent, all-served, recovered-words}
 
 -- a build that accepts is past its tests
 done : Answer → ℕ
