@@ -23,8 +23,9 @@ extern "C" {
 /* A call returns one number of 64 bits: 0 if it succeeded, else the refusal's number times 2^48 plus its place. So
    the number is the result shifted right by 48, and the place its low 48 bits (onerom_number and onerom_place in
    C, Refusal in Rust; onerom_refusal_name gives a number's name in C). A refusal that names no place has place 0.
-   Three calls answer in the low 48 bits beside number 0, which is no refusal's: onerom_well_wired has 1 where the
-   answer is no, onerom_write_hex the length of the text, onerom_hex_fault_line a line. */
+   Four calls answer in the low 48 bits beside number 0, which is no refusal's: onerom_well_wired has 1 where the
+   answer is no, onerom_write_page the length of the page, onerom_write_hex the length of the text,
+   onerom_hex_fault_line a line. */
 enum {
     /* A record of another length, or a number that no board or chip can have. */
     ONEROM_OUT_OF_DOMAIN = 1,
@@ -452,6 +453,29 @@ enum {
     ONEROM_CS_DATA_LAYOUT_COMMONED = 88,
 };
 
+/* The pin page, place by place. A text of 48 rows, which says what each GPIO serves. It is written, and never handed
+   in. */
+enum {
+    /* Bytes of the record. */
+    ONEROM_PIN_PAGE_RECORD_SIZE = 432,
+    /* 432 bytes: rows of GPIOs 0 to 47, 9 bytes a row. Values: a row each. */
+    ONEROM_PIN_PAGE_ROWS = 0,
+};
+
+/* The row of a pin page, place by place. A GPIO of a pin page, at place 9 * g for GPIO g, in ASCII. */
+enum {
+    /* Bytes of the record. */
+    ONEROM_PIN_PAGE_ROW_RECORD_SIZE = 9,
+    /* 2 bytes: the GPIO in two decimal digits. Values: 00 to 47. */
+    ONEROM_PIN_PAGE_ROW_GPIO = 0,
+    /* A space. Values: 32. */
+    ONEROM_PIN_PAGE_ROW_GAP = 2,
+    /* 5 bytes: its role, and spaces behind it. Values: A0 to A23, D0 to D15, X1, X2, CE, OE, CS1 to CS4, HALF, or -. */
+    ONEROM_PIN_PAGE_ROW_ROLE = 3,
+    /* A line feed. Values: 10. */
+    ONEROM_PIN_PAGE_ROW_END = 8,
+};
+
 /* The image spans record, place by place. Where in the bytes that are lent for all chips each chip's stand: chips 0
    to 3, an image span each. Another length is refusal 1. */
 enum {
@@ -731,6 +755,39 @@ uint64_t onerom_round_trip(const uint8_t *description, size_t description_len, c
  */
 uint64_t onerom_well_wired(const uint8_t *description, size_t description_len, const uint8_t *addr_layout,
                            size_t addr_layout_len);
+
+/*
+ * Writes the pin page of two layouts: for each GPIO, used or not, the role that it has there.
+ *
+ * A0 to A23 is an address line in use, numbered by its place among them, so that in 16-bit mode A0 is the line at
+ * address pin 1. D0 to D15 is a data line, numbered in the same way. X1 and X2 are the address layout's GPIOs for
+ * them, and every select and commoned line with that role. CE, OE and CS1 to CS4 are select and commoned lines by
+ * their roles. HALF is an excess line of the address layout, and every select and commoned line with the role of
+ * one. A GPIO shows - exactly if it has none of these.
+ *
+ * A GPIO with several shows the first of address line, data line, X pin, select line, commoned line. HALF counts
+ * as a select line, whichever list has it. Of address and of data lines the lowest number is shown, X1 goes
+ * before X2, and of select and of commoned lines the first of CE, OE, CS1, CS2, CS3, CS4, HALF is shown: HALF and
+ * a select CS1 show CS1, HALF and a commoned CE show HALF.
+ *
+ *   addr_layout: read, address layout record
+ *   cs_data_layout: read, select layout record
+ *   page: lent, for the pin page, 432 bytes or more
+ *
+ * The number of the result; page as before the call where no more is said:
+ *
+ *   0, place length: the page is written, and the result is its length, 432. Afterwards its first 432 bytes are the
+ *       page, later ones as before.
+ *   ONEROM_OUT_OF_DOMAIN: bytes that are no record, or a layout that is outside the domain, such as one with GPIO
+ *       48, role 9 or no data line.
+ *   ONEROM_SHORT_BUFFER: both layouts are in the domain, and page has fewer than 432 bytes: lend more.
+ *
+ * 1 comes first. Both layouts have to be what a build takes, but there is no description here to hold qualifiers
+ * against. Layouts that no search found are shown too, with GPIOs up to 47 whatever the package. Lines past the
+ * counts count for nothing.
+ */
+uint64_t onerom_write_page(const uint8_t *addr_layout, size_t addr_layout_len, const uint8_t *cs_data_layout,
+                           size_t cs_data_layout_len, uint8_t *page, size_t page_len);
 
 /*
  * Reads a text of Intel HEX into a chip's bytes. The chip is the whole lent slice. A byte that no record names is

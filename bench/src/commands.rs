@@ -4,6 +4,7 @@ mod build;
 mod cases;
 mod hex;
 mod layout;
+mod page;
 mod pairings;
 mod read_back;
 mod sample;
@@ -50,6 +51,7 @@ const NO_MORE_FLAGS: &str = "--";
 /// In the order in which the help has them.
 const COMMANDS: &[&Command] = &[
     &layout::LAYOUT,
+    &page::PAGE,
     &build::BUILD,
     &read_back::READ_BACK,
     &verify::VERIFY,
@@ -60,6 +62,7 @@ const COMMANDS: &[&Command] = &[
     &cases::COMPARE,
     &cases::COMPARE_LARGE,
     &cases::COMPARE_HEX,
+    &cases::COMPARE_PAGE,
     &cases::REPLAY,
     &cases::SPEED,
     &cases::SPEED_HEX,

@@ -7,10 +7,13 @@ pub mod fenced;
 pub mod hex;
 mod hex_fenced;
 mod images;
+pub mod page;
+mod page_fenced;
 pub mod read_back;
 mod records;
 pub mod round_trip;
 pub mod searches;
+mod tried;
 
 use std::collections::BTreeMap;
 use std::fmt;

@@ -5,9 +5,10 @@ use std::io::{self, ErrorKind, Write};
 use std::os::fd::AsFd;
 use std::os::unix::fs::MetadataExt;
 use std::path::{Path, PathBuf};
-use std::process;
+use std::process::{self, ExitCode};
 
-use crate::ending::Fault;
+use crate::ending::{Done, Fault, complain, say};
+use crate::inputs::NO_FILE;
 
 /// A file and what is to stand in it.
 pub type Output<'a> = (&'a Path, &'a [u8]);
@@ -120,6 +121,19 @@ pub fn write_out(bytes: &[u8]) -> Result<(), Fault> {
     let mut out = io::stdout();
     let written = out.write_all(bytes).and_then(|()| out.flush());
     written.map_err(|why| Fault::File(format!("standard output: {why}")))
+}
+
+/// Writes a file whole and says what it has, or writes to the standard output, where nothing else
+/// may stand.
+pub fn written(file: &Path, bytes: &[u8], what: &str, open: &str) -> Done {
+    if file == Path::new(NO_FILE) {
+        complain(open);
+        write_out(bytes)?;
+    } else {
+        write_whole(&[(file, bytes)])?;
+        say(&format!("{}: {what}\n{open}", file.display()))?;
+    }
+    Ok(ExitCode::SUCCESS)
 }
 
 /// Tells a file that would be lost: one that is read cannot be written too.

@@ -6,7 +6,7 @@ use crate::interface::{
     addr_layout as layout_at, description as described, onerom_build_rom_image,
     onerom_derive_addr_layout, onerom_derive_cs_data_layout, onerom_hex_fault_line,
     onerom_read_hex, onerom_round_trip, onerom_unscramble_slot, onerom_well_wired,
-    onerom_write_hex,
+    onerom_write_hex, onerom_write_page,
 };
 use crate::layout::addr::{self, AddrLayout};
 use crate::layout::cs_data::{self, CsDataLayout};
@@ -222,6 +222,22 @@ pub fn well_wired(slot: &Description, addr: &AddrLayout) -> Result<bool, Refusal
 
 /// The result where the answer is no.
 const NOT_WELL_WIRED: u64 = 1;
+
+/// The pin page as the library writes it: the page at the front of the lent buffer, and its length as
+/// the result, or a refusal's number times 2^48 and the buffer as it was.
+pub fn write_page_into(addr_layout: &[u8], cs_data_layout: &[u8], page: &mut [u8]) -> u64 {
+    // SAFETY: as above.
+    unsafe {
+        onerom_write_page(
+            addr_layout.as_ptr(),
+            addr_layout.len(),
+            cs_data_layout.as_ptr(),
+            cs_data_layout.len(),
+            page.as_mut_ptr(),
+            page.len(),
+        )
+    }
+}
 
 /// The reading of Intel HEX as the library makes it: 0 and the chip's bytes in the lent buffer, which
 /// is the whole chip, or a refusal's number times 2^48 and the buffer as it was.

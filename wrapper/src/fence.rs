@@ -251,6 +251,11 @@ impl Lent {
         &lent[..length.min(lent.len())]
     }
 
+    /// Whether the lent bytes begin with these, and nothing else was written.
+    pub fn has_only(&self, front: &[u8]) -> bool {
+        self.front(front.len()) == front && self.is_kept_past(front.len())
+    }
+
     /// Whether nothing but the first so many of the lent bytes was written: the others and those
     /// around them are the watch byte still. No, if there are not so many.
     pub fn is_kept_past(&self, length: usize) -> bool {

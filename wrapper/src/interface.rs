@@ -335,6 +335,34 @@ pub mod cs_data_layout {
     pub const COMMONED: Range<usize> = 88..100;
 }
 
+/// The pin page: A text of 48 rows, which says what each GPIO serves. It is written, and never
+/// handed in.
+pub mod pin_page {
+    use std::ops::Range;
+
+    /// Bytes of the record.
+    pub const RECORD_SIZE: usize = 432;
+    /// 432 bytes: rows of GPIOs 0 to 47, 9 bytes a row. Values: a row each.
+    pub const ROWS: Range<usize> = 0..432;
+}
+
+/// The row of a pin page: A GPIO of a pin page, at place 9 * g for GPIO g, in ASCII.
+pub mod pin_page_row {
+    use std::ops::Range;
+
+    /// Bytes of the record.
+    pub const RECORD_SIZE: usize = 9;
+    /// 2 bytes: the GPIO in two decimal digits. Values: 00 to 47.
+    pub const GPIO: Range<usize> = 0..2;
+    /// A space. Values: 32.
+    pub const GAP: usize = 2;
+    /// 5 bytes: its role, and spaces behind it. Values: A0 to A23, D0 to D15, X1, X2, CE, OE, CS1
+    /// to CS4, HALF, or -.
+    pub const ROLE: Range<usize> = 3..8;
+    /// A line feed. Values: 10.
+    pub const END: usize = 8;
+}
+
 /// The image spans record: Where in the bytes that are lent for all chips each chip's stand: chips
 /// 0 to 3, an image span each. Another length is refusal 1.
 pub mod image_spans {
@@ -530,6 +558,26 @@ unsafe extern "C" {
         description_len: usize,
         addr_layout: *const u8,
         addr_layout_len: usize,
+    ) -> u64;
+
+    /// Writes the pin page of two layouts: for each GPIO, used or not, the role that it has there.
+    /// A0 to A23 is an address line in use, numbered by its place among them, so that in 16-bit
+    /// mode A0 is the line at address pin 1. D0 to D15 is a data line, numbered in the same way. X1
+    /// and X2 are the address layout's GPIOs for them, and every select and commoned line with that
+    /// role. CE, OE and CS1 to CS4 are select and commoned lines by their roles. HALF is an excess
+    /// line of the address layout, and every select and commoned line with the role of one. A GPIO
+    /// shows - exactly if it has none of these. A GPIO with several shows the first of address
+    /// line, data line, X pin, select line, commoned line. HALF counts as a select line, whichever
+    /// list has it. Of address and of data lines the lowest number is shown, X1 goes before X2, and
+    /// of select and of commoned lines the first of CE, OE, CS1, CS2, CS3, CS4, HALF is shown: HALF
+    /// and a select CS1 show CS1, HALF and a commoned CE show HALF.
+    pub(crate) fn onerom_write_page(
+        addr_layout: *const u8,
+        addr_layout_len: usize,
+        cs_data_layout: *const u8,
+        cs_data_layout_len: usize,
+        page: *mut u8,
+        page_len: usize,
     ) -> u64;
 
     /// Reads a text of Intel HEX into a chip's bytes. The chip is the whole lent slice. A byte that

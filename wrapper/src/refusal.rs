@@ -17,6 +17,8 @@ pub enum Call {
     RoundTrip,
     /// `well_wired`.
     WellWired,
+    /// `pin_page`.
+    Page,
     /// `read_hex`.
     ReadHex,
     /// `write_hex`.
@@ -32,6 +34,7 @@ impl fmt::Display for Call {
             Self::ReadBack => "read-back",
             Self::RoundTrip => "round trip",
             Self::WellWired => "test of the wiring",
+            Self::Page => "pin page",
             Self::ReadHex => "reading of Intel HEX",
             Self::WriteHex => "writing of Intel HEX",
         })

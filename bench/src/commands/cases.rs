@@ -1,11 +1,13 @@
 //! `onerom-bench compare`, `onerom-bench compare-large`, `onerom-bench replay` and `onerom-bench speed`: the library beside the
-//! original; `onerom-bench compare-hex` beside the model, and `onerom-bench speed-hex` beside other programs.
+//! original; `onerom-bench compare-hex` and `onerom-bench compare-page` beside the model, and `onerom-bench speed-hex` beside
+//! other programs.
 
 use std::ffi::{OsStr, OsString};
 use std::path::Path;
 
 use super::Command;
 use crate::compare::hex::compare_hex;
+use crate::compare::page::compare_page;
 use crate::compare::{compare, compare_large};
 use crate::ending::{Done, Fault};
 use crate::replay::replay;
@@ -69,6 +71,28 @@ Example, half a minute:
 ",
     flags: &[],
     run: |words, _| on_cases(words, compare_hex),
+};
+
+pub const COMPARE_PAGE: Command = Command {
+    name: "compare-page",
+    words: "SEED COUNT",
+    summary: "Holds the pin page against the model",
+    help: "\
+Reads no file. Makes COUNT pairs of layouts from SEED, both numbers from 0: many
+have lines that share GPIOs, every role stands in every list, some are what the
+searches find, and some have a number past its bound, wrong records or any bytes
+past the lines that count. Has the pin page of each written between guard pages,
+to buffers that are long enough and too short, and holds the answer and all that
+is lent against the model. Writes how often each answer came, and how many GPIOs
+have two roles or more, to the standard output.
+
+Exit codes: 0 no difference; 1 one; 2 other words.
+
+Example, a dozen seconds:
+    onerom-bench compare-page 1 1000000
+",
+    flags: &[],
+    run: |words, _| on_cases(words, compare_page),
 };
 
 pub const REPLAY: Command = Command {

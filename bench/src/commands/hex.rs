@@ -3,16 +3,15 @@
 use std::ffi::OsStr;
 use std::io::{self, Read};
 use std::path::{Path, PathBuf};
-use std::process::ExitCode;
 
 use onerom::hex_text;
 use onerom::images::LARGEST_CHIP;
 
 use super::Command;
-use crate::ending::{Done, Fault, complain, say};
+use crate::ending::{Done, Fault};
 use crate::hex_files::{READ_AT_MOST, chip_of};
 use crate::inputs::{NO_FILE, bytes_up_to};
-use crate::outputs::{keep, write_out, write_whole};
+use crate::outputs::{keep, written};
 
 pub const TO_HEX: Command = Command {
     name: "to-hex",
@@ -122,19 +121,6 @@ impl Source {
         read.map_err(|why| Fault::of_file(&self.name, why))?;
         Ok(bytes)
     }
-}
-
-/// Writes a file whole and says what it has, or writes to the standard output, where nothing else
-/// may stand.
-fn written(file: &Path, bytes: &[u8], what: &str, open: &str) -> Done {
-    if file == Path::new(NO_FILE) {
-        complain(open);
-        write_out(bytes)?;
-    } else {
-        write_whole(&[(file, bytes)])?;
-        say(&format!("{}: {what}\n{open}", file.display()))?;
-    }
-    Ok(ExitCode::SUCCESS)
 }
 
 /// A chip's size, in decimal or behind 0x in hex.

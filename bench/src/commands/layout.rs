@@ -1,5 +1,5 @@
-//! `onerom-bench layout`: both layouts of a described slot and the drawing of its socket, and the slot that
-//! stores its table.
+//! `onerom-bench layout`: both layouts of a described slot and the drawing of its socket, the slot that
+//! stores its table, and the pin page.
 
 use std::ffi::OsString;
 use std::path::Path;
@@ -7,7 +7,7 @@ use std::process::ExitCode;
 
 use onerom::{
     AddrLayout, CsDataLayout, Description, StoredSlot, build_rom_image, derive_addr_layout,
-    derive_cs_data_layout,
+    derive_cs_data_layout, pin_page,
 };
 use onerom_bench::{show, socket, text};
 
@@ -19,16 +19,20 @@ use crate::outputs::{keep, write_whole};
 use crate::reach::{PART, parts_served};
 use crate::wiring::complaints;
 
+/// The flag by which the pin page is printed too.
+const PAGE: &str = "--page";
+
 pub const LAYOUT: Command = Command {
     name: "layout",
-    words: "[--part] FILE [SLOT]",
+    words: "[--page] [--part] FILE [SLOT]",
     summary: "Lays out the slot that a file describes, and draws its socket",
     help: "\
 Reads FILE, a description. Writes the RP2350's package, the GPIOs of the address
 lines, those of the data and select lines and a drawing of the socket to the
 standard output; to SLOT, if it is given, the slot that stores the table, for
 `read-back`. SLOT is written when both layouts are found, whole or not at all,
-and may replace a file that is there, but none that is read.
+and may replace a file that is there, but none that is read. With --page the
+output ends with the pin page, which `page` writes by itself.
 
 Where the slot is not well wired it says why: what is built may not read back.
 Where the address lines in use do not reach all words of a chip, and no excess
@@ -41,36 +45,60 @@ are not reached; 2 other words, or a file that cannot be used.
 Example:
     onerom-bench layout 2764.txt slot.txt
 ",
-    flags: &[PART],
+    flags: &[PAGE, PART],
     run,
 };
 
 fn run(words: &[OsString], flags: &Flags) -> Done {
-    let part = flags.has(PART);
     match words {
-        [file] => {
-            let (slot, _) = described(Path::new(file))?;
-            let (addr, cs_data) = print_layouts(&slot)?;
-            say_slips(&slot, &addr, part)?;
-            expect_built(&slot, &addr, &cs_data)?;
-        }
-        [file, stored] => lay_out_to(Path::new(file), Path::new(stored), part)?,
+        [file] => lay_out(Path::new(file), None, flags)?,
+        [file, stored] => lay_out(Path::new(file), Some(Path::new(stored)), flags)?,
         _ => return Err(Fault::Words),
     }
     Ok(ExitCode::SUCCESS)
 }
 
-/// What is wrong with the wiring, and which parts of the chips are served.
-fn say_slips(slot: &Description, addr: &AddrLayout, part: bool) -> Result<(), Fault> {
+fn lay_out(file: &Path, stored: Option<&Path>, flags: &Flags) -> Result<(), Fault> {
+    if stored == Some(Path::new(NO_FILE)) {
+        let why = "expected a file's name: the layouts go to the standard output";
+        return Err(Fault::of_file(Path::new(NO_FILE), why));
+    }
+    let (slot, files) = described(file)?;
+    if let Some(stored) = stored {
+        keep(&files, "slot", stored)?;
+    }
+    let (addr, cs_data) = print_layouts(&slot)?;
+    let tell = |text: &str| say(&format!("\n{text}"));
+    expect_stored(&slot, (&addr, &cs_data), flags.has(PART), tell)?;
+    if let Some(stored) = stored {
+        let text = text::write_slot(&StoredSlot::of_layouts(&slot, &addr, &cs_data));
+        write_whole(&[(stored, text.as_bytes())])?;
+        say(&format!("\n{}: stored slot\n", stored.display()))?;
+    }
+    if flags.has(PAGE) {
+        let page = pin_page(&addr, &cs_data)?;
+        say(&format!("\n{}", String::from_utf8_lossy(&page)))?;
+    }
+    Ok(())
+}
+
+/// Tells what is wrong with the wiring, which parts of the chips are served, and what keeps a slot from
+/// being stored: words that are not reached, and what the build refuses.
+pub fn expect_stored(
+    slot: &Description,
+    (addr, cs_data): (&AddrLayout, &CsDataLayout),
+    part: bool,
+    tell: impl Fn(&str) -> Result<(), Fault>,
+) -> Result<(), Fault> {
     let wrong = complaints(slot, addr)?;
     if !wrong.is_empty() {
-        say(&format!("\n{wrong}"))?;
+        tell(&wrong)?;
     }
     let parts = parts_served(slot, addr, part)?;
     if !parts.is_empty() {
-        say(&format!("\n{parts}"))?;
+        tell(&parts)?;
     }
-    Ok(())
+    expect_built(slot, addr, cs_data)
 }
 
 /// What the build refuses by these layouts, whatever bytes the chips have.
@@ -86,21 +114,6 @@ fn expect_built(
     table
         .map(drop)
         .map_err(|refusal| hinted(slot, &images, refusal))
-}
-
-fn lay_out_to(file: &Path, stored: &Path, part: bool) -> Result<(), Fault> {
-    if stored == Path::new(NO_FILE) {
-        let why = "expected a file's name: the layouts go to the standard output";
-        return Err(Fault::of_file(stored, why));
-    }
-    let (slot, files) = described(file)?;
-    keep(&files, "slot", stored)?;
-    let (addr, cs_data) = print_layouts(&slot)?;
-    say_slips(&slot, &addr, part)?;
-    expect_built(&slot, &addr, &cs_data)?;
-    let text = text::write_slot(&StoredSlot::of_layouts(&slot, &addr, &cs_data));
-    write_whole(&[(stored, text.as_bytes())])?;
-    say(&format!("\n{}: stored slot\n", stored.display()))
 }
 
 /// Prints each layout as soon as it is found: an address layout without the other is of use too.

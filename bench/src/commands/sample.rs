@@ -101,6 +101,7 @@ fn next_commands(folder: &Path) -> String {
         "
 next:
     onerom-bench layout {description} {slot}
+    onerom-bench page {description}
     onerom-bench build {description} {table} {rom}
     onerom-bench read-back {slot} {table} {back}
     onerom-bench verify {description} {rom}

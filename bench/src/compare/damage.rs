@@ -62,7 +62,7 @@ impl Damage {
 }
 
 /// Two to eight bytes, in any of the records; now and then one of them gets another length too.
-fn damage_several(mut parts: Vec<Part>, random: &mut Random) {
+pub fn damage_several(mut parts: Vec<Part>, random: &mut Random) {
     for _ in 0..random.pick(&[2, 2, 2, 3, 4, 8]) {
         let which = random.below(parts.len());
         let Part { record, head, .. } = &mut parts[which];
@@ -78,7 +78,7 @@ fn damage_several(mut parts: Vec<Part>, random: &mut Random) {
 }
 
 /// Puts random bytes in the place of one record or of all, each as long as it has to be.
-fn replace(parts: Vec<Part>, random: &mut Random) {
+pub fn replace(parts: Vec<Part>, random: &mut Random) {
     let (all, which) = (random.chance(50), random.below(parts.len()));
     for (number, part) in parts.into_iter().enumerate() {
         if all || number == which {

@@ -66,7 +66,7 @@ impl Hex {
 
     /// Whether the lent bytes begin with these, and nothing else was written.
     fn stands(&self, front: &[u8], what: &str) -> Result<(), String> {
-        let is_so = self.lent.front(front.len()) == front && self.lent.is_kept_past(front.len());
+        let is_so = self.lent.has_only(front);
         is_so
             .then_some(())
             .ok_or(format!("{what} is not the model's"))

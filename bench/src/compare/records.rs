@@ -13,7 +13,7 @@ use oracle::slot::{ChipBytes, Rom, Slot};
 use crate::plain;
 
 /// Places of the address layout record that are kept at 0.
-const ADDR_KEPT: [Range<usize>; 2] = [addr_layout::SPARE, addr_layout::INVERTED];
+pub const ADDR_KEPT: [Range<usize>; 2] = [addr_layout::SPARE, addr_layout::INVERTED];
 
 /// The layout of a record as a case has it. A case has no other length, no kept places, and no
 /// count past its places.

@@ -7,7 +7,7 @@ use onerom::layout::cs_data::{Line, Qualifiers, Role};
 use onerom::slot::{Layout, Map, Rom, SlotKind};
 use onerom::{
     AddrLayout, CsDataLayout, Refusal, StoredSlot, build_rom_image, derive_addr_layout,
-    derive_cs_data_layout, round_trip, unscramble_slot,
+    derive_cs_data_layout, pin_page, round_trip, unscramble_slot,
 };
 use onerom_bench::{show, socket, text};
 use oracle::random::Random;
@@ -194,6 +194,7 @@ fn any_description_is_answered() {
         let cs_data = told(derive_cs_data_layout(&slot, Some(&addr)));
         let cs_data = cs_data.unwrap_or_else(|| cs_data_layout(random));
         told(build_rom_image(&slot, &addr, &cs_data, &images));
+        told(pin_page(&addr, &cs_data));
         let shown = [
             show::addr_summary(&slot, &addr),
             show::addr_table(&addr),

@@ -5,11 +5,12 @@
 use super::slots::{SAMPLE, changed, wide};
 use onerom::description::{Candidates, SetType};
 use onerom::fence::{Lent, Shown, Side};
+use onerom::page::LENGTH as PAGE;
 use onerom::slot::{Map, SlotKind};
 use onerom::{
     Description, StoredSlot, build_rom_image_into, derive_addr_layout, derive_addr_layout_into,
-    derive_cs_data_layout, derive_cs_data_layout_into, images, round_trip_into, table_length,
-    unscramble_slot_into, well_wired_result,
+    derive_cs_data_layout, derive_cs_data_layout_into, images, pin_page, round_trip_into,
+    table_length, unscramble_slot_into, well_wired_result, write_page_into,
 };
 use onerom_bench::text;
 
@@ -52,6 +53,7 @@ struct Good {
     images: Vec<u8>,
     addr_layout: Vec<u8>,
     cs_data_layout: Vec<u8>,
+    page: Vec<u8>,
     table: Vec<u8>,
     stored: StoredSlot,
     slot: Vec<u8>,
@@ -93,6 +95,7 @@ impl Good {
             spans: spans.to_vec(),
             addr_layout: addr_layout.to_vec(),
             cs_data_layout: cs_data_layout.to_vec(),
+            page: pin_page(&addr, &cs_data).expect("a page").to_vec(),
             slot: stored.to_bytes().to_vec(),
             marks: vec![1; stored.marks(table.len())],
             // A well wired slot reads back as its chips.
@@ -166,6 +169,13 @@ fn build(read: &[&[u8]], lent: &mut [&mut [u8]]) -> u64 {
     build_rom_image_into(read[0], read[1], read[2], read[3], read[4], lent[0])
 }
 
+/// A success tells the page's length.
+fn write_page(read: &[&[u8]], lent: &mut [&mut [u8]]) -> u64 {
+    let told = write_page_into(read[0], read[1], lent[0]);
+    assert_ne!(told, SUCCESS);
+    if told == PAGE as u64 { SUCCESS } else { told }
+}
+
 fn unscramble(read: &[&[u8]], lent: &mut [&mut [u8]]) -> u64 {
     let [output, marks] = lent else {
         panic!("two buffers");
@@ -201,7 +211,7 @@ impl<'a> Function<'a> {
         }
     }
 
-    fn all(good: &'a Good) -> [Self; 6] {
+    fn all(good: &'a Good) -> [Self; 7] {
         let description = (Read::Record, &good.description[..]);
         let addr = (Read::Record, &good.addr_layout[..]);
         let addr_or_none = (Read::LayoutOrNone, &good.addr_layout[..]);
@@ -227,6 +237,7 @@ impl<'a> Function<'a> {
                 &[cs_data.1],
             ),
             of(("build", build, 0), &built, &[table]),
+            of(("pin page", write_page, 0), &[addr, cs_data], &[&good.page]),
             of(
                 ("read-back", unscramble, 0),
                 &[slot, stored],

@@ -7,7 +7,7 @@ use super::folder::{Folder, text};
 use super::slots::{banked, changed, random};
 
 /// A description of a board of this repository with one of its chips.
-fn pairing(board: &str, chip: &str) -> String {
+pub fn pairing(board: &str, chip: &str) -> String {
     let root = Path::new(env!("CARGO_MANIFEST_DIR")).join("..");
     let root = root.display();
     format!("include {root}/boards/{board}.txt\ninclude {root}/chips/{chip}.txt\n")

@@ -18,6 +18,8 @@ mod layout;
 mod make;
 mod package;
 mod package_text;
+mod page;
+mod page_files;
 mod pairings;
 mod program;
 mod progress;

@@ -9,8 +9,9 @@ use std::process::{Command, Output};
 
 use super::slots::changed;
 
-const COMMANDS: [&str; 14] = [
+const COMMANDS: [&str; 16] = [
     "layout",
+    "page",
     "build",
     "read-back",
     "verify",
@@ -21,6 +22,7 @@ const COMMANDS: [&str; 14] = [
     "compare",
     "compare-large",
     "compare-hex",
+    "compare-page",
     "replay",
     "speed",
     "speed-hex",
@@ -170,6 +172,7 @@ fn no_file_and_no_command() {
     assert_eq!(bench(&["layout", "no/such/file"]).status.code(), Some(2));
     for command in [
         "layout",
+        "page",
         "build",
         "read-back",
         "verify",
@@ -179,6 +182,7 @@ fn no_file_and_no_command() {
         "compare",
         "compare-large",
         "compare-hex",
+        "compare-page",
         "replay",
     ] {
         let told = bench(&[command]);
@@ -207,6 +211,7 @@ fn words_that_are_too_many_are_told() {
     assert_eq!(text(&told.stderr), said);
     for words in [
         &["layout", "a", "b", "c"][..],
+        &["page", "a", "b", "c"],
         &["sample", "a", "b"],
         &["compare", "1", "x"],
     ] {
@@ -335,6 +340,7 @@ fn words_that_are_no_text() {
 fn folders_are_no_files() {
     for words in [
         &["layout", "."][..],
+        &["page", "."],
         &["read-back", ".", "a", "b"],
         &["verify", ".", "a"],
     ] {

@@ -31,6 +31,7 @@ fn the_files_are_written() {
 
 next:
     onerom-bench layout 2764.txt slot.txt
+    onerom-bench page 2764.txt
     onerom-bench build 2764.txt table.bin 2764.bin
     onerom-bench read-back slot.txt table.bin back.bin
     onerom-bench verify 2764.txt 2764.bin

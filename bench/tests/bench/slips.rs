@@ -8,7 +8,7 @@ use super::folder::{Folder, text};
 use super::slots::{banked, changed, multi, random, wired};
 
 /// The sample without A12.
-fn without_a12() -> String {
+pub fn without_a12() -> String {
     changed(&[("25 24 21 23 2 ", "25 24 21 23 ")])
 }
 
@@ -370,6 +370,7 @@ fn a_stored_slot_is_no_description() {
         which `onerom-bench read-back` takes\n";
     for words in [
         &["layout", "stored.txt"][..],
+        &["page", "stored.txt"],
         &["build", "stored.txt", "table.bin", "chip.bin"],
         &["verify", "stored.txt", "chip.bin"],
     ] {

@@ -1,8 +1,10 @@
-//! Seeded cases inside 01's domain but for some candidates past package A, and texts of Intel HEX.
+//! Seeded cases inside 01's domain but for some candidates past package A, texts of Intel HEX, and pairs
+//! of layouts for the pin page.
 
 mod faults;
 mod hex;
 mod leaves;
+mod page;
 mod slots;
 mod tables;
 mod wiring;
@@ -11,6 +13,7 @@ use crate::case::Case;
 use crate::random::Random;
 
 pub use hex::HexCase;
+pub use page::PageCase;
 
 /// The case of a number under a seed; kinds take turns.
 pub fn case(seed: u64, number: u64, kinds: &[u64]) -> Case {
@@ -42,4 +45,9 @@ pub fn large_read_back(seed: u64, number: u64) -> Case {
 /// A text of Intel HEX, sound or damaged.
 pub fn hex_case(seed: u64, number: u64) -> HexCase {
     hex::case(&mut Random::of_case(seed, number))
+}
+
+/// Two layouts of which a pin page can be asked.
+pub fn page_case(seed: u64, number: u64) -> PageCase {
+    page::case(&mut Random::of_case(seed, number))
 }

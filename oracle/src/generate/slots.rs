@@ -74,14 +74,17 @@ pub fn chain(random: &mut Random) -> Case {
     Case::Chain(Box::new(slot.write()), images)
 }
 
+/// What both searches find, the qualifier list shortened to what the first of them leaves.
+pub fn found(slot: &mut Description) -> Option<(AddressLayout, SelectLayout)> {
+    let address = address::search(slot).ok()?;
+    within_qualifiers(slot, &address);
+    let select = select::search(slot, Some(&address)).ok()?;
+    Some((address, select))
+}
+
 pub fn build(random: &mut Random) -> Case {
     let mut slot = wiring::description(random);
-    let found = address::search(&slot).ok().and_then(|address| {
-        within_qualifiers(&mut slot, &address);
-        let select = select::search(&slot, Some(&address)).ok()?;
-        Some((address, select))
-    });
-    let (mut address, mut select) = match found {
+    let (mut address, mut select) = match found(&mut slot) {
         Some(found) if random.chance(50) => found,
         _ => tables::layouts(random, &slot),
     };

@@ -141,7 +141,8 @@ fn gpios(gpios: &[u8]) -> bool {
     gpios.iter().all(|&gpio| gpio <= LAST_GPIO)
 }
 
-pub fn address_layout(slot: &Description, layout: &AddressLayout) -> bool {
+/// What every call asks of an address layout, whether a description goes with it or not.
+pub fn lone_address_layout(layout: &AddressLayout) -> bool {
     let x = [layout.x1, layout.x2]
         .iter()
         .flatten()
@@ -152,7 +153,10 @@ pub fn address_layout(slot: &Description, layout: &AddressLayout) -> bool {
         && layout.lines.len() + layout.excess.len() <= 24
         && gpios(&layout.lines)
         && gpios(&layout.excess)
-        && qualifiers(slot, layout)
+}
+
+pub fn address_layout(slot: &Description, layout: &AddressLayout) -> bool {
+    lone_address_layout(layout) && qualifiers(slot, layout)
 }
 
 /// The qualifier list, tested where an address layout is given.

@@ -1,6 +1,6 @@
 //! Document 01 once more, written from its text alone, as plainly as it can be run: what the
-//! original is held against, and the answer where the original has none. hex.rs and the package in
-//! domain.rs are slips of document 02, of which the original has nothing.
+//! original is held against, and the answer where the original has none. hex.rs, page.rs and the
+//! package in domain.rs are slips of document 02, of which the original has nothing.
 
 pub mod address;
 pub mod build;
@@ -8,6 +8,7 @@ pub mod choice;
 pub mod domain;
 pub mod hex;
 pub mod multi;
+pub mod page;
 pub mod read_back;
 pub mod select;
 

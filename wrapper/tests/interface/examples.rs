@@ -71,12 +71,45 @@ int main(void)
 }
 "#;
 
+/// The pin page of two layouts with a data line on the last GPIO: the length is the result itself.
+const PAGE_IN_C: &str = r#"#include "onerom.h"
+#include <string.h>
+
+int main(void)
+{
+    static uint8_t addr[ONEROM_ADDR_LAYOUT_RECORD_SIZE], cs_data[ONEROM_CS_DATA_LAYOUT_RECORD_SIZE];
+    static uint8_t page[ONEROM_PIN_PAGE_RECORD_SIZE + 1];
+    const uint8_t *last = page + ONEROM_PIN_PAGE_ROWS + 47 * ONEROM_PIN_PAGE_ROW_RECORD_SIZE;
+    uint64_t refused, length;
+
+    addr[ONEROM_ADDR_LAYOUT_X1] = addr[ONEROM_ADDR_LAYOUT_X2] = ONEROM_GPIO_NONE;
+    refused = onerom_write_page(addr, sizeof addr, cs_data, sizeof cs_data, page, sizeof page);
+    cs_data[ONEROM_CS_DATA_LAYOUT_DATA_COUNT] = 1;
+    cs_data[ONEROM_CS_DATA_LAYOUT_DATA] = 47;
+    length = onerom_write_page(addr, sizeof addr, cs_data, sizeof cs_data, page, sizeof page);
+
+    return !(onerom_number(refused) == ONEROM_OUT_OF_DOMAIN && length == ONEROM_PIN_PAGE_RECORD_SIZE
+             && memcmp(page, "00 -    \n01 -    \n", 18) == 0 && memcmp(last, "47 D0   \n", 10) == 0
+             && memcmp(last + ONEROM_PIN_PAGE_ROW_ROLE, "D0 ", 3) == 0);
+}
+"#;
+
+/// Compiles and runs a program that ends with 0 if the calls do what it expects.
+fn runs_in_c(name: &str, program: &str) {
+    let source = Path::new(env!("CARGO_TARGET_TMPDIR")).join(format!("{name}.c"));
+    std::fs::write(&source, program).expect("the file is written");
+    let told = Command::new(compiled(&source, name)).output();
+    assert!(is_success(&told.expect("the program")));
+}
+
 #[test]
 fn the_calls_on_intel_hex_in_c() {
-    let source = Path::new(env!("CARGO_TARGET_TMPDIR")).join("hex.c");
-    std::fs::write(&source, HEX_IN_C).expect("the file is written");
-    let told = Command::new(compiled(&source, "hex")).output();
-    assert!(is_success(&told.expect("the program")));
+    runs_in_c("hex", HEX_IN_C);
+}
+
+#[test]
+fn the_pin_page_in_c() {
+    runs_in_c("pin_page", PAGE_IN_C);
 }
 
 #[test]

@@ -4,7 +4,7 @@ use onerom::description::{Candidates, Chip, Description, Kind, Package, SetType}
 use onerom::images::joined;
 use onerom::{
     StoredSlot, build_rom_image_into, derive_addr_layout_into, derive_cs_data_layout_into,
-    unscramble_slot_into,
+    unscramble_slot_into, write_page_into,
 };
 
 use super::page::Page;
@@ -64,6 +64,13 @@ fn addr_layout() -> [u8; 36] {
     layout
 }
 
+fn cs_data_layout() -> [u8; 100] {
+    let (record, mut layout) = (sample().to_bytes(), [0; 100]);
+    let told = derive_cs_data_layout_into(&record, &addr_layout(), &mut layout);
+    assert_eq!(told, 0);
+    layout
+}
+
 #[test]
 fn of_a_description() {
     let page = super::page();
@@ -83,14 +90,19 @@ fn of_an_address_layout() {
     let record = sample().to_bytes();
     let call = |layout: &[u8]| derive_cs_data_layout_into(&record, layout, &mut [0; 100]);
     are_refused(&addr_layout(), &places, call);
+    let cs_data = cs_data_layout();
+    // A page that is written tells its length.
+    let call = |layout: &[u8]| match write_page_into(layout, &cs_data, &mut [0; 432]) {
+        432 => 0,
+        told => told,
+    };
+    are_refused(&addr_layout(), &places, call);
 }
 
 #[test]
 fn of_image_spans() {
     let places = kept_of_parts(&kept(&super::page(), "IMAGE_SPAN"), 0, 12, 4);
-    let (record, addr) = (sample().to_bytes(), addr_layout());
-    let mut cs_data = [0; 100];
-    assert_eq!(derive_cs_data_layout_into(&record, &addr, &mut cs_data), 0);
+    let (record, addr, cs_data) = (sample().to_bytes(), addr_layout(), cs_data_layout());
     let (spans, images) = joined(&[Some(&[0; 256])]);
     let call = |spans: &[u8]| {
         build_rom_image_into(&record, &addr, &cs_data, spans, &images, &mut [0; 256])
