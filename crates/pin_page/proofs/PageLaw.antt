@@ -16,11 +16,26 @@ use Rattle.cs_data_layout.specs.declared.layout.CsDataLayout.{CsDataLayout}
 use Rattle.pin_page.specs.Roles.{noRole, addrPageLines, csDataPageLines, firstRole, roleOf}
 use Rattle.pin_page.specs.Text.{bytesOf, hyphen, roleTexts, roleText, rowText, pageText}
 use Rattle.pin_page.specs.Page.{layoutsIn}
-use Rattle.pin_page.specs.Law.{Has, Shown, first, nothing, PageLaw, PageLaws}
+use Rattle.pin_page.specs.Law.{OrderLaw, Has, Shown, first, nothing, PageLaw, PageLaws}
 use Rattle.pin_page.proofs.Held.{Held, first-least, first-held}
 use Rattle.pin_page.proofs.HasRoles.{has-held, held-has, has-some}
 use Rattle.pin_page.proofs.RowsLaid.{text-long, rows-long}
 use Rattle.pin_page.proofs.Writes.{role-in, page-long}
+
+order-law : OrderLaw
+order-law = record {
+  address-data = λ n m h. omega arith;
+  data-x = λ n h. omega arith;
+  x1-x2 = omega arith;
+  x-select = λ k. omega arith;
+  select-half = λ k h. omega arith;
+  half-commoned = λ k. omega arith;
+  commoned-none = λ k h. omega arith;
+  addresses = λ n m h. omega arith;
+  datas = λ n m h. omega arith;
+  selects = λ j k h. omega arith;
+  commons = λ j k h. omega arith;
+}
 
 one-role : (a : AddrLayout) (c : CsDataLayout) (g r s : ℕ) → Shown a c g r → Shown a c g s → r ≡ s
 one-role a c g r s (first h m) (first i n) = by (ltb r s) refl (ltb s r) refl
@@ -113,4 +128,4 @@ module _ (a : AddrLayout) (c : CsDataLayout) (d : layoutsIn a c ≡ true) where
   }
 
 pub page-laws : PageLaws
-page-laws = record { page = page-law; one-role = one-role }
+page-laws = record { order = order-law; page = page-law; one-role = one-role }

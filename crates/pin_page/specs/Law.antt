@@ -13,6 +13,21 @@ use Rattle.pin_page.specs.Roles.{roleA, roleD, roleX1, roleX2, roleSelec
 use Rattle.pin_page.specs.Text.{hyphen, rowText, pageText}
 use Rattle.pin_page.specs.Page.{layoutsIn}
 
+-- 02 Slip 4 3: the order of the roles. The classes are in theirs, each behind all of the one before
+pub record OrderLaw : Type 0 where
+  pub address-data : (n m : ℕ) → n < 24 → roleA n < roleD m
+  pub data-x : (n : ℕ) → n < 16 → roleD n < roleX1
+  pub x1-x2 : roleX1 < roleX2
+  pub x-select : (kind : ℕ) → roleX2 < roleSelect kind
+  pub select-half : (kind : ℕ) → kind < x1Role → roleSelect kind < roleHalf
+  pub half-commoned : (kind : ℕ) → roleHalf < roleCommoned kind
+  pub commoned-none : (kind : ℕ) → kind < x1Role → roleCommoned kind < noRole
+  -- 02 Slip 4 3: in a class the lowest number is first, and the kinds are ce, oe, cs1 to cs4 by their numbers
+  pub addresses : (n m : ℕ) → n < m → roleA n < roleA m
+  pub datas : (n m : ℕ) → n < m → roleD n < roleD m
+  pub selects : (j k : ℕ) → j < k → roleSelect j < roleSelect k
+  pub commons : (j k : ℕ) → j < k → roleCommoned j < roleCommoned k
+
 -- a select line, or a commoned one, that is of this role in its layout and on GPIO g
 pub record LineOn (c : CsDataLayout) (isCommoned : Bool) (role g : ℕ) : Type 0 where
   pub at : ℕ
@@ -53,5 +68,6 @@ pub record PageLaw (a : AddrLayout) (c : CsDataLayout) : Type 0 where
 
 -- layouts that keep to the domain have a page, and the roles that it may show are one for each GPIO
 pub record PageLaws : Type 0 where
+  pub order : OrderLaw
   pub page : (a : AddrLayout) (c : CsDataLayout) → layoutsIn a c ≡ true → PageLaw a c
   pub one-role : (a : AddrLayout) (c : CsDataLayout) (g r s : ℕ) → Shown a c g r → Shown a c g s → r ≡ s
