@@ -13,11 +13,11 @@ use Rattle.lists.specs.Tab.{tab, joined}
 use Rattle.lists.proofs.Each.{each-at}
 use Rattle.addr_layout.specs.declared.layout.AddrLayout.{AddrLayout}
 use Rattle.cs_data_layout.specs.declared.layout.CsDataLayout.{CsDataLayout}
-use Rattle.pin_page.specs.Roles.{noRole, addrPageLines, csDataPageLines, firstRole, roleOf}
+use Rattle.pin_page.specs.Roles.{noRole, addrPageLines, csDataPageLines, roleOf}
 use Rattle.pin_page.specs.Text.{bytesOf, hyphen, roleTexts, roleText, rowText, pageText}
 use Rattle.pin_page.specs.Page.{layoutsIn}
 use Rattle.pin_page.specs.Law.{OrderLaw, Has, Shown, first, nothing, PageLaw, PageLaws}
-use Rattle.pin_page.proofs.Held.{Held, first-least, first-held}
+use Rattle.pin_page.proofs.Held.{first-least, first-held}
 use Rattle.pin_page.proofs.HasRoles.{has-held, held-has, has-some}
 use Rattle.pin_page.proofs.RowsLaid.{text-long, rows-long}
 use Rattle.pin_page.proofs.Writes.{role-in, page-long}

@@ -1,10 +1,10 @@
 -- The rows of the page: their lengths, and the rows laid over a buffer one by one. Assumes nothing.
-use mathlib.Core.Path.{_≡_, refl, sym, _∙_, ap}
+use mathlib.Core.Path.{_≡_, refl, _∙_, ap}
 use mathlib.Core.List.{List, [], _∷_, _++_}
-use Prim.Native.Nat.{ℕ, zero, suc, _+_, _*_, _/_, _%_, _≤_, _<_}
+use Prim.Native.Nat.{ℕ, zero, suc, _+_, _*_, _/_, _%_, _≤_}
 use native.Mathlib.Numerals.{add-one}
 use native.Mathlib.Omega.{arith}
-use lib.ListN.{length, getD, set, replicate, length-append, length-take, length-replicate}
+use lib.ListN.{length, getD, set, replicate, length-append, length-take}
 use Rattle.lists.specs.Tab.{tab, joined}
 use Rattle.lists.proofs.Tab.{getD-tab}
 use Rattle.laid_bytes.specs.Laid.{laid}

@@ -15,7 +15,7 @@ use Rattle.cs_data_layout.specs.declared.layout.CsDataLayout.{CsDataLayout}
 use Rattle.laid_bytes.specs.Laid.{laid}
 use Rattle.laid_bytes.proofs.Laids.{laid-front}
 use Rattle.hex_write.specs.Write.{wroteAs}
-use Rattle.pin_page.specs.Roles.{addrPageLines, csDataPageLines, roleOf}
+use Rattle.pin_page.specs.Roles.{roleOf}
 use Rattle.pin_page.specs.Text.{rowText, pageText}
 use Rattle.pin_page.specs.Page.{layoutsIn, pageOf}
 use Rattle.pin_page.specs.design.Marks.{RolesIn}

@@ -17,6 +17,7 @@ ghost use Rattle.build_args.specs.Domain.{selectLinesIn, csDataIn};
 ghost use Rattle.pin_page.specs.Roles.{pageLine, excessLines, xLine, lineRole, selectLines, addrPageLines, csDataPageLines, roleOf};
 ghost use Rattle.pin_page.specs.design.Marks.{marked, markedAll};
 
+// The numbers of the roles: where those of a class begin that are counted on from there, and single ones.
 const FIRST_ADDRESS: u8 = 0;
 
 const FIRST_DATA: u8 = 24;

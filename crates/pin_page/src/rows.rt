@@ -2,7 +2,7 @@
 use laid_bytes::put;
 use lists::array::entry;
 ghost use mathlib.Core.Path.{_≡_};
-ghost use Prim.Native.Nat.{ℕ, _*_, _≤_, _<_};
+ghost use Prim.Native.Nat.{_*_, _≤_, _<_};
 ghost use lib.ListN.{length, getD};
 ghost use Rattle.lists.specs.Tab.{tab, joined};
 ghost use Rattle.laid_bytes.specs.Laid.{laid};
@@ -10,7 +10,7 @@ ghost use Rattle.pin_page.specs.Roles.{noRole};
 ghost use Rattle.pin_page.specs.Text.{roleText, rowText};
 ghost use Rattle.pin_page.specs.design.Marks.{RolesIn};
 
-// The texts of the roles, by their numbers.
+// The texts of the roles, by their numbers; the last is that of none.
 const ROLE_TEXTS: [[u8; 5]; 56] = [
     *b"A0   ",
     *b"A1   ",
@@ -70,6 +70,7 @@ const ROLE_TEXTS: [[u8; 5]; 56] = [
     *b"-    ",
 ];
 
+// The table as it is lent to each row: a constant would be copied for each.
 fn role_texts() -> [[u8; 5]; 56]
     ensures { λ r. ⌜ r ≡ tab 56 roleText ⌝ }
 {
@@ -82,8 +83,8 @@ fn put_row(page: &mut [u8], texts: &[[u8; 5]; 56], gpio: u8, role: u8)
     ensures { λ _. ⌜ now (page .exit) ≡ laid (now (page .entry)) (9 * gpio) (rowText gpio role) ⌝ }
 {
     let at = 9 * gpio as usize;
-    page[at] = 48 + gpio / 10;
-    page[at + 1] = 48 + gpio % 10;
+    page[at] = b'0' + gpio / 10;
+    page[at + 1] = b'0' + gpio % 10;
     page[at + 2] = b' ';
     put(page, at + 3, &texts[role as usize]);
     page[at + 8] = b'\n';

@@ -1,5 +1,5 @@
 -- `mark_x` meets its contract. Assumes nothing.
-use mathlib.Core.Path.{_≡_, refl}
+use mathlib.Core.Path.{refl}
 use borrow.Author.Needs.{needs}
 use Rattle.pin_page.specs.design.Marks.{markedAll}
 use Rattle.pin_page.proofs.roles.mark_x.Statement.{statement}

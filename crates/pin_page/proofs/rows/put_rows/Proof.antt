@@ -4,10 +4,10 @@ use Prim.Native.Nat.{_-_, _≤_}
 use native.Mathlib.Omega.{arith}
 use lib.ListN.{length, getD}
 use borrow.Author.Needs.{needs}
-use Rattle.lists.specs.Tab.{tab, joined}
+use Rattle.lists.specs.Tab.{joined}
 use Rattle.lists.proofs.Loops.{at-count}
 use Rattle.laid_bytes.specs.Laid.{laid}
-use Rattle.pin_page.specs.Text.{roleTexts, roleText, rowText}
+use Rattle.pin_page.specs.Text.{rowText}
 use Rattle.pin_page.proofs.RowsLaid.{rows-none, rows-turn}
 use Rattle.pin_page.proofs.rows.put_rows.Statement.{statement}
 use Rattle.pin_page.proofs.rows.put_rows.Tie as tie

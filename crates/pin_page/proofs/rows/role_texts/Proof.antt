@@ -1,5 +1,5 @@
 -- `role_texts` meets its contract: the table is tried against the rule, all of it at once. Assumes nothing.
-use mathlib.Core.Path.{_≡_, refl}
+use mathlib.Core.Path.{refl}
 use Rattle.lists.specs.Tab.{tab}
 use Rattle.pin_page.specs.Text.{bytesOf, roleTexts, roleText}
 use Rattle.pin_page.proofs.rows.role_texts.Statement.{statement}
