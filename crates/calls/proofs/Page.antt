@@ -11,8 +11,7 @@ use Rattle.refusal.specs.declared.Refusal.the-variants.{OutOfDomain, ShortBuffe
 use Rattle.addr_record.specs.AddrRecord.{layoutAt}
 use Rattle.cs_data_record.specs.CsDataRecord.{csDataAt}
 use Rattle.hex_write.specs.Write.{wroteAs, written}
-use Rattle.pin_page.specs.Text.{pageText}
-use Rattle.pin_page.specs.Page.{layoutsIn, pageOf}
+use Rattle.pin_page.specs.Page.{pageText, layoutsIn, pageOf}
 use Rattle.pin_page.proofs.Writes.{page-long}
 use Rattle.calls.specs.Page.{layoutsFormed, pageCall, PageUnpacks}
 use Rattle.calls.proofs.Unpacked.{number-back, place-back}

@@ -5,12 +5,13 @@ use mathlib.Core.List.{List, [], _∷_}
 use Prim.Native.Nat.{ℕ, _≤_, _<_, min}
 use native.Mathlib.Omega.{arith}
 use lib.Dec.{eqb}
-use lib.ListN.{length, getD, set, replicate, length-set}
+use lib.ListN.{getD, replicate, length-set}
 use lib.Seq.{getD-set-same, getD-set-other}
 use borrow.Author.Tests.{eqb-true, eqb-false}
 use Rattle.lists.specs.Tab.{tab}
 use Rattle.lists.proofs.Tab.{tab-is, tab-cong, tab-length, getD-tab}
-use Rattle.pin_page.specs.Roles.{PageLine, noRole, firstRole}
+use Rattle.page_rows.specs.Rows.{noRole}
+use Rattle.pin_page.specs.Roles.{PageLine, firstRole}
 use Rattle.pin_page.specs.design.Marks.{marked, markedAll}
 
 pub first-in : (ls : List PageLine) (g : ℕ) → firstRole ls g ≤ noRole

@@ -1,8 +1,4 @@
 mod Marks
 mod Firsts
-mod Domain
-mod RowsLaid
+pub mod Domain
 pub mod Writes
-mod Held
-mod HasRoles
-pub mod PageLaw

@@ -15,12 +15,12 @@ use Rattle.cs_data_layout.specs.declared.layout.CsDataLayout.{CsDataLayout}
 use Rattle.laid_bytes.specs.Laid.{laid}
 use Rattle.laid_bytes.proofs.Laids.{laid-front}
 use Rattle.hex_write.specs.Write.{wroteAs}
+use Rattle.page_rows.specs.Rows.{rowText}
+use Rattle.page_rows.specs.design.Room.{RolesIn}
+use Rattle.page_rows.proofs.RowsLaid.{rows-long}
 use Rattle.pin_page.specs.Roles.{roleOf}
-use Rattle.pin_page.specs.Text.{rowText, pageText}
-use Rattle.pin_page.specs.Page.{layoutsIn, pageOf}
-use Rattle.pin_page.specs.design.Marks.{RolesIn}
+use Rattle.pin_page.specs.Page.{pageText, layoutsIn, pageOf}
 use Rattle.pin_page.proofs.Firsts.{first-in}
-use Rattle.pin_page.proofs.RowsLaid.{rows-long}
 
 module _ (a : AddrLayout) (c : CsDataLayout) where
   pub role-in : (g : ℕ) → roleOf a c g ≤ 55

@@ -1,5 +1,3 @@
 pub mod Roles
-pub mod Text
 pub mod Page
-pub mod Law
 pub mod design

@@ -12,6 +12,7 @@ use Rattle.addr_layout.specs.declared.layout.AddrLayout.{AddrLayout}
 use Rattle.cs_data_layout.specs.Choices.{excessGpio}
 use Rattle.cs_data_layout.specs.declared.layout.CsDataLayout.{CsDataLayout}
 use Rattle.build_args.specs.Domain.{selectLineOf}
+use Rattle.page_rows.specs.Rows.{noRole}
 
 -- A role is a number here, and the first of several is the lowest.
 
@@ -41,9 +42,6 @@ roleHalf = 48
 -- 02 Slip 4 3: then commoned lines, by the same kinds
 abbrev pub roleCommoned : ℕ → ℕ
 roleCommoned kind = 49 + kind
-
-abbrev pub noRole : ℕ
-noRole = 55
 
 -- a line of a layout: its role on the page, and its GPIO
 pub record PageLine : Type 0 where

@@ -1,13 +1,12 @@
 // The pin page: a row for each GPIO, with the role that both layouts give it.
 mod roles; // the role of each GPIO
-mod rows; // the rows of the page
 
 use crate::roles::page_roles;
-use crate::rows::put_rows;
 use addr_layout::layout::AddrLayout;
 use addr_layout::layout::layout_in;
 use build_args::in_domain::cs_data_in;
 use cs_data_layout::layout::CsDataLayout;
+use page_rows::put_rows;
 use refusal::Refusal;
 use refusal::WriteAnswer;
 ghost use mathlib.Core.Path.{_≡_};

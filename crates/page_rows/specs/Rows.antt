@@ -1,4 +1,4 @@
--- The text of the page. Assumes nothing.
+-- The rows of the page. Assumes nothing.
 use Prim.Native.Nat.{ℕ, _+_, _/_, _%_}
 use Prim.Native.Char.{Char, code}
 use Prim.Native.String.{String}
@@ -7,10 +7,7 @@ use mathlib.Core.Bool.{cond}
 use mathlib.Core.List.{List, [], _∷_, _++_}
 use lib.Dec.{ltb}
 use lib.ListN.{getD, take, replicate}
-use Rattle.lists.specs.Tab.{tab, joined}
-use Rattle.addr_layout.specs.declared.layout.AddrLayout.{AddrLayout}
-use Rattle.cs_data_layout.specs.declared.layout.CsDataLayout.{CsDataLayout}
-use Rattle.pin_page.specs.Roles.{roleOf}
+use Rattle.lists.specs.Tab.{tab}
 
 -- the bytes of characters
 unfoldable pub bytesOf : String → List ℕ
@@ -39,6 +36,10 @@ roleTexts =
     tab 24 (lineText "A") ++ tab 16 (lineText "D") ++ (bytesOf "X1" ∷ bytesOf "X2" ∷ [])
     ++ kindTexts ++ (bytesOf "HALF" ∷ []) ++ kindTexts ++ ((hyphen ∷ []) ∷ [])
 
+-- a GPIO without a role has the last text, a hyphen
+abbrev pub noRole : ℕ
+noRole = 55
+
 -- 02 Slip 4 1: a role has five characters, the last of them spaces
 unfoldable pub roleText : ℕ → List ℕ
 roleText role = take 5 (getD roleTexts role [] ++ replicate 5 (code " "))
@@ -46,7 +47,3 @@ roleText role = take 5 (getD roleTexts role [] ++ replicate 5 (code " "))
 -- 02 Slip 4 1: a row is the GPIO in two digits, a space, the role and LF
 abbrev pub rowText : ℕ → ℕ → List ℕ
 rowText g role = twoDigits g ++ (code " " ∷ (roleText role ++ (code "\n" ∷ [])))
-
--- 02 Slip 4 1: 48 rows, that of GPIO 0 first
-unfoldable pub pageText : AddrLayout → CsDataLayout → List ℕ
-pageText a c = joined 48 (λ g. rowText g (roleOf a c g))

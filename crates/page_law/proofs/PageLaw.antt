@@ -13,14 +13,14 @@ use Rattle.lists.specs.Tab.{tab, joined}
 use Rattle.lists.proofs.Each.{each-at}
 use Rattle.addr_layout.specs.declared.layout.AddrLayout.{AddrLayout}
 use Rattle.cs_data_layout.specs.declared.layout.CsDataLayout.{CsDataLayout}
-use Rattle.pin_page.specs.Roles.{noRole, addrPageLines, csDataPageLines, roleOf}
-use Rattle.pin_page.specs.Text.{bytesOf, hyphen, roleTexts, roleText, rowText, pageText}
-use Rattle.pin_page.specs.Page.{layoutsIn}
-use Rattle.pin_page.specs.Law.{OrderLaw, Has, Shown, first, nothing, PageLaw, PageLaws}
-use Rattle.pin_page.proofs.Held.{first-least, first-held}
-use Rattle.pin_page.proofs.HasRoles.{has-held, held-has, has-some}
-use Rattle.pin_page.proofs.RowsLaid.{text-long, rows-long}
+use Rattle.page_rows.specs.Rows.{bytesOf, hyphen, noRole, roleTexts, roleText, rowText}
+use Rattle.page_rows.proofs.RowsLaid.{text-long, rows-long}
+use Rattle.pin_page.specs.Roles.{addrPageLines, csDataPageLines, roleOf}
+use Rattle.pin_page.specs.Page.{pageText, layoutsIn}
 use Rattle.pin_page.proofs.Writes.{role-in, page-long}
+use Rattle.page_law.specs.Law.{OrderLaw, Has, Shown, first, nothing, PageLaw, PageLaws}
+use Rattle.page_law.proofs.Held.{first-least, first-held}
+use Rattle.page_law.proofs.HasRoles.{has-held, held-has, has-some}
 
 order-law : OrderLaw
 order-law = record {

@@ -1,9 +1,9 @@
 -- `role_texts` meets its contract: the table is tried against the rule, all of it at once. Assumes nothing.
 use mathlib.Core.Path.{refl}
 use Rattle.lists.specs.Tab.{tab}
-use Rattle.pin_page.specs.Text.{bytesOf, roleTexts, roleText}
-use Rattle.pin_page.proofs.rows.role_texts.Statement.{statement}
-use Rattle.pin_page.proofs.rows.role_texts.Tie as tie
+use Rattle.page_rows.specs.Rows.{bytesOf, roleTexts, roleText}
+use Rattle.page_rows.proofs.role_texts.Statement.{statement}
+use Rattle.page_rows.proofs.role_texts.Tie as tie
 
 returns : tie.Need-returns
 unfolding tab bytesOf roleTexts roleText

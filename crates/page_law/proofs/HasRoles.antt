@@ -19,7 +19,8 @@ use Rattle.cs_data_layout.specs.declared.layout.CsDataLayout.{CsDataLayout}
 use Rattle.cs_data_layout.specs.declared.layout.SelectLine.{SelectLine}
 use Rattle.build_args.specs.Domain.{selectLineOf, selectLinesIn, csDataIn}
 use Rattle.build_args.proofs.Facts.{data-count}
+use Rattle.page_rows.specs.Rows.{noRole}
 use Rattle.pin_page.specs.Roles.{
   PageLine,
   pageLine,
   roleX1,
@@ -27,7 +28,6 @@ use Rattle.pin_page.specs.Roles.{
   roleSelect,
   roleHalf,
   roleCommoned,
-  noRole,
   addressLines,
   excessLines,
   dataLines,
@@ -37,10 +37,10 @@ use Rattle.pin_page.specs.Roles.{
   addrPageLines,
   csDataPageLines,
 }
 use Rattle.pin_page.specs.Page.{layoutsIn}
-use Rattle.pin_page.specs.Law.{LineOn, Has, address, data-line, x1, x1-line, x2, x2-line, select, excess, half-line, commoned}
+use Rattle.page_law.specs.Law.{LineOn, Has, address, data-line, x1, x1-line, x2, x2-line, select, excess, half-line, commoned}
 use Rattle.pin_page.proofs.Domain.{selects-in, commoned-in, line-role-in}
-use Rattle.pin_page.proofs.Held.{Held, Numbered, held-left, held-right, held-either, held-one, one-held}
+use Rattle.page_law.proofs.Held.{Held, Numbered, held-left, held-right, held-either, held-one, one-held}
 
 role-same : (l : PageLine) (r g : ℕ) → l ≡ pageLine r g → l .role ≡ r
 role-same l r g e = ap (λ (x : PageLine). x .role) e

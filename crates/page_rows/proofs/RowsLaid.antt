@@ -9,8 +9,7 @@ use Rattle.lists.specs.Tab.{tab, joined}
 use Rattle.lists.proofs.Tab.{getD-tab}
 use Rattle.laid_bytes.specs.Laid.{laid}
 use Rattle.laid_bytes.proofs.Laids.{laid-behind, laid-one}
-use Rattle.pin_page.specs.Roles.{noRole}
-use Rattle.pin_page.specs.Text.{digit, roleTexts, roleText, rowText}
+use Rattle.page_rows.specs.Rows.{noRole, digit, roleTexts, roleText, rowText}
 
 pub text-long : (role : ℕ) → length (roleText role) ≡ 5
 unfolding roleText

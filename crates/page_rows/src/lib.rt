@@ -1,4 +1,4 @@
-// The rows of the page.
+// The rows of the pin page: a GPIO in two digits, and the text of a role.
 use laid_bytes::put;
 use lists::array::entry;
 ghost use mathlib.Core.Path.{_≡_};
@@ -6,9 +6,8 @@ ghost use Prim.Native.Nat.{_*_, _≤_, _<_};
 ghost use lib.ListN.{length, getD};
 ghost use Rattle.lists.specs.Tab.{tab, joined};
 ghost use Rattle.laid_bytes.specs.Laid.{laid};
-ghost use Rattle.pin_page.specs.Roles.{noRole};
-ghost use Rattle.pin_page.specs.Text.{roleText, rowText};
-ghost use Rattle.pin_page.specs.design.Marks.{RolesIn};
+ghost use Rattle.page_rows.specs.Rows.{noRole, roleText, rowText};
+ghost use Rattle.page_rows.specs.design.Room.{RolesIn};
 
 // The texts of the roles, by their numbers; the last is that of none.
 const ROLE_TEXTS: [[u8; 5]; 56] = [

@@ -7,10 +7,10 @@ use borrow.Author.Needs.{needs}
 use Rattle.lists.specs.Tab.{joined}
 use Rattle.lists.proofs.Loops.{at-count}
 use Rattle.laid_bytes.specs.Laid.{laid}
-use Rattle.pin_page.specs.Text.{rowText}
-use Rattle.pin_page.proofs.RowsLaid.{rows-none, rows-turn}
-use Rattle.pin_page.proofs.rows.put_rows.Statement.{statement}
-use Rattle.pin_page.proofs.rows.put_rows.Tie as tie
+use Rattle.page_rows.specs.Rows.{rowText}
+use Rattle.page_rows.proofs.RowsLaid.{rows-none, rows-turn}
+use Rattle.page_rows.proofs.put_rows.Statement.{statement}
+use Rattle.page_rows.proofs.put_rows.Tie as tie
 
 abbrev Inv-loop : tie.InvT-loop
 Inv-loop page₀ roles texts gpio₀ page gpio =

@@ -9,9 +9,9 @@ use Rattle.addr_layout.specs.declared.layout.AddrLayout.{AddrLayout}
 use Rattle.cs_data_layout.specs.Layout.{line}
 use Rattle.cs_data_layout.specs.declared.layout.CsDataLayout.{CsDataLayout}
 use Rattle.build_args.specs.Domain.{selectLineOf}
-use Rattle.pin_page.specs.Roles.{roleA, roleD, roleX1, roleX2, roleSelect, roleHalf, roleCommoned, noRole, roleOf}
-use Rattle.pin_page.specs.Text.{hyphen, rowText, pageText}
-use Rattle.pin_page.specs.Page.{layoutsIn}
+use Rattle.page_rows.specs.Rows.{hyphen, noRole, rowText}
+use Rattle.pin_page.specs.Roles.{roleA, roleD, roleX1, roleX2, roleSelect, roleHalf, roleCommoned, roleOf}
+use Rattle.pin_page.specs.Page.{pageText, layoutsIn}
 
 -- 02 Slip 4 3: the order of the roles. The classes are in theirs, each behind all of the one before
 pub record OrderLaw : Type 0 where

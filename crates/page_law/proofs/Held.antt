@@ -8,7 +8,8 @@ use native.Mathlib.Omega.{arith}
 use lib.Dec.{eqb, leb}
 use borrow.Author.Tests.{eq-eqb, eqb-true, eqb-false, leb-true, leb-false}
 use Rattle.lists.specs.Tab.{tab}
-use Rattle.pin_page.specs.Roles.{PageLine, pageLine, noRole, firstRole}
+use Rattle.page_rows.specs.Rows.{noRole}
+use Rattle.pin_page.specs.Roles.{PageLine, pageLine, firstRole}
 
 -- one of the lines is on GPIO g and of role r
 unfoldable pub Held : List PageLine → ℕ → ℕ → Type 0

@@ -4,9 +4,9 @@ use native.Mathlib.Omega.{arith}
 use lib.ListN.{length, length-set}
 use denote.Ref.{now}
 use borrow.Author.Needs.{needs}
-use Rattle.pin_page.proofs.RowsLaid.{text-long, text-at, row-laid}
-use Rattle.pin_page.proofs.rows.put_row.Statement.{statement}
-use Rattle.pin_page.proofs.rows.put_row.Tie as tie
+use Rattle.page_rows.proofs.RowsLaid.{text-long, text-at, row-laid}
+use Rattle.page_rows.proofs.put_row.Statement.{statement}
+use Rattle.page_rows.proofs.put_row.Tie as tie
 
 slice-write-page-2 : tie.Need-slice-write-page-2
 slice-write-page-2 c = simp length-set (omega arith)

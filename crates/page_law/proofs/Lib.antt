@@ -1,0 +1,3 @@
+mod Held
+mod HasRoles
+pub mod PageLaw
