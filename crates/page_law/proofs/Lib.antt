@@ -1,3 +1,4 @@
+mod Texts
 mod Held
 mod HasRoles
 pub mod PageLaw

@@ -19,6 +19,7 @@ use Rattle.pin_page.specs.Roles.{addrPageLines, csDataPageLines, roleOf}
 use Rattle.pin_page.specs.Page.{pageText, layoutsIn}
 use Rattle.pin_page.proofs.Writes.{role-in, page-long}
 use Rattle.page_law.specs.Law.{OrderLaw, Has, Shown, first, nothing, PageLaw, PageLaws}
+use Rattle.page_law.proofs.Texts.{text-law}
 use Rattle.page_law.proofs.Held.{first-least, first-held}
 use Rattle.page_law.proofs.HasRoles.{has-held, held-has, has-some}
 
@@ -128,4 +129,4 @@ module _ (a : AddrLayout) (c : CsDataLayout) (d : layoutsIn a c ≡ true) where
   }
 
 pub page-laws : PageLaws
-page-laws = record { order = order-law; page = page-law; one-role = one-role }
+page-laws = record { order = order-law; texts = text-law; page = page-law; one-role = one-role }

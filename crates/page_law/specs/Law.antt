@@ -2,14 +2,16 @@
 use Prim.Native.Nat.{ℕ, _+_, _*_, _<_}
 use mathlib.Core.Path.{_≡_}
 use mathlib.Core.Bool.{Bool, true, false, cond}
-use lib.ListN.{length, getD}
+use mathlib.Core.List.{_++_}
+use lib.ListN.{length, getD, take}
 use Rattle.gpio.specs.declared.line.LineGpio.the-variants.{At}
+use Rattle.slot.specs.Description.{ceKind, oeKind, cs1Kind, cs2Kind, cs3Kind, cs4Kind}
 use Rattle.cs_roles.specs.Roles.{x1Role, x2Role, halfRole}
 use Rattle.addr_layout.specs.declared.layout.AddrLayout.{AddrLayout}
 use Rattle.cs_data_layout.specs.Layout.{line}
 use Rattle.cs_data_layout.specs.declared.layout.CsDataLayout.{CsDataLayout}
 use Rattle.build_args.specs.Domain.{selectLineOf}
-use Rattle.page_rows.specs.Rows.{hyphen, noRole, rowText}
+use Rattle.page_rows.specs.Rows.{bytesOf, lineText, hyphen, noRole, roleText, rowText}
 use Rattle.pin_page.specs.Roles.{roleA, roleD, roleX1, roleX2, roleSelect, roleHalf, roleCommoned, roleOf}
 use Rattle.pin_page.specs.Page.{pageText, layoutsIn}
 
@@ -27,6 +29,26 @@ pub record OrderLaw : Type 0 where
   pub datas : (n m : ℕ) → n < m → roleD n < roleD m
   pub selects : (j k : ℕ) → j < k → roleSelect j < roleSelect k
   pub commons : (j k : ℕ) → j < k → roleCommoned j < roleCommoned k
+
+-- the texts of the kinds, where the roles of these have the numbers that `role` gives
+pub record KindsLaw (role : ℕ → ℕ) : Type 0 where
+  pub ce : roleText (role ceKind) ≡ bytesOf "CE   "
+  pub oe : roleText (role oeKind) ≡ bytesOf "OE   "
+  pub cs1 : roleText (role cs1Kind) ≡ bytesOf "CS1  "
+  pub cs2 : roleText (role cs2Kind) ≡ bytesOf "CS2  "
+  pub cs3 : roleText (role cs3Kind) ≡ bytesOf "CS3  "
+  pub cs4 : roleText (role cs4Kind) ≡ bytesOf "CS4  "
+
+-- 02 Slip 4 2: each role's number has its text
+pub record TextLaw : Type 0 where
+  pub address : (n : ℕ) → n < 24 → roleText (roleA n) ≡ take 5 (lineText "A" n ++ bytesOf "   ")
+  pub data-line : (n : ℕ) → n < 16 → roleText (roleD n) ≡ take 5 (lineText "D" n ++ bytesOf "   ")
+  pub x1 : roleText roleX1 ≡ bytesOf "X1   "
+  pub x2 : roleText roleX2 ≡ bytesOf "X2   "
+  pub selects : KindsLaw roleSelect
+  pub half : roleText roleHalf ≡ bytesOf "HALF "
+  pub commons : KindsLaw roleCommoned
+  pub none : roleText noRole ≡ bytesOf "-    "
 
 -- a select line, or a commoned one, that is of this role in its layout and on GPIO g
 pub record LineOn (c : CsDataLayout) (isCommoned : Bool) (role g : ℕ) : Type 0 where
@@ -69,5 +91,6 @@ pub record PageLaw (a : AddrLayout) (c : CsDataLayout) : Type 0 where
 -- layouts that keep to the domain have a page, and the roles that it may show are one for each GPIO
 pub record PageLaws : Type 0 where
   pub order : OrderLaw
+  pub texts : TextLaw
   pub page : (a : AddrLayout) (c : CsDataLayout) → layoutsIn a c ≡ true → PageLaw a c
   pub one-role : (a : AddrLayout) (c : CsDataLayout) (g r s : ℕ) → Shown a c g r → Shown a c g s → r ≡ s
