@@ -45,6 +45,18 @@ module _ (c : CsDataLayout) (e : csDataIn c ≡ true) where
   front =
       and-left (bases && qualifiers && lines) selects (and-left (bases && qualifiers && lines && selects) commoned e)
 
+  pub selects-in : selectLinesIn c false (c .«num_select_lines») ≡ true
+  unfolding csDataIn bases qualifiers gpios lines selects commoned
+  selects-in =
+      and-right (leb (c .«num_select_lines») 30) (selectLinesIn c false (c .«num_select_lines»))
+      (and-right (bases && qualifiers && lines) selects (and-left (bases && qualifiers && lines && selects) commoned e))
+
+  pub commoned-in : selectLinesIn c true (c .«num_commoned_lines») ≡ true
+  unfolding csDataIn bases qualifiers gpios lines selects commoned
+  commoned-in =
+      and-right (leb (c .«num_commoned_lines») 6) (selectLinesIn c true (c .«num_commoned_lines»))
+      (and-right (bases && qualifiers && lines && selects) commoned e)
+
   pub data-count : (1 ≤ c .«num_data_pins») × (c .«num_data_pins» ≤ 16)
   unfolding lines
   data-count = between-is 1 16 (c .«num_data_pins») (and-left (between 1 16 (c .«num_data_pins»)) gpios (and-right (bases && qualifiers) lines front))

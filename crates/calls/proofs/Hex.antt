@@ -1,17 +1,17 @@
 -- What reading and writing Intel HEX answer fits into the one number. Assumes nothing.
 use mathlib.Core.Path.{_≡_, refl}
 use mathlib.Core.Bool.{Bool, true, false, not, cond}
-use mathlib.Core.List.{List, [], _∷_, _++_}
+use mathlib.Core.List.{List, [], _∷_}
 use Prim.Native.Nat.{ℕ, suc, _^_, _<_, _≤_}
 use native.Mathlib.Omega.{arith}
-use lib.Dec.{ltb, eqb}
-use lib.ListN.{length, drop}
+use lib.Dec.{eqb}
+use lib.ListN.{length}
 use borrow.Author.Tests.{ltb-false}
 use Rattle.refusal.specs.First.{orElse, faultIf}
 use Rattle.refusal.specs.Refusal.{placeOf, answerCode, writeCode}
 use Rattle.refusal.specs.declared.Answer.{Answer}
 use Rattle.refusal.specs.declared.WriteAnswer.{WriteAnswer}
-use Rattle.refusal.specs.declared.Refusal.the-variants.{OutOfDomain, ShortBuffer, BadRecord, BadChecksum, PastChip}
+use Rattle.refusal.specs.declared.Refusal.the-variants.{OutOfDomain, BadRecord, BadChecksum, PastChip}
 use Rattle.refusal.specs.declared.first.FirstFault.{FirstFault}
 use Rattle.refusal.specs.declared.first.FirstFault.the-variants.{None, Of}
 use Rattle.hex_base.specs.Size.{tooLong}
@@ -21,12 +21,12 @@ use Rattle.hex_read.specs.Read.{ofLine, behindEnd, judged, blank, stored, readA
 use Rattle.hex_read.specs.declared.judge.Verdict.{Verdict}
 use Rattle.hex_read.specs.declared.judge.Verdict.the-variants.{Sound, Fault}
 use Rattle.hex_write.specs.Text.{hexText}
-use Rattle.hex_write.specs.Write.{Wrote, wroteAs, writeOf}
+use Rattle.hex_write.specs.Write.{wroteAs, written, writeOf}
 use Rattle.hex_write.proofs.Length.{length-law}
 use Rattle.calls.specs.Hex.{HexUnpacks}
 use Rattle.calls.specs.Law.{Unpacks}
 use Rattle.calls.proofs.Law.{done-alone}
-use Rattle.calls.proofs.Unpacked.{number-back, place-back}
+use Rattle.calls.proofs.Unpacked.{number-back, place-back, written-small}
 
 -- a verdict's refusal has a place of 48 bits: 26, 27 and 28 have none
 abbrev Small : Verdict → Type 0
@@ -64,16 +64,11 @@ read-small text chip = by (tooLong (length chip)) (verdictOf text (length chip))
 -- a text's length is far below 2^48
 write-small : (chip text : List ℕ) → writeCode (writeOf chip text .answer) .place < 2 ^ 48
 unfolding writeOf
-write-small chip text = by (tooLong (length chip)) (ltb (length text) (length (hexText chip))) short
+write-small chip text = by (tooLong (length chip)) refl
   where
-    short : tooLong (length chip) ≡ false → length (hexText chip) < 2 ^ 48
-    short e = omega (arith, length-law chip, ltb-false (2 ^ 24) (length chip) e)
-
-    by : (t u : Bool) → (t ≡ false → length (hexText chip) < 2 ^ 48)
-        → writeCode (cond t (wroteAs (WriteAnswer.Refused OutOfDomain) text) (cond u (wroteAs (WriteAnswer.Refused ShortBuffer) text) (wroteAs (WriteAnswer.Written (length (hexText chip))) (hexText chip ++ drop (length (hexText chip)) text))) .answer) .place < 2 ^ 48
-    by true u h = omega arith
-    by false true h = omega arith
-    by false false h = h refl
+    by : (t : Bool) → tooLong (length chip) ≡ t → writeCode (cond t (wroteAs (WriteAnswer.Refused OutOfDomain) text) (written (hexText chip) text) .answer) .place < 2 ^ 48
+    by true e = omega arith
+    by false e = written-small (hexText chip) text (omega (arith, length-law chip, ltb-false (2 ^ 24) (length chip) e))
 
 pub hex-unpacks : HexUnpacks
 hex-unpacks = record {

@@ -1,29 +1,20 @@
 -- What writing a page answers fits into the one number. Assumes nothing.
 use mathlib.Core.Bool.{Bool, true, false, cond}
-use mathlib.Core.List.{List, _++_}
+use mathlib.Core.List.{List}
 use Prim.Native.Nat.{ℕ, _^_, _<_}
 use native.Mathlib.Omega.{arith}
-use lib.Dec.{ltb}
-use lib.ListN.{length, drop}
 use Rattle.refusal.specs.Refusal.{writeCode}
-use Rattle.refusal.specs.declared.WriteAnswer.the-variants.{Written, Refused}
-use Rattle.refusal.specs.declared.Refusal.the-variants.{OutOfDomain, ShortBuffer}
+use Rattle.refusal.specs.declared.WriteAnswer.the-variants.{Refused}
+use Rattle.refusal.specs.declared.Refusal.the-variants.{OutOfDomain}
 use Rattle.addr_record.specs.AddrRecord.{layoutAt}
 use Rattle.cs_data_record.specs.CsDataRecord.{csDataAt}
 use Rattle.hex_write.specs.Write.{wroteAs, written}
 use Rattle.pin_page.specs.Page.{pageText, layoutsIn, pageOf}
 use Rattle.pin_page.proofs.Writes.{page-long}
 use Rattle.calls.specs.Page.{layoutsFormed, pageCall, PageUnpacks}
-use Rattle.calls.proofs.Unpacked.{number-back, place-back}
+use Rattle.calls.proofs.Unpacked.{number-back, place-back, written-small}
 
--- a refusal by 1 or 16 has no place, and a page has 432 bytes
-written-small : (text page : List ℕ) → length text < 2 ^ 48 → writeCode (written text page .answer) .place < 2 ^ 48
-written-small text page h = by (ltb (length page) (length text))
-  where
-    by : (t : Bool) → writeCode (cond t (wroteAs (Refused ShortBuffer) page) (wroteAs (Written (length text)) (text ++ drop (length text) page)) .answer) .place < 2 ^ 48
-    by true = omega arith
-    by false = h
-
+-- a refusal by 1 has no place, and a page has 432 bytes
 page-small : (addr csData page : List ℕ) → writeCode (pageCall addr csData page .answer) .place < 2 ^ 48
 unfolding pageCall pageOf
 page-small addr csData page =

@@ -18,7 +18,7 @@ use Rattle.cs_data_layout.specs.Layout.{line}
 use Rattle.cs_data_layout.specs.declared.layout.CsDataLayout.{CsDataLayout}
 use Rattle.cs_data_layout.specs.declared.layout.SelectLine.{SelectLine}
 use Rattle.build_args.specs.Domain.{selectLineOf, selectLinesIn, csDataIn}
-use Rattle.build_args.proofs.Facts.{data-count}
+use Rattle.build_args.proofs.Facts.{data-count, selects-in, commoned-in}
 use Rattle.page_rows.specs.Rows.{noRole}
 use Rattle.pin_page.specs.Roles.{
   PageLine,
@@ -39,7 +39,7 @@ use Rattle.pin_page.specs.Roles.{
 }
 use Rattle.pin_page.specs.Page.{layoutsIn}
 use Rattle.page_law.specs.Law.{LineOn, Has, address, data-line, x1, x1-line, x2, x2-line, select, excess, half-line, commoned}
-use Rattle.pin_page.proofs.Domain.{selects-in, commoned-in, line-role-in}
+use Rattle.pin_page.proofs.Domain.{line-role-in}
 use Rattle.page_law.proofs.Held.{Held, Numbered, held-left, held-right, held-either, held-one, one-held}
 
 role-same : (l : PageLine) (r g : ℕ) → l ≡ pageLine r g → l .role ≡ r
@@ -139,9 +139,9 @@ module _ (a : AddrLayout) (c : CsDataLayout) (g r : ℕ) where
   pub has-held : Has a c g r → Held (addrLines ++ csLines) g r
   unfolding addrPageLines csDataPageLines
   has-held (address n l e q) =
-      in-addr (held-left g r (addressLines a) _ (held-one g r _ _ (record { at = n; within = l; is = ap (pageLine _) e ∙ ap (λ s. pageLine s g) (sym q) })))
+      in-addr (held-left g r (addressLines a) _ (held-one g r (a .«num_lines») _ (record { at = n; within = l; is = ap (pageLine _) e ∙ ap (λ s. pageLine s g) (sym q) })))
   has-held (data-line n l e q) =
-      in-cs (held-left g r (dataLines c) _ (held-one g r _ _ (record { at = n; within = l; is = ap (pageLine _) e ∙ ap (λ s. pageLine s g) (sym q) })))
+      in-cs (held-left g r (dataLines c) _ (held-one g r (c .«num_data_pins») _ (record { at = n; within = l; is = ap (pageLine _) e ∙ ap (λ s. pageLine s g) (sym q) })))
   has-held (x1 e q) = in-addr (held-right g r (addressLines a) _ (held-left g r (xLine roleX1 (a .«x1_gpio»)) _ (x-held roleX1 _ e q)))
   has-held (x1-line b l q) = by-line b x1Role l q
   has-held (x2 e q) =
@@ -150,7 +150,7 @@ module _ (a : AddrLayout) (c : CsDataLayout) (g r : ℕ) where
   has-held (select kind h l q) = by-line false kind l (q ∙ sym (kind-role false kind h))
   has-held (excess k l e q) =
       in-addr (held-right g r (addressLines a) _ (held-right g r (xLine roleX1 (a .«x1_gpio»)) _ (held-right g r (xLine roleX2 (a .«x2_gpio»)) _
-      (held-one g r _ _ (record { at = k; within = l; is = ap (pageLine roleHalf) e ∙ ap (λ s. pageLine s g) (sym q) })))))
+      (held-one g r (a .«num_excess») _ (record { at = k; within = l; is = ap (pageLine roleHalf) e ∙ ap (λ s. pageLine s g) (sym q) })))))
   has-held (half-line b l q) = by-line b halfRole l q
   has-held (commoned kind h l q) = by-line true kind l (q ∙ sym (kind-role true kind h))
 

@@ -15,7 +15,7 @@ use Rattle.cs_data_layout.specs.declared.layout.CsDataLayout.{CsDataLayout}
 use Rattle.laid_bytes.specs.Laid.{laid}
 use Rattle.laid_bytes.proofs.Laids.{laid-front}
 use Rattle.hex_write.specs.Write.{wroteAs}
-use Rattle.page_rows.specs.Rows.{rowText}
+use Rattle.page_rows.specs.Rows.{noRole, rowText}
 use Rattle.page_rows.specs.design.Room.{RolesIn}
 use Rattle.page_rows.proofs.RowsLaid.{rows-long}
 use Rattle.pin_page.specs.Roles.{roleOf}
@@ -23,7 +23,7 @@ use Rattle.pin_page.specs.Page.{pageText, layoutsIn, pageOf}
 use Rattle.pin_page.proofs.Firsts.{first-in}
 
 module _ (a : AddrLayout) (c : CsDataLayout) where
-  pub role-in : (g : ℕ) → roleOf a c g ≤ 55
+  pub role-in : (g : ℕ) → roleOf a c g ≤ noRole
   unfolding roleOf
   role-in g = first-in _ g
 

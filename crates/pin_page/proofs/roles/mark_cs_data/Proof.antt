@@ -1,9 +1,8 @@
 -- `mark_cs_data` meets its contract. Assumes nothing.
 use native.Mathlib.Omega.{arith}
 use borrow.Author.Needs.{needs}
-use Rattle.build_args.proofs.Facts.{data-count}
+use Rattle.build_args.proofs.Facts.{data-count, selects-in, commoned-in}
 use Rattle.pin_page.specs.Roles.{csDataPageLines}
-use Rattle.pin_page.proofs.Domain.{selects-in, commoned-in}
 use Rattle.pin_page.proofs.Marks.{marked-behind}
 use Rattle.pin_page.proofs.roles.mark_cs_data.Statement.{statement}
 use Rattle.pin_page.proofs.roles.mark_cs_data.Tie as tie
