@@ -70,8 +70,9 @@ int main(void)
         rom[k] = (uint8_t)(37 * k);
     spans[ONEROM_IMAGE_SPAN_GIVEN] = 1;            /* chip 0 has bytes, from 0 on */
     spans[ONEROM_IMAGE_SPAN_LENGTH + 1] = 1;       /* 256 of them */
-    if (refused("round trip", onerom_round_trip(description, sizeof description, spans, sizeof spans, rom, sizeof rom, table,
-                                                sizeof table, output, sizeof output, marks, sizeof marks)))
+    if (refused("round trip", onerom_round_trip(description, sizeof description, spans, sizeof spans, rom, sizeof rom,
+                                                ONEROM_ORDER_LOW_FIRST, table, sizeof table, output, sizeof output,
+                                                marks, sizeof marks)))
         return 1;
     printf("%s\n", memcmp(output, rom, sizeof rom) == 0 ? "reads back" : "does not read back");
     return 0;

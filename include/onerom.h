@@ -6,6 +6,16 @@
  * any but null. A slice that is lent for writing overlaps no other slice of its call; those that are only read
  * may share bytes. No alignment is asked, nothing is kept after the call, and calls on different buffers may run
  * side by side. A parameter that is a value is one number of 64 bits.
+ *
+ * Three calls take order, the byte order of the dumps: which of the two bytes that a word of two bytes has in a
+ * chip's dump is its high one. Word n of a chip is made of the chip's bytes 2n and 2n + 1. Low byte first, byte
+ * 2n is the low one and 2n + 1 the high one; high byte first, 2n is the high one. The order is one for all chips
+ * of a call. A build goes by it where it takes a word out of images, a read-back where it puts one into output.
+ * The entries of a table are low byte first under either order, and the pad has two equal bytes. Words of one
+ * byte are the same under both, and so are a plugin's bytes, refusals 23 and 24 and their places. Where words
+ * have two bytes, the last byte of a chip whose size is odd is in no word under either. A table does not say
+ * which order it was built with: the one who reads it back names it again. Any other number than 0 and 1 is
+ * refusal 1 before all else, also for words of one byte and for a plugin, and whatever the records are.
  */
 #ifndef ONEROM_H
 #define ONEROM_H
@@ -18,7 +28,7 @@ extern "C" {
 #endif
 
 /* The version of this interface: an older caller is answered as before while it stays. */
-#define ONEROM_INTERFACE_VERSION 1
+#define ONEROM_INTERFACE_VERSION 2
 
 /* A call returns one number of 64 bits: 0 if it succeeded, else the refusal's number times 2^48 plus its place. So
    the number is the result shifted right by 48, and the place its low 48 bits (onerom_number and onerom_place in
@@ -274,6 +284,14 @@ enum {
     ONEROM_BIT_MODE_8 = 0,
     /* Words of two bytes. */
     ONEROM_BIT_MODE_16 = 1,
+};
+
+/* Byte orders. */
+enum {
+    /* A word's low byte comes first in a dump. */
+    ONEROM_ORDER_LOW_FIRST = 0,
+    /* A word's high byte comes first in a dump. */
+    ONEROM_ORDER_HIGH_FIRST = 1,
 };
 
 /* Kinds of overrides. */
@@ -635,14 +653,15 @@ uint64_t onerom_derive_cs_data_layout(const uint8_t *description, size_t descrip
  *   cs_data_layout: read, select layout record
  *   spans: read, image spans record
  *   images: read, the chips' bytes
+ *   order: value, byte order of the chips' bytes, 0 low byte first, 1 high byte first
  *   table: lent, for the table, its size or more
  *
  * The number of the result; table as before the call where no more is said:
  *
  *   0: the table is built. Afterwards its first bytes, as many as the table has, are the table, later ones as
  *       before.
- *   ONEROM_OUT_OF_DOMAIN: bytes that are no record, or what they describe is outside the domain, such as a
- *       candidate above 29 on package A.
+ *   ONEROM_OUT_OF_DOMAIN: order is neither 0 nor 1, bytes that are no record, or what they describe is outside the
+ *       domain, such as a candidate above 29 on package A.
  *   ONEROM_ROM_TABLE_TOO_LARGE: the table is larger than the description allows.
  *   ONEROM_INVALID_CONFIG: not 1 chip (Single), 2 to 4 (Banked), 2 or 3 (Multi).
  *   ONEROM_BAD_POSITION: the GPIO of an address line in use, of a line that picks a chip or of a data line lies
@@ -652,13 +671,14 @@ uint64_t onerom_derive_cs_data_layout(const uint8_t *description, size_t descrip
  *   ONEROM_SHORT_IMAGE_DATA, place chip: a chip has fewer bytes than its size.
  *   ONEROM_SHORT_BUFFER: everything else is well, and table has fewer bytes than the table: lend more.
  *
- * 1 comes first; then 11, 13 for an address line, 12, 13 for another line, 14, 15, 16. Chips are counted from 0,
- * and the lowest answers. No bytes for the address layout are 1 here: a build needs one.
+ * 1 comes first, for order before the records are looked at; then 11, 13 for an address line, 12, 13 for another
+ * line, 14, 15, 16. Chips are counted from 0, and the lowest answers. No bytes for the address layout are 1 here:
+ * a build needs one.
  */
 uint64_t onerom_build_rom_image(const uint8_t *description, size_t description_len, const uint8_t *addr_layout,
                                 size_t addr_layout_len, const uint8_t *cs_data_layout, size_t cs_data_layout_len,
                                 const uint8_t *spans, size_t spans_len, const uint8_t *images, size_t images_len,
-                                uint8_t *table, size_t table_len);
+                                uint64_t order, uint8_t *table, size_t table_len);
 
 /*
  * Reads back what a slot stores: the words of its ROMs, ROM after ROM, and a mark for each. A ROM has as many
@@ -667,6 +687,7 @@ uint64_t onerom_build_rom_image(const uint8_t *description, size_t description_l
  *
  *   slot: read, stored slot record
  *   stored: read, the bytes that are stored
+ *   order: value, byte order of the words in output, 0 low byte first, 1 high byte first
  *   output: lent, for the ROMs' bytes, w a word counted, or more; for a plugin as many as are stored
  *   marks: lent, for the marks, one byte a word counted, or more; none for a plugin
  *
@@ -676,7 +697,8 @@ uint64_t onerom_build_rom_image(const uint8_t *description, size_t description_l
  *       before.
  *   0: a plugin: its bytes are copied. Afterwards the first bytes of output are those stored, later ones and marks
  *       as before.
- *   ONEROM_OUT_OF_DOMAIN: bytes that are no record, or what they describe is outside the domain.
+ *   ONEROM_OUT_OF_DOMAIN: order is neither 0 nor 1, bytes that are no record, or what they describe is outside the
+ *       domain.
  *   ONEROM_SHORT_BUFFER: output or marks is too short: lend more.
  *   ONEROM_WRONG_SIZE: stored is not as long as the declared size.
  *   ONEROM_UNKNOWN_SLOT_TYPE: the slot kind is unknown.
@@ -693,25 +715,27 @@ uint64_t onerom_build_rom_image(const uint8_t *description, size_t description_l
  *   ONEROM_UNSERVED, place ROM and address: a word has no entry: the lowest ROM, then the lowest address.
  *       Afterwards 0 over the words counted, later bytes as before.
  *
- * The order: 1, 17, 18; a plugin then 16 alone. 19 for the layout, 20 and 21 for the address algorithm and base,
- * for the data algorithm and base, 20 for DMA algorithm and bit mode, 21 for the pins and the length. ROM by ROM
- * 19, then 21 for the address lines and for the data lines. 21 for the number of ROMs, 22 for X1 and then X2, 20
- * and 21 for the select of Multi, 16, 23, 24.
+ * Refusals come in this order: 1, 17, 18; a plugin then 16 alone. 19 for the layout, 20 and 21 for the address
+ * algorithm and base, for the data algorithm and base, 20 for DMA algorithm and bit mode, 21 for the pins and the
+ * length. ROM by ROM 19, then 21 for the address lines and for the data lines. 21 for the number of ROMs, 22 for
+ * X1 and then X2, 20 and 21 for the select of Multi, 16, 23, 24.
  */
 uint64_t onerom_unscramble_slot(const uint8_t *slot, size_t slot_len, const uint8_t *stored, size_t stored_len,
-                                uint8_t *output, size_t output_len, uint8_t *marks, size_t marks_len);
+                                uint64_t order, uint8_t *output, size_t output_len, uint8_t *marks, size_t marks_len);
 
 /*
  * Runs both searches, the build and the read-back in turn. The select search is given the found address layout,
- * and the build both layouts. Read-back is given the table's own bytes, and a slot of the found layouts: the
- * table's length as its size, the kind of the set type, base and pins of the address layout, base and base data
- * pin of the select layout, algorithms 0, the bit mode of the word bytes, the first select line's GPIO as select
- * base, base pins 0 for address and select, no overrides, the description's X candidates, and for each chip its
- * size and the maps of the address lines in use and of the data lines.
+ * and the build both layouts. Build and read-back are given the same byte order. Read-back is given the table's
+ * own bytes, and a slot of the found layouts: the table's length as its size, the kind of the set type, base and
+ * pins of the address layout, base and base data pin of the select layout, algorithms 0, the bit mode of the word
+ * bytes, the first select line's GPIO as select base, base pins 0 for address and select, no overrides, the
+ * description's X candidates, and for each chip its size and the maps of the address lines in use and of the data
+ * lines.
  *
  *   description: read, description record
  *   spans: read, image spans record
  *   images: read, the chips' bytes
+ *   order: value, byte order of the chips' bytes and of output, 0 low byte first, 1 high byte first
  *   table: lent, for the table, its size or more
  *   output: lent, for the chips' bytes, as in the read-back
  *   marks: lent, for the marks, as in the read-back
@@ -724,17 +748,17 @@ uint64_t onerom_unscramble_slot(const uint8_t *slot, size_t slot_len, const uint
  *   any of the read-back's: the table is built, and the read-back refuses. Afterwards the first bytes of table are
  *       the table, later ones as before; output and marks are what the read-back leaves.
  *
- * Bytes that are no record, spans or description, and a candidate above 29 on package A are 1 before anything
- * else; then the first of the four that refuses answers. 16 is said of table last in the build, of output and
- * marks only when the table is built. Number 3 names a socket pin if the address search refuses and a chip pin if
- * the select search does; the single calls tell which.
+ * An order that is neither 0 nor 1, bytes that are no record, spans or description, and a candidate above 29 on
+ * package A are 1 before anything else; then the first of the four that refuses answers. 16 is said of table last
+ * in the build, of output and marks only when the table is built. Number 3 names a socket pin if the address
+ * search refuses and a chip pin if the select search does; the single calls tell which.
  *
  * If the slot is well wired, which onerom_well_wired tests, and the four succeed, each chip's words are the first
- * of its bytes in images, byte for byte. Where it is not, words can come back as others.
+ * of its bytes in images, byte for byte, under either order. Where it is not, words can come back as others.
  */
 uint64_t onerom_round_trip(const uint8_t *description, size_t description_len, const uint8_t *spans, size_t spans_len,
-                           const uint8_t *images, size_t images_len, uint8_t *table, size_t table_len, uint8_t *output,
-                           size_t output_len, uint8_t *marks, size_t marks_len);
+                           const uint8_t *images, size_t images_len, uint64_t order, uint8_t *table, size_t table_len,
+                           uint8_t *output, size_t output_len, uint8_t *marks, size_t marks_len);
 
 /*
  * Tests whether a slot is well wired with the address layout that was found for it: no GPIO is a candidate of two

@@ -7,32 +7,33 @@ pub mod fenced;
 pub mod hex;
 mod hex_fenced;
 mod images;
+mod orders;
 pub mod page;
 mod page_fenced;
 pub mod read_back;
 mod records;
 pub mod round_trip;
 pub mod searches;
+mod seen;
 mod tried;
 
-use std::collections::BTreeMap;
-use std::fmt;
 use std::process::ExitCode;
 
 use onerom::interface::refusals;
-use oracle::case::{Case, line_of};
+use oracle::case::Case;
 use oracle::engine::Engine;
-use oracle::model::Model;
-use oracle::tally::Tally;
-use oracle::{differences, generate};
+use oracle::generate;
+use oracle::random::Random;
 
 use build::Build;
-use calls::{Answer, Call};
+use calls::Call;
 use damage::Damage;
 use fenced::{Fences, Turn};
+use orders::Way;
 use read_back::ReadBack;
 use round_trip::RoundTrip;
 use searches::{AddressSearch, SelectSearch};
+use seen::Seen;
 
 use crate::ending::{Done, Fault, say};
 use crate::progress::Progress;
@@ -47,8 +48,8 @@ const UNSERVED: u64 = refusals::UNSERVED as u64;
 /// A result has the refusal's number from this bit on, and its place below.
 const PLACES: u32 = 48;
 
-/// Each case of each call as it is, with a buffer that is too short, and with wrong records. Fails on
-/// any difference that is on no list.
+/// Each case of each call as it is, with a buffer that is too short, with wrong records, and in both
+/// byte orders. Fails on any difference that is on no list.
 pub fn compare(seed: u64, count: u64) -> Done {
     let run = Run::of(seed, count)?;
     judged(&[
@@ -76,19 +77,22 @@ fn case_of<const READ: usize, const LENT: usize, C: Call<READ, LENT>>(
     generate::case(seed, number, &[C::KIND])
 }
 
-/// How many cases there were as generated and with wrong records, and how many differed.
+/// How many cases there were as generated and with wrong records, how many of both ran once more or
+/// twice high byte first, and how many differed.
+#[derive(Default)]
 struct Count {
     whole: u64,
     wrong: u64,
+    high: u64,
     different: u64,
 }
 
 fn judged(counts: &[Count]) -> Done {
     let sum = |one: fn(&Count) -> u64| counts.iter().map(one).sum::<u64>();
     let [whole, wrong] = [sum(|count| count.whole), sum(|count| count.wrong)];
-    let different = sum(|count| count.different);
+    let [high, different] = [sum(|count| count.high), sum(|count| count.different)];
     say(&format!(
-        "in all {whole} cases, {wrong} with wrong records, {different} differences\n"
+        "in all {whole} cases, {wrong} with wrong records, {high} runs high byte first, {different} differences\n"
     ))?;
     Ok(if different == 0 {
         ExitCode::SUCCESS
@@ -130,148 +134,113 @@ impl Run {
     ) -> Result<Count, Fault> {
         let mut progress = Progress::new(C::NAME, self.count);
         let mut fences = Fences::default();
-        let mut whole = Seen::default();
-        let mut wrong = Damage::ALL.map(|damage| (damage, Seen::default()));
+        let mut trials = Trial::all(C::TAKES_ORDER);
         for number in 0..self.count {
             let case = cases(self.seed, number);
-            let Some(call) = C::of(&case) else {
-                continue;
-            };
-            let turn = Turn::of(number);
-            let (answer, good) = fences.answer_and_shorts(&call, turn);
-            whole.add(&call, answer, good, Some(&case), self.original);
-            for (damage, seen) in &mut wrong {
-                let (call, case) = damage.done(&call, &mut damage.random(self.seed, number));
-                let (answer, good) = fences.answer_and_shorts(&call, turn);
-                seen.add(&call, answer, good, case.as_ref(), self.original);
+            if let Some(call) = C::of(&case) {
+                for trial in &mut trials {
+                    self.try_case(trial, &call, &case, number, &mut fences);
+                }
             }
             progress.step(number + 1);
         }
         drop(progress);
-        say(&format!("{}, the oracle's cases\n{whole}", C::NAME))?;
-        for (damage, seen) in &wrong {
-            let name = damage.name();
-            say(&format!("{}, the same with {name}\n{seen}", C::NAME))?;
+        let mut count = Count::default();
+        for trial in &trials {
+            say(&format!("{}, {}\n{}", C::NAME, trial.name(), trial.seen))?;
+            trial.add_to(&mut count);
         }
-        let wrong = || wrong.iter().map(|(_, seen)| seen);
-        Ok(Count {
-            whole: whole.count,
-            wrong: wrong().map(|seen| seen.count).sum(),
-            different: whole.differences() + wrong().map(Seen::differences).sum::<u64>(),
-        })
+        Ok(count)
+    }
+
+    fn try_case<const READ: usize, const LENT: usize, C: Call<READ, LENT>>(
+        &self,
+        trial: &mut Trial,
+        call: &C,
+        case: &Case,
+        number: u64,
+        fences: &mut Fences<READ, LENT>,
+    ) {
+        let turn = Turn::of(number);
+        match trial.damage {
+            None if trial.way == Way::Low => trial.make(call, Some(case), fences, turn, self),
+            None => {
+                let mut call = call.clone();
+                trial.way.set(&mut call);
+                trial.make(&call, Some(case), fences, turn, self);
+            }
+            Some(damage) => {
+                let random = &mut damage.random(self.seed, number);
+                let (mut call, case) = damage.done(call, random);
+                trial.way.set(&mut call);
+                trial.make(&call, case.as_ref(), fences, turn, self);
+            }
+        }
     }
 }
 
-#[derive(Default)]
-struct Seen {
-    count: u64,
-    /// How many no case can be, so that docs/INTERFACE.md alone has their answer.
-    unsaid: u64,
-    tally: Tally,
-    /// Where the original parts from 01, by the number in docs/DIFFERENCES.md.
-    listed: BTreeMap<u32, u64>,
-    different: BTreeMap<&'static str, u64>,
-    example: Option<String>,
+/// The cases as they are or with wrong records, in one way.
+struct Trial {
+    damage: Option<Damage>,
+    way: Way,
+    /// Numbers that are no byte order.
+    others: Random,
+    seen: Seen,
 }
 
-impl Seen {
-    /// Holds the library's answer against those of the judges to the same case; without a case,
-    /// against 1.
-    fn add<const READ: usize, const LENT: usize, C: Call<READ, LENT>>(
+impl Trial {
+    /// First the cases as they are; in more ways than one if the call takes a byte order.
+    fn all(takes_order: bool) -> Vec<Self> {
+        let whole = Way::OF_CASES.map(|way| (None, way)).into_iter();
+        let wrong = Damage::ALL.into_iter().flat_map(|damage| {
+            let ways = Way::OF_WRONG_RECORDS.into_iter();
+            ways.map(move |way| (Some(damage), way))
+        });
+        let trial = |(number, (damage, way))| Self {
+            damage,
+            way,
+            others: Random::of_case(OTHER_ORDERS, number),
+            seen: Seen::default(),
+        };
+        let all = whole.chain(wrong);
+        let own = all.filter(|(_, way)| takes_order || *way == Way::Low);
+        (0..).zip(own).map(trial).collect()
+    }
+
+    fn name(&self) -> String {
+        let way = self.way.name();
+        match self.damage {
+            None if self.way == Way::Low => "the oracle's cases".into(),
+            None => format!("the same{way}"),
+            Some(damage) => format!("the same with {}{way}", damage.name()),
+        }
+    }
+
+    /// Makes a call, and holds the library's answer against those of the judges to its case.
+    fn make<const READ: usize, const LENT: usize, C: Call<READ, LENT>>(
         &mut self,
         call: &C,
-        ours: Answer,
-        refuses_short_buffers: bool,
         case: Option<&Case>,
-        original: Option<&dyn Engine>,
+        fences: &mut Fences<READ, LENT>,
+        turn: Turn,
+        run: &Run,
     ) {
-        self.count += 1;
-        self.tally.add(&ours.line);
-        let wanted = match case {
-            Some(case) => self.wanted(case, original),
-            None => {
-                self.unsaid += 1;
-                vec![("docs/INTERFACE.md", no_record::<READ, LENT, C>())]
-            }
-        };
-        let handed_in = || case.map_or_else(|| format!("{:?}", call.read()), Case::line);
-        for (who, theirs) in wanted {
-            if ours != theirs {
-                self.note(who, &handed_in(), &ours.line, &theirs.line);
-            }
-        }
-        if !refuses_short_buffers {
-            let (who, wanted) = ("01 on a buffer too short", "16, nothing written");
-            self.note(who, &handed_in(), &ours.line, wanted);
-        }
+        let other = orders::other(&mut self.others);
+        let (answer, refuses) = fences.answer_and_refusals(call, other, turn);
+        let judges = self.way.judges(run.original);
+        self.seen.add(call, answer, refuses, case, judges);
     }
 
-    /// Whose answers count: the model's alone where there is no other judge, and where
-    /// docs/DIFFERENCES.md has the case.
-    fn wanted(
-        &mut self,
-        case: &Case,
-        original: Option<&dyn Engine>,
-    ) -> Vec<(&'static str, Answer)> {
-        let model = Answer::of(&Model, case);
-        let Some(original) = original.map(|original| Answer::of(original, case)) else {
-            return vec![("the model", model)];
+    fn add_to(&self, count: &mut Count) {
+        let number = match (self.way, self.damage) {
+            (Way::Low, None) => &mut count.whole,
+            (Way::Low, Some(_)) => &mut count.wrong,
+            (Way::High | Way::Swapped, _) => &mut count.high,
         };
-        let listed = if original == model {
-            None
-        } else {
-            differences::number(case, &original.line, &model.line)
-        };
-        let Some(number) = listed else {
-            return vec![("the original", original), ("the model", model)];
-        };
-        *self.listed.entry(number).or_default() += 1;
-        vec![("the model", model)]
-    }
-
-    fn note(&mut self, who: &'static str, case: &str, ours: &str, theirs: &str) {
-        *self.different.entry(who).or_default() += 1;
-        self.example
-            .get_or_insert_with(|| format!("  case {case}\n  ours {ours}\n  {who}: {theirs}"));
-    }
-
-    fn differences(&self) -> u64 {
-        self.different.values().sum()
+        *number += self.seen.count;
+        count.different += self.seen.differences();
     }
 }
 
-impl fmt::Display for Seen {
-    fn fmt(&self, f: &mut fmt::Formatter<'_>) -> fmt::Result {
-        self.tally.fmt(f)?;
-        if self.unsaid > 0 {
-            writeln!(f, "  held against docs/INTERFACE.md alone: {}", self.unsaid)?;
-        }
-        for (listed, number) in &self.listed {
-            writeln!(
-                f,
-                "  held against the model alone, difference {listed}: {number}"
-            )?;
-        }
-        for (who, number) in &self.different {
-            writeln!(f, "  different from {who}: {number}")?;
-        }
-        if let Some(example) = &self.example {
-            writeln!(f, "{example}")?;
-        }
-        writeln!(
-            f,
-            "{} cases, {} differences",
-            self.count,
-            self.differences()
-        )
-    }
-}
-
-/// The answer to bytes that are no record.
-fn no_record<const READ: usize, const LENT: usize, C: Call<READ, LENT>>() -> Answer {
-    let numbers = [&[C::KIND, OUT_OF_DOMAIN, 0], C::NO_RECORD].concat();
-    Answer {
-        line: line_of(&numbers),
-        bytes: Vec::new(),
-    }
-}
+/// The seed of numbers that are no byte order.
+const OTHER_ORDERS: u64 = 5;

@@ -5,11 +5,12 @@ use std::fs::File;
 use std::io::{self, Read};
 use std::path::{Path, PathBuf};
 
-use onerom::Description;
 use onerom::images::LARGEST_CHIP;
+use onerom::{ByteOrder, Description};
 use onerom_bench::text;
-use onerom_bench::text::{Included, TextError};
+use onerom_bench::text::{Included, Ordered, TextError};
 
+use crate::byte_order::byte_order;
 use crate::commands::Flags;
 use crate::ending::Fault;
 use crate::hex_files::{HEX, READ_AT_MOST, chip_of, is_hex};
@@ -25,6 +26,8 @@ type Image = Option<Vec<u8>>;
 /// A slot and its chips' bytes.
 pub struct Inputs {
     pub slot: Description,
+    /// That of the chips' bytes.
+    pub order: ByteOrder,
     /// All that is read: the description, what it includes, and the chips' files.
     pub files: Vec<PathBuf>,
     /// What is to be said of texts of Intel HEX that leave bytes open.
@@ -39,7 +42,8 @@ impl Inputs {
     /// From a description's file and one for each chip, which has just the chip's bytes unless any
     /// length will do, or is a text of Intel HEX.
     pub fn read(file: &Path, chips: &[OsString], flags: &Flags) -> Result<Self, Fault> {
-        let (slot, mut files) = described(file)?;
+        let (Ordered { slot, order }, mut files) = described(file)?;
+        let order = byte_order(file, order.as_ref(), flags)?;
         expect_files(file, "chips", slot.chips.len(), chips)?;
         let (mut open, mut images) = (String::new(), Vec::new());
         for (chip, described) in chips.iter().zip(&slot.chips) {
@@ -58,6 +62,7 @@ impl Inputs {
         files.extend(chips.iter().map(PathBuf::from));
         Ok(Self {
             slot,
+            order,
             files,
             open,
             images,
@@ -69,13 +74,13 @@ impl Inputs {
     }
 }
 
-/// The slot that a file describes, and all files that it is read from.
-pub fn described(file: &Path) -> Result<(Description, Vec<PathBuf>), Fault> {
+/// The slot that a file describes with the byte order, and all files that it is read from.
+pub fn described(file: &Path) -> Result<(Ordered<Description>, Vec<PathBuf>), Fault> {
     let (slot, files) = text_of(file, |text, files| {
         if text::is_slot(text) {
             return Ok(None);
         }
-        text::read_with(text, &mut |name| files.open(name)).map(Some)
+        text::read_ordered(text, &mut |name| files.open(name)).map(Some)
     })?;
     let slot = slot.ok_or_else(|| {
         let why =

@@ -1,6 +1,7 @@
 //! The bench program: lays out boards, builds their tables and reads them back, compares and
 //! measures.
 
+mod byte_order;
 mod commands;
 mod compare;
 mod ending;
@@ -9,6 +10,7 @@ mod hints;
 mod inputs;
 mod outputs;
 mod pairings;
+mod pairs;
 mod plain;
 mod progress;
 mod reach;

@@ -13,7 +13,7 @@ use std::time::{Duration, Instant};
 use onerom::description::LENGTH;
 use onerom::layout::{addr, cs_data};
 use onerom::{
-    AddrLayout, Call, CsDataLayout, Description, Refusal, StoredSlot, build_rom_image,
+    AddrLayout, ByteOrder, Call, CsDataLayout, Description, Refusal, StoredSlot, build_rom_image,
     build_rom_image_into, derive_addr_layout, derive_addr_layout_into, derive_cs_data_layout_into,
     images, table_length, unscramble_slot,
 };
@@ -23,6 +23,7 @@ use oracle::engine::{Job, Told};
 use oracle::slot::ChipBytes;
 
 use crate::ending::{Done, Fault, say};
+use crate::pairs::swapped;
 use crate::progress::Progress;
 use crate::{laid_out, plain};
 use report::{MARKS, Page};
@@ -44,6 +45,8 @@ struct Input {
     name: &'static str,
     size: [u64; 2],
     slot: Description,
+    /// That of the chips' bytes, where ours is given any. The original has low byte first alone.
+    order: ByteOrder,
 }
 
 /// Both sides of a call on one input, ready to be run any number of times.
@@ -129,11 +132,11 @@ fn table(
     call: &'static str,
     size: [&'static str; 2],
     inputs: Vec<Input>,
-    pair: fn(&Description) -> Option<Pair>,
+    pair: fn(&Input) -> Option<Pair>,
 ) -> Result<Table, Fault> {
     let row = |input: Input| -> Result<Row, Fault> {
         let differ = || Fault::Different(format!("{}: the answers differ", input.name));
-        let pair = pair(&input.slot).ok_or_else(differ)?;
+        let pair = pair(&input).ok_or_else(differ)?;
         let rounds = Vec::new();
         Ok(Row {
             input,
@@ -170,6 +173,7 @@ fn build(
     addr_layout: &[u8],
     cs_data_layout: &[u8],
     images: &[Option<&[u8]>],
+    order: ByteOrder,
 ) -> Result<Vec<u8>, Refusal> {
     let (spans, bytes) = images::joined(images);
     let mut table = vec![0; table_length(record, addr_layout)];
@@ -179,6 +183,7 @@ fn build(
         cs_data_layout,
         &spans,
         &bytes,
+        order.number(),
         &mut table,
     );
     match Refusal::of(Call::Build, result) {
@@ -188,7 +193,7 @@ fn build(
 }
 
 /// The original with its records made; ours decodes its record in every call.
-fn address_pair(slot: &Description) -> Option<Pair> {
+fn address_pair(Input { slot, .. }: &Input) -> Option<Pair> {
     let record = slot.to_bytes();
     let original = oracle::prepared_address_search(&described(&record)?)?;
     let ours = move || address_search(black_box(&record));
@@ -196,7 +201,7 @@ fn address_pair(slot: &Description) -> Option<Pair> {
 }
 
 /// The same of the select search, which is given the found address layout.
-fn select_pair(slot: &Description) -> Option<Pair> {
+fn select_pair(Input { slot, .. }: &Input) -> Option<Pair> {
     let record = slot.to_bytes();
     let layout = derive_addr_layout(slot).ok()?;
     let handed_in = layout.to_bytes();
@@ -206,8 +211,13 @@ fn select_pair(slot: &Description) -> Option<Pair> {
     agreeing("layout", original, ours, plain::select)
 }
 
-/// The same of the build, which is given both found layouts and bytes for each chip.
-fn build_pair(slot: &Description) -> Option<Pair> {
+/// The same of the build, which is given both found layouts and bytes for each chip. High byte first
+/// ours is given the same words, so that the tables are the same.
+fn build_pair(
+    &Input {
+        ref slot, order, ..
+    }: &Input,
+) -> Option<Pair> {
     let record = slot.to_bytes();
     let (addr, cs_data) = laid_out(slot).ok()?;
     let (addr_record, cs_data_record) = (addr.to_bytes(), cs_data.to_bytes());
@@ -220,6 +230,10 @@ fn build_pair(slot: &Description) -> Option<Pair> {
     };
     let original = oracle::prepared_build(&described(&record)?, &job)?;
     let images = images.map(|image| image.bytes());
+    let images = match order {
+        ByteOrder::LowFirst => images,
+        ByteOrder::HighFirst => images.map(swapped),
+    };
     let ours = move || {
         let images = images.each_ref().map(|image| Some(&image[..]));
         build(
@@ -227,24 +241,33 @@ fn build_pair(slot: &Description) -> Option<Pair> {
             black_box(&addr_record),
             black_box(&cs_data_record),
             black_box(&images),
+            black_box(order),
         )
     };
     agreeing("table", original, ours, |table| table)
 }
 
 /// The same of the read-back, which is given that table and the slot of those layouts.
-fn read_back_pair(slot: &Description) -> Option<Pair> {
+fn read_back_pair(
+    &Input {
+        ref slot, order, ..
+    }: &Input,
+) -> Option<Pair> {
     let record = slot.to_bytes();
     let (addr, cs_data) = laid_out(slot).ok()?;
     let stored = StoredSlot::of_layouts(slot, &addr, &cs_data);
     let images = chip_bytes(slot).map(|image| image.bytes());
     let images = images.each_ref().map(|image| Some(&image[..]));
-    let table = build_rom_image(slot, &addr, &cs_data, &images).ok()?;
+    let table = build_rom_image(slot, &addr, &cs_data, &images, ByteOrder::LowFirst).ok()?;
     let (address, select) = (plain::address(addr), plain::select(cs_data));
     let theirs = fitted(&described(&record)?, &address, &select, table.len());
     let original = oracle::prepared_read_back(&theirs, &table)?;
-    let ours = move || unscramble_slot(black_box(&stored), black_box(&table));
-    agreeing("ROMs", original, ours, |roms| roms)
+    let ours = move || unscramble_slot(black_box(&stored), black_box(&table), black_box(order));
+    let low_first: fn(Vec<Vec<u8>>) -> Vec<Vec<u8>> = match order {
+        ByteOrder::LowFirst => |roms| roms,
+        ByteOrder::HighFirst => |roms| roms.into_iter().map(swapped).collect(),
+    };
+    agreeing("ROMs", original, ours, low_first)
 }
 
 /// As many bytes as each chip has, each chip's own.

@@ -15,6 +15,7 @@ use described::DescriptionDraft;
 use facts::grown;
 use halves::{BoardDraft, ChipDraft};
 use included::grown_with;
+use onerom::ByteOrder;
 use onerom::description::Description;
 use onerom::slot::StoredSlot;
 use stored::StoredDraft;
@@ -43,6 +44,26 @@ impl fmt::Display for TextError {
 }
 
 impl std::error::Error for TextError {}
+
+/// What a text says: a slot, and the byte order of the chips' files if it names one.
+#[derive(Debug, Clone, PartialEq, Eq)]
+pub struct Ordered<T> {
+    /// A description or a stored slot.
+    pub slot: T,
+    /// None is low byte first.
+    pub order: Option<NamedOrder>,
+}
+
+/// The byte order that a text names, and where.
+#[derive(Debug, Clone, PartialEq, Eq)]
+pub struct NamedOrder {
+    /// Which byte of a word comes first in the chips' files.
+    pub order: ByteOrder,
+    /// The included file that names it; none in the text itself.
+    pub file: Option<String>,
+    /// The line, from 1.
+    pub line: usize,
+}
 
 /// Marks that editors put before a text, and what is to be said of each.
 const MARKS: [(&[u8], &str); 3] = [
@@ -104,6 +125,11 @@ pub fn read(text: &str) -> Result<Description, TextError> {
 
 /// Reads a description that can include files.
 pub fn read_with(text: &str, open: &mut Open) -> Result<Description, TextError> {
+    read_ordered(text, open).map(|told| told.slot)
+}
+
+/// The same with the byte order.
+pub fn read_ordered(text: &str, open: &mut Open) -> Result<Ordered<Description>, TextError> {
     grown_with::<DescriptionDraft>(text, open)
 }
 
@@ -126,14 +152,20 @@ pub fn is_slot(text: &str) -> bool {
 
 /// Reads a stored slot, as [`write_slot`] writes it or as a person does.
 pub fn read_slot(text: &str) -> Result<StoredSlot, TextError> {
+    read_ordered_slot(text).map(|told| told.slot)
+}
+
+/// The same with the byte order.
+pub fn read_ordered_slot(text: &str) -> Result<Ordered<StoredSlot>, TextError> {
     grown::<StoredDraft>(text)
 }
 
-/// Writes a stored slot, a line a fact. [`read_slot`] reads the same slot from it if the slot's
-/// numbers are in the domain: at most 64 overrides and 4 ROMs, ROMs of at most 2^24 bytes, and two
-/// different GPIOs of 0 to 47 at most for an X pin.
-pub fn write_slot(slot: &StoredSlot) -> String {
-    let mut text = write::lines(slot).join("\n");
+/// Writes a stored slot, a line a fact, and the byte order if it is not low byte first.
+/// [`read_ordered_slot`] reads the same from it if the slot's numbers are in the domain: at most 64
+/// overrides and 4 ROMs, ROMs of at most 2^24 bytes, and two different GPIOs of 0 to 47 at most for an
+/// X pin.
+pub fn write_slot(slot: &StoredSlot, order: ByteOrder) -> String {
+    let mut text = write::lines(slot, order).join("\n");
     text.push('\n');
     text
 }

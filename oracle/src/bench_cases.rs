@@ -8,7 +8,7 @@ use crate::model::Model;
 use crate::original::Original;
 use crate::smallest::{one_entry, plain, wire};
 
-const BOTH: [&dyn Engine; 2] = [&Original, &Model];
+const BOTH: [&dyn Engine; 2] = [&Original, &Model::LOW_FIRST];
 
 fn answers(case: Case, wanted: &str) {
     for engine in BOTH {

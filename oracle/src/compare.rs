@@ -26,7 +26,7 @@ pub fn compare(run: &Run) -> ExitCode {
     let mut equal = 0;
     for number in 0..run.count {
         let case = generate::case(run.seed, number, &run.kinds);
-        let (original, model) = (answer(&Original, &case), answer(&Model, &case));
+        let (original, model) = (answer(&Original, &case), answer(&Model::LOW_FIRST, &case));
         if original == model {
             equal += 1;
         } else {

@@ -30,7 +30,7 @@ pub fn list(run: &Run) -> io::Result<ExitCode> {
 
 /// The original's answer, or the model's where docs/DIFFERENCES.md has the pair; else what to say.
 fn settled(case: &Case) -> Result<String, String> {
-    let (original, model) = (answer(&Original, case), answer(&Model, case));
+    let (original, model) = (answer(&Original, case), answer(&Model::LOW_FIRST, case));
     if original == model || differences::number(case, &original, &model).is_some() {
         return Ok(model);
     }

@@ -18,7 +18,7 @@ fn main() -> ExitCode {
     let words: Vec<&str> = words.iter().map(String::as_str).collect();
     let done = match words[..] {
         ["answer"] => answer_original(),
-        ["model"] => answer_with(&model::Model).map(|()| ExitCode::SUCCESS),
+        ["model"] => answer_with(&model::Model::LOW_FIRST).map(|()| ExitCode::SUCCESS),
         ["differences"] => Ok(print_differences()),
         ["tally"] => count_answers().map(|()| ExitCode::SUCCESS),
         ["generate", seed, count, ref kinds @ ..] => match Run::read(seed, count, kinds) {

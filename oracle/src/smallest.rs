@@ -16,7 +16,7 @@ pub fn print() {
         println!("difference {number}");
         println!("  case     {}", case.line());
         println!("  original {}", answer(&Original, &case));
-        println!("  01       {}", answer(&Model, &case));
+        println!("  01       {}", answer(&Model::LOW_FIRST, &case));
     }
 }
 
@@ -208,7 +208,7 @@ mod tests {
     #[test]
     fn each_smallest_case_shows_its_difference() {
         for (wanted, case) in smallest() {
-            let (original, model) = (answer(&Original, &case), answer(&Model, &case));
+            let (original, model) = (answer(&Original, &case), answer(&Model::LOW_FIRST, &case));
             assert_ne!(original, model, "{wanted}");
             assert_eq!(number(&case, &original, &model), Some(wanted));
         }

@@ -2,7 +2,7 @@
 //! built and read back.
 
 use onerom::description::{Candidates, Chip, Kind, Package, SetType, Setting, Settings};
-use onerom::{Description, Refusal, derive_addr_layout, round_trip};
+use onerom::{ByteOrder, Description, Refusal, derive_addr_layout, round_trip};
 
 /// Socket pins 1 to 8 are the address lines, on GPIOs 0 to 7; 9 to 16 the data lines, on 16 to 23;
 /// 20 is cs1, on 8.
@@ -42,7 +42,7 @@ fn main() -> Result<(), Refusal> {
     println!("address lines on {pins} GPIOs from GPIO {base}");
 
     let rom: Vec<u8> = (0..=255).map(|n: u8| n.wrapping_mul(37)).collect();
-    let trip = round_trip(&slot, &[Some(&rom)])?;
+    let trip = round_trip(&slot, &[Some(&rom)], ByteOrder::LowFirst)?;
     let same = trip.output == rom;
     println!(
         "{}",

@@ -10,6 +10,7 @@ use crate::interface::{
 };
 use crate::layout::addr::{self, AddrLayout};
 use crate::layout::cs_data::{self, CsDataLayout};
+use crate::order::ByteOrder;
 use crate::refusal::{Call, Refusal};
 
 /// No description allows a larger table.
@@ -76,13 +77,15 @@ pub fn derive_cs_data_layout(
 }
 
 /// The build in the same way: the table at the front of the lent buffer. The images are the bytes
-/// of all chips, and the spans say where each chip's stand.
+/// of all chips, and the spans say where each chip's stand. The byte order goes as its number, since any
+/// other is the library's to refuse.
 pub fn build_rom_image_into(
     description: &[u8],
     addr_layout: &[u8],
     cs_data_layout: &[u8],
     spans: &[u8],
     images: &[u8],
+    order: u64,
     table: &mut [u8],
 ) -> u64 {
     // SAFETY: as above.
@@ -98,19 +101,21 @@ pub fn build_rom_image_into(
             spans.len(),
             images.as_ptr(),
             images.len(),
+            order,
             table.as_mut_ptr(),
             table.len(),
         )
     }
 }
 
-/// The table of a slot, by its layouts and the bytes of its chips. A chip past the list's end has
-/// none.
+/// The table of a slot, by its layouts and the bytes of its chips in this byte order. A chip past the
+/// list's end has none.
 pub fn build_rom_image(
     slot: &Description,
     addr: &AddrLayout,
     cs_data: &CsDataLayout,
     images: &[Option<&[u8]>],
+    order: ByteOrder,
 ) -> Result<Vec<u8>, Refusal> {
     let (description, addr_layout) = (slot.to_bytes(), addr.to_bytes());
     let (spans, bytes) = images::joined(images);
@@ -121,6 +126,7 @@ pub fn build_rom_image(
         &cs_data.to_bytes(),
         &spans,
         &bytes,
+        order.number(),
         &mut table,
     );
     match Refusal::of(Call::Build, result) {
@@ -143,10 +149,12 @@ pub fn table_length(description: &[u8], addr_layout: &[u8]) -> usize {
 }
 
 /// The read-back in the same way: the ROMs' words at the front of the output, their marks at the
-/// front of the marks. Refusals 23 and 24 leave 0 there.
+/// front of the marks. Refusals 23 and 24 leave 0 there. The words go out in the byte order that has
+/// this number.
 pub fn unscramble_slot_into(
     slot: &[u8],
     stored: &[u8],
+    order: u64,
     output: &mut [u8],
     marks: &mut [u8],
 ) -> u64 {
@@ -157,6 +165,7 @@ pub fn unscramble_slot_into(
             slot.len(),
             stored.as_ptr(),
             stored.len(),
+            order,
             output.as_mut_ptr(),
             output.len(),
             marks.as_mut_ptr(),
@@ -166,11 +175,13 @@ pub fn unscramble_slot_into(
 }
 
 /// Both searches, the build and the read-back in turn: the first that refuses answers. A table that
-/// is built stands at the front of its buffer, whatever the read-back answers then.
+/// is built stands at the front of its buffer, whatever the read-back answers then. The byte order that
+/// has this number is the images' and the output's.
 pub fn round_trip_into(
     description: &[u8],
     spans: &[u8],
     images: &[u8],
+    order: u64,
     table: &mut [u8],
     output: &mut [u8],
     marks: &mut [u8],
@@ -184,6 +195,7 @@ pub fn round_trip_into(
             spans.len(),
             images.as_ptr(),
             images.len(),
+            order,
             table.as_mut_ptr(),
             table.len(),
             output.as_mut_ptr(),

@@ -1,7 +1,7 @@
 //! The numbers and calls of docs/INTERFACE.md. Rendered from that page: edit it, and see README.md.
 
 /// The version of the interface: an older caller is answered as before while it stays.
-pub const INTERFACE_VERSION: u32 = 1;
+pub const INTERFACE_VERSION: u32 = 2;
 
 /// Numbers of the refusals.
 pub mod refusals {
@@ -66,7 +66,7 @@ pub mod refusals {
     pub const PAST_CHIP: u16 = 28;
 }
 
-/// What single bytes of the records say.
+/// What single bytes of the records say, and the numbers that calls take.
 pub mod values {
     /// A byte that names no GPIO.
     pub const GPIO_NONE: u8 = 255;
@@ -146,6 +146,10 @@ pub mod values {
     pub const BIT_MODE_8: u8 = 0;
     /// Words of two bytes.
     pub const BIT_MODE_16: u8 = 1;
+    /// A word's low byte comes first in a dump.
+    pub const ORDER_LOW_FIRST: u8 = 0;
+    /// A word's high byte comes first in a dump.
+    pub const ORDER_HIGH_FIRST: u8 = 1;
     /// The GPIO as it is.
     pub const OVERRIDE_NORMAL: u8 = 0;
     /// Inverted; counts for nothing in a read-back.
@@ -506,6 +510,7 @@ unsafe extern "C" {
         spans_len: usize,
         images: *const u8,
         images_len: usize,
+        order: u64,
         table: *mut u8,
         table_len: usize,
     ) -> u64;
@@ -519,6 +524,7 @@ unsafe extern "C" {
         slot_len: usize,
         stored: *const u8,
         stored_len: usize,
+        order: u64,
         output: *mut u8,
         output_len: usize,
         marks: *mut u8,
@@ -526,12 +532,13 @@ unsafe extern "C" {
     ) -> u64;
 
     /// Runs both searches, the build and the read-back in turn. The select search is given the
-    /// found address layout, and the build both layouts. Read-back is given the table's own bytes,
-    /// and a slot of the found layouts: the table's length as its size, the kind of the set type,
-    /// base and pins of the address layout, base and base data pin of the select layout, algorithms
-    /// 0, the bit mode of the word bytes, the first select line's GPIO as select base, base pins 0
-    /// for address and select, no overrides, the description's X candidates, and for each chip its
-    /// size and the maps of the address lines in use and of the data lines.
+    /// found address layout, and the build both layouts. Build and read-back are given the same
+    /// byte order. Read-back is given the table's own bytes, and a slot of the found layouts: the
+    /// table's length as its size, the kind of the set type, base and pins of the address layout,
+    /// base and base data pin of the select layout, algorithms 0, the bit mode of the word bytes,
+    /// the first select line's GPIO as select base, base pins 0 for address and select, no
+    /// overrides, the description's X candidates, and for each chip its size and the maps of the
+    /// address lines in use and of the data lines.
     pub(crate) fn onerom_round_trip(
         description: *const u8,
         description_len: usize,
@@ -539,6 +546,7 @@ unsafe extern "C" {
         spans_len: usize,
         images: *const u8,
         images_len: usize,
+        order: u64,
         table: *mut u8,
         table_len: usize,
         output: *mut u8,

@@ -5,7 +5,8 @@ mod slot;
 
 use onerom::description::{Candidates, Chip, Description, Kind, Package};
 use onerom::{
-    Refusal, build_rom_image, derive_addr_layout, derive_cs_data_layout, round_trip, well_wired,
+    ByteOrder, Refusal, build_rom_image, derive_addr_layout, derive_cs_data_layout, round_trip,
+    well_wired,
 };
 use slot::single;
 
@@ -58,11 +59,12 @@ fn both_packages_answer_alike_below_30() {
     let found = derive_cs_data_layout(&a, Some(&addr)).expect("a layout");
     assert_eq!(derive_cs_data_layout(&b, Some(&addr)), Ok(found.clone()));
     let rom = [3, 1, 4, 1, 5, 9, 2, 6];
-    let table = build_rom_image(&a, &addr, &found, &[Some(&rom)]).expect("a table");
-    let other = build_rom_image(&b, &addr, &found, &[Some(&rom)]);
+    let table =
+        build_rom_image(&a, &addr, &found, &[Some(&rom)], ByteOrder::LowFirst).expect("a table");
+    let other = build_rom_image(&b, &addr, &found, &[Some(&rom)], ByteOrder::LowFirst);
     assert_eq!(other.expect("a table"), table);
     for slot in [&a, &b] {
-        let trip = round_trip(slot, &[Some(&rom)]).expect("it reads back");
+        let trip = round_trip(slot, &[Some(&rom)], ByteOrder::LowFirst).expect("it reads back");
         assert_eq!((trip.table, trip.output), (table.clone(), rom.to_vec()));
         assert_eq!(well_wired(slot, &addr), Ok(true));
     }
@@ -78,8 +80,10 @@ fn no_function_takes_a_gpio_that_package_a_has_not() {
         [
             number(derive_addr_layout(slot).err()),
             number(derive_cs_data_layout(slot, Some(&addr)).err()),
-            number(build_rom_image(slot, &addr, &cs_data, &[Some(&rom)]).err()),
-            number(round_trip(slot, &[Some(&rom)]).err()),
+            number(
+                build_rom_image(slot, &addr, &cs_data, &[Some(&rom)], ByteOrder::LowFirst).err(),
+            ),
+            number(round_trip(slot, &[Some(&rom)], ByteOrder::LowFirst).err()),
             number(well_wired(slot, &addr).err()),
         ]
     };

@@ -8,6 +8,7 @@ use onerom::build_rom_image;
 
 use super::verify::verified;
 use super::{Command, Flags};
+use crate::byte_order::{Dumps, HIGH_FIRST};
 use crate::ending::{Done, Fault, complain, say};
 use crate::hex_files::HEX;
 use crate::hints::hinted;
@@ -31,6 +32,11 @@ is a chip without bytes. A chip's file has just the chip's bytes; with
 whose name ends in .hex or .ihx is read as Intel HEX into a chip of its size,
 and with --hex they all are; --any-length says nothing of these.
 
+With --high-first, or with a line `order high` in FILE, the chips' files are
+high byte first: of the two bytes of a word the first is the high one. The
+table's entries are low byte first all the same, and words of one byte have no
+order.
+
 Writes the table's bytes, and nothing else, to TABLE: when the table is built,
 whole or not at all; `-` is the standard output. TABLE may replace a file that
 is there, but none that is read and none that is read-only.
@@ -47,7 +53,7 @@ or a file that cannot be used.
 Example:
     onerom-bench build 2764.txt table.bin 2764.bin
 ",
-    flags: &[ANY_LENGTH, HEX, PART, UNVERIFIED],
+    flags: &[ANY_LENGTH, HEX, HIGH_FIRST, PART, UNVERIFIED],
     run,
 };
 
@@ -62,9 +68,10 @@ fn run(words: &[OsString], flags: &Flags) -> Done {
     }
     let (file, table) = (Path::new(file), Path::new(table));
     let inputs = Inputs::read(file, chips, flags)?;
+    let dumps = Dumps::of(&inputs.slot, inputs.order);
     if table == Path::new(NO_FILE) {
         let (bytes, parts) = built(&inputs, flags)?;
-        complain(&parts);
+        complain(&(parts + &dumps.note()));
         write_out(&bytes)?;
         return Ok(ExitCode::SUCCESS);
     }
@@ -72,21 +79,23 @@ fn run(words: &[OsString], flags: &Flags) -> Done {
     let (bytes, parts) = built(&inputs, flags)?;
     write_whole(&[(table, &bytes)])?;
     let (name, length) = (table.display(), bytes.len());
-    say(&format!("{name}: table of {length} bytes\n{parts}"))?;
+    let order = dumps.told(", chips ");
+    say(&format!("{name}: table of {length} bytes{order}\n{parts}"))?;
+    complain(&dumps.note());
     Ok(ExitCode::SUCCESS)
 }
 
 /// The table, and what is to be said of the wiring, of chips that it serves in part and of texts that
 /// leave bytes open.
 fn built(inputs: &Inputs, flags: &Flags) -> Result<(Vec<u8>, String), Fault> {
-    let (slot, images) = (&inputs.slot, inputs.images());
+    let (slot, images, order) = (&inputs.slot, inputs.images(), inputs.order);
     let of_slot = |refusal| hinted(slot, &images, refusal);
     let (addr, cs_data) = laid_out(slot).map_err(of_slot)?;
     let wrong = complaints(slot, &addr)?;
     let parts = wrong + &parts_served(slot, &addr, flags.has(PART))? + &inputs.open;
     if !flags.has(UNVERIFIED) {
-        verified(slot, &images)?;
+        verified(slot, &images, order)?;
     }
-    let table = build_rom_image(slot, &addr, &cs_data, &images).map_err(of_slot)?;
+    let table = build_rom_image(slot, &addr, &cs_data, &images, order).map_err(of_slot)?;
     Ok((table, parts))
 }

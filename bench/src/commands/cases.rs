@@ -20,14 +20,15 @@ pub const COMPARE: Command = Command {
     summary: "Holds the library against the original and the model",
     help: "\
 Reads no file. Makes COUNT cases of each call from SEED, both numbers from 0,
-and three more of each with wrong records, has every slice stand between guard
-pages, and writes what was seen to the standard output. Without the original's
-files the model alone judges.
+and three more of each with wrong records, has those that take a byte order run
+in both, every slice stand between guard pages, and writes what was seen to the
+standard output. High byte first the original judges the same words with their
+bytes swapped. Without the original's files the model alone judges.
 
 Exit codes: 0 no difference that is not listed; 1 one that is not; 2 other
 words.
 
-Example, some three minutes:
+Example, some four minutes:
     onerom-bench compare 1 100000
 ",
     flags: &[],

@@ -6,9 +6,10 @@ use std::path::Path;
 use std::process::ExitCode;
 
 use onerom::{
-    AddrLayout, CsDataLayout, Description, StoredSlot, build_rom_image, derive_addr_layout,
-    derive_cs_data_layout, pin_page,
+    AddrLayout, ByteOrder, CsDataLayout, Description, StoredSlot, build_rom_image,
+    derive_addr_layout, derive_cs_data_layout, pin_page,
 };
+use onerom_bench::text::Ordered;
 use onerom_bench::{show, socket, text};
 
 use super::{Command, Flags};
@@ -30,9 +31,10 @@ pub const LAYOUT: Command = Command {
 Reads FILE, a description. Writes the RP2350's package, the GPIOs of the address
 lines, those of the data and select lines and a drawing of the socket to the
 standard output; to SLOT, if it is given, the slot that stores the table, for
-`read-back`. SLOT is written when both layouts are found, whole or not at all,
-and may replace a file that is there, but none that is read. With --page the
-output ends with the pin page, which `page` writes by itself.
+`read-back`, with `order high` if FILE has that line. SLOT is written when both
+layouts are found, whole or not at all, and may replace a file that is there,
+but none that is read. With --page the output ends with the pin page, which
+`page` writes by itself.
 
 Where the slot is not well wired it says why: what is built may not read back.
 Where the address lines in use do not reach all words of a chip, and no excess
@@ -63,7 +65,8 @@ fn lay_out(file: &Path, stored: Option<&Path>, flags: &Flags) -> Result<(), Faul
         let why = "expected a file's name: the layouts go to the standard output";
         return Err(Fault::of_file(Path::new(NO_FILE), why));
     }
-    let (slot, files) = described(file)?;
+    let (Ordered { slot, order }, files) = described(file)?;
+    let order = order.map_or_else(ByteOrder::default, |named| named.order);
     if let Some(stored) = stored {
         keep(&files, "slot", stored)?;
     }
@@ -71,7 +74,7 @@ fn lay_out(file: &Path, stored: Option<&Path>, flags: &Flags) -> Result<(), Faul
     let tell = |text: &str| say(&format!("\n{text}"));
     expect_stored(&slot, (&addr, &cs_data), flags.has(PART), tell)?;
     if let Some(stored) = stored {
-        let text = text::write_slot(&StoredSlot::of_layouts(&slot, &addr, &cs_data));
+        let text = text::write_slot(&StoredSlot::of_layouts(&slot, &addr, &cs_data), order);
         write_whole(&[(stored, text.as_bytes())])?;
         say(&format!("\n{}: stored slot\n", stored.display()))?;
     }
@@ -101,7 +104,7 @@ pub fn expect_stored(
     expect_built(slot, addr, cs_data)
 }
 
-/// What the build refuses by these layouts, whatever bytes the chips have.
+/// What the build refuses by these layouts, whatever bytes the chips have and in whichever order.
 fn expect_built(
     slot: &Description,
     addr: &AddrLayout,
@@ -110,7 +113,7 @@ fn expect_built(
     let blank = slot.chips.iter().map(|chip| vec![0; chip.size as usize]);
     let blank: Vec<Vec<u8>> = blank.collect();
     let images: Vec<Option<&[u8]>> = blank.iter().map(|chip| Some(&chip[..])).collect();
-    let table = build_rom_image(slot, addr, cs_data, &images);
+    let table = build_rom_image(slot, addr, cs_data, &images, ByteOrder::default());
     table
         .map(drop)
         .map_err(|refusal| hinted(slot, &images, refusal))

@@ -49,11 +49,11 @@ fn run(words: &[OsString], flags: &Flags) -> Done {
         _ => return Err(Fault::Words),
     };
     let page = Path::new(page);
-    let (slot, files) = described(Path::new(file))?;
+    let (told, files) = described(Path::new(file))?;
     if page != Path::new(NO_FILE) {
         keep(&files, "page", page)?;
     }
-    let bytes = page_of(&slot, flags.has(PART))?;
+    let bytes = page_of(&told.slot, flags.has(PART))?;
     written(page, &bytes, "pin page", "")
 }
 

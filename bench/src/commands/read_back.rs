@@ -7,10 +7,11 @@ use std::path::{Path, PathBuf};
 use std::process::ExitCode;
 
 use onerom::interface::refusals::WRONG_SIZE;
-use onerom::{Description, StoredSlot, hex_text, unscramble_slot};
-use onerom_bench::text::{self, TextError};
+use onerom::{ByteOrder, Description, StoredSlot, hex_text, unscramble_slot};
+use onerom_bench::text::{self, Ordered, TextError};
 
 use super::{Command, Flags};
+use crate::byte_order::{Dumps, HIGH_FIRST, byte_order};
 use crate::ending::{Done, Fault, complain, say};
 use crate::hex_files::{HEX, is_hex};
 use crate::hints::hinted;
@@ -33,6 +34,12 @@ written; the only one goes to the standard output by it. The files are written
 when all ROMs are read, each whole or not at all. They may replace files that
 are there, but none that is read.
 
+With --high-first, or with a line `order high` in FILE, the CHIP files are
+written high byte first: of the two bytes of a word the first is the high one.
+The table's entries are read low byte first all the same; words of one byte and
+plugins have no order. A table does not say by which order it was built: name
+the same one.
+
 Where a ROM has more words than its address lines reach, and no excess line of
 the description explains it, nothing is written; --part accepts it.
 
@@ -42,7 +49,7 @@ back in part; 2 other words, or a file that cannot be used.
 Example:
     onerom-bench read-back slot.txt table.bin rom.bin
 ",
-    flags: &[HEX, PART],
+    flags: &[HEX, HIGH_FIRST, PART],
     run,
 };
 
@@ -55,7 +62,12 @@ fn run(words: &[OsString], flags: &Flags) -> Done {
         return Err(Fault::Words);
     };
     let (file, table) = (Path::new(file), Path::new(table));
-    let (slot, parts, mut files) = stored_slot(file, flags.has(PART))?;
+    let Found {
+        slot,
+        dumps,
+        parts,
+        mut files,
+    } = stored_slot(file, flags)?;
     let wanted = slot.lengths(0).len();
     expect_files(file, "ROMs", wanted, chips)?;
     let chips: Vec<&Path> = chips.iter().map(Path::new).collect();
@@ -63,10 +75,7 @@ fn run(words: &[OsString], flags: &Flags) -> Done {
     files.push(table.into());
     keep_apart(&files, &chips)?;
     let stored = stored_bytes(table, &slot)?;
-    let roms = unscramble_slot(&slot, &stored).map_err(|refusal| match refusal.number {
-        WRONG_SIZE => Fault::Hinted(refusal, lengths(table, &slot, &stored)),
-        _ => refusal.into(),
-    })?;
+    let roms = roms(table, &slot, &stored, dumps.order)?;
     if !flags.has(PART) && parts.is_none() {
         expect_whole(&slot, &roms)?;
     }
@@ -75,14 +84,28 @@ fn run(words: &[OsString], flags: &Flags) -> Done {
     if let ([chip], [content]) = (&chips[..], &contents[..])
         && !is_written(chip)
     {
-        complain(&parts);
+        complain(&(parts + &dumps.note()));
         write_out(content)?;
         return Ok(ExitCode::SUCCESS);
     }
     write(&chips, &contents)?;
-    say(&told_files(&slot, &chips, &roms, flags))?;
+    say(&told_files(&slot, &chips, &roms, flags, dumps))?;
     say(&parts)?;
+    complain(&dumps.note());
     Ok(ExitCode::SUCCESS)
+}
+
+/// The ROMs' bytes from those that are stored.
+fn roms(
+    table: &Path,
+    slot: &StoredSlot,
+    stored: &[u8],
+    order: ByteOrder,
+) -> Result<Vec<Vec<u8>>, Fault> {
+    unscramble_slot(slot, stored, order).map_err(|refusal| match refusal.number {
+        WRONG_SIZE => Fault::Hinted(refusal, lengths(table, slot, stored)),
+        _ => refusal.into(),
+    })
 }
 
 /// What the files are to have: the ROMs' bytes, or texts of them.
@@ -135,34 +158,51 @@ fn expect_whole(slot: &StoredSlot, roms: &[Vec<u8>]) -> Result<(), Fault> {
 
 /// A file's text: the slot itself, or what it is found from.
 enum Told {
-    Slot(StoredSlot),
-    Described(Box<Description>),
+    Slot(Ordered<StoredSlot>),
+    Described(Box<Ordered<Description>>),
 }
 
 fn told(text: &str, files: &mut Files) -> Result<Told, TextError> {
     if text::is_slot(text) {
-        return text::read_slot(text).map(Told::Slot);
+        return text::read_ordered_slot(text).map(Told::Slot);
     }
-    let slot = text::read_with(text, &mut |name| files.open(name))?;
+    let slot = text::read_ordered(text, &mut |name| files.open(name))?;
     Ok(Told::Described(Box::new(slot)))
 }
 
-/// The slot and, where it is found from a description, what is to be said of chips that it serves
-/// in part; then all files that it is read from.
-fn stored_slot(
-    file: &Path,
-    part: bool,
-) -> Result<(StoredSlot, Option<String>, Vec<PathBuf>), Fault> {
+/// What a file's text comes to.
+struct Found {
+    slot: StoredSlot,
+    dumps: Dumps,
+    /// Where it is found from a description, what is to be said of chips that it serves in part.
+    parts: Option<String>,
+    /// All files that it is read from.
+    files: Vec<PathBuf>,
+}
+
+fn stored_slot(file: &Path, flags: &Flags) -> Result<Found, Fault> {
     let (told, files) = text_of(file, told)?;
-    Ok(match told {
-        Told::Slot(slot) => (slot, None, files),
-        Told::Described(slot) => {
+    let order = match &told {
+        Told::Slot(told) => &told.order,
+        Told::Described(told) => &told.order,
+    };
+    let order = byte_order(file, order.as_ref(), flags)?;
+    let (slot, parts) = match told {
+        Told::Slot(told) => (told.slot, None),
+        Told::Described(told) => {
+            let slot = told.slot;
             let of_slot = |refusal| hinted(&slot, &[], refusal);
             let (addr, cs_data) = laid_out(&slot).map_err(of_slot)?;
-            let parts = parts_served(&slot, &addr, part)?;
+            let parts = parts_served(&slot, &addr, flags.has(PART))?;
             let stored = StoredSlot::of_layouts(&slot, &addr, &cs_data);
-            (stored, Some(parts), files)
+            (stored, Some(parts))
         }
+    };
+    Ok(Found {
+        dumps: Dumps::of_stored(&slot, order),
+        slot,
+        parts,
+        files,
     })
 }
 
@@ -218,21 +258,27 @@ fn write(chips: &[&Path], contents: &[Cow<[u8]>]) -> Result<(), Fault> {
     write_whole(&written)
 }
 
-/// A line for each ROM: where it is, and how many bytes it has.
-fn told_files(slot: &StoredSlot, chips: &[&Path], roms: &[Vec<u8>], flags: &Flags) -> String {
+/// A line for each ROM: where it is, how many bytes it has, and in which order if not as usual.
+fn told_files(
+    slot: &StoredSlot,
+    chips: &[&Path],
+    roms: &[Vec<u8>],
+    flags: &Flags,
+    dumps: Dumps,
+) -> String {
     let line = |(number, (chip, rom)): (usize, (&&Path, &Vec<u8>))| {
         let what = if slot.kind.is_plugin() {
             "plugin".into()
         } else {
             format!("ROM {number}")
         };
-        let how = match chip {
-            chip if !is_written(chip) => ", not written",
-            chip if is_hex(chip, flags) => " as Intel HEX",
-            _ => "",
+        let (how, order) = match chip {
+            chip if !is_written(chip) => (", not written", String::new()),
+            chip if is_hex(chip, flags) => (" as Intel HEX", dumps.told(", ")),
+            _ => ("", dumps.told(", ")),
         };
         let (name, length) = (chip.display(), rom.len());
-        format!("{name}: {what}, {length} bytes{how}\n")
+        format!("{name}: {what}, {length} bytes{how}{order}\n")
     };
     chips.iter().zip(roms).enumerate().map(line).collect()
 }

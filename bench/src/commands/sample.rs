@@ -5,7 +5,7 @@ use std::ffi::OsString;
 use std::path::Path;
 use std::process::ExitCode;
 
-use onerom::Description;
+use onerom::{ByteOrder, Description};
 use onerom_bench::text;
 
 use super::layout::print_layouts;
@@ -62,7 +62,7 @@ pub fn run_through() -> Done {
     let slot = sample()?;
     print_layouts(&slot)?;
     let rom = rom_bytes();
-    let verified = verified(&slot, &[Some(&rom)])?;
+    let verified = verified(&slot, &[Some(&rom)], ByteOrder::default())?;
     say(&format!("\ntable of {} bytes\n", verified.table_bytes))?;
     say(&format!("{verified}\n"))?;
     Ok(ExitCode::SUCCESS)

@@ -1,7 +1,8 @@
 //! The build, with what a case of kind 7 hands in.
 
+use onerom::interface::description::WORD_BYTES;
 use onerom::layout::{addr, cs_data};
-use onerom::{build_rom_image_into, description, table_length};
+use onerom::{ByteOrder, build_rom_image_into, description, table_length};
 use oracle::answer::table_fields;
 use oracle::case::{self, Case};
 use oracle::random::Random;
@@ -18,12 +19,14 @@ pub struct Build {
     addr_layout: Vec<u8>,
     cs_data_layout: Vec<u8>,
     images: Images,
+    order: u64,
     table_length: u32,
 }
 
 impl Call<5, 1> for Build {
     const NAME: &'static str = "build";
     const KIND: u64 = 7;
+    const TAKES_ORDER: bool = true;
 
     fn of(case: &Case) -> Option<Self> {
         let Case::Build(case) = case else {
@@ -36,8 +39,27 @@ impl Call<5, 1> for Build {
             addr_layout: address.to_bytes().to_vec(),
             cs_data_layout: select.to_bytes().to_vec(),
             images: Images::spread(&case.images),
+            order: ByteOrder::LowFirst.number(),
             table_length: case.table_length,
         })
+    }
+
+    fn order(&self) -> u64 {
+        self.order
+    }
+
+    fn set_order(&mut self, order: u64) {
+        self.order = order;
+    }
+
+    fn is_wide(&self) -> bool {
+        self.description.get(WORD_BYTES) == Some(&2)
+    }
+
+    fn swap_pairs(&mut self) {
+        if self.is_wide() {
+            self.images.swap_pairs();
+        }
     }
 
     fn make_ready(&mut self, random: &mut Random) {
@@ -91,7 +113,7 @@ impl Call<5, 1> for Build {
         [self.table_length as usize]
     }
 
-    fn call(read: [&[u8]; 5], [table]: [&mut [u8]; 1]) -> u64 {
+    fn call(order: u64, read: [&[u8]; 5], [table]: [&mut [u8]; 1]) -> u64 {
         let [description, addr_layout, cs_data_layout, spans, images] = read;
         build_rom_image_into(
             description,
@@ -99,6 +121,7 @@ impl Call<5, 1> for Build {
             cs_data_layout,
             spans,
             images,
+            order,
             table,
         )
     }

@@ -1,5 +1,6 @@
 //! What sets the calls of the library apart, each with what a case of its kind hands in.
 
+use onerom::ByteOrder;
 use oracle::answer::{Chain, answer, build, line, read_back, recovered_fields, table_fields};
 use oracle::case::Case;
 use oracle::engine::{Engine, Told};
@@ -77,11 +78,28 @@ pub trait Call<const READ: usize, const LENT: usize>: Clone {
     const KIND: u64;
     /// What follows number and place where bytes are no record.
     const NO_RECORD: &'static [u64] = &[];
+    /// Whether it takes a byte order.
+    const TAKES_ORDER: bool = false;
 
     /// What a case hands in; none of another kind.
     fn of(case: &Case) -> Option<Self>;
 
-    /// Puts in order what a case could not say beside a wrong record.
+    /// The number that is handed in as the byte order.
+    fn order(&self) -> u64 {
+        ByteOrder::LowFirst.number()
+    }
+
+    fn set_order(&mut self, _order: u64) {}
+
+    /// Whether words have two bytes, so that the byte order counts.
+    fn is_wide(&self) -> bool {
+        false
+    }
+
+    /// Swaps the bytes of each word that the chips have, where words have two.
+    fn swap_pairs(&mut self) {}
+
+    /// Puts right what a case could not say beside a wrong record.
     fn make_ready(&mut self, _random: &mut Random) {}
 
     /// Puts one byte wrong.
@@ -130,7 +148,7 @@ pub trait Call<const READ: usize, const LENT: usize>: Clone {
         (told, [0; LENT])
     }
 
-    fn call(read: [&[u8]; READ], lent: [&mut [u8]; LENT]) -> u64;
+    fn call(order: u64, read: [&[u8]; READ], lent: [&mut [u8]; LENT]) -> u64;
 
     /// What a success wrote, in the order of docs/CASES.md; none if anything else stands in it.
     fn success(&self, written: [&[u8]; LENT]) -> Option<Wrote>;

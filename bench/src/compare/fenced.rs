@@ -4,7 +4,7 @@ use onerom::fence::{Lent, Shown, Side};
 use oracle::case::line_of;
 
 use super::calls::{Answer, Call};
-use super::{PLACES, SHORT_BUFFER};
+use super::{OUT_OF_DOMAIN, PLACES, SHORT_BUFFER};
 
 /// How the slices of a case stand.
 #[derive(Clone, Copy)]
@@ -46,12 +46,12 @@ impl<const READ: usize, const LENT: usize> Fences<READ, LENT> {
         }
     }
 
-    /// The result on the bytes that are shown, with so many lent.
-    fn call<C: Call<READ, LENT>>(&mut self, lent: [usize; LENT], side: Side) -> u64 {
+    /// The result on the bytes that are shown in a byte order, with so many lent.
+    fn call<C: Call<READ, LENT>>(&mut self, order: u64, lent: [usize; LENT], side: Side) -> u64 {
         let mut lengths = lent.into_iter();
         let lend = |buffer| Lent::lend(buffer, lengths.next().unwrap_or(0), side);
         let lent = self.lent.each_mut().map(lend);
-        C::call(self.shown.each_ref().map(Shown::bytes), lent)
+        C::call(order, self.shown.each_ref().map(Shown::bytes), lent)
     }
 
     fn fronts(&self, reach: [usize; LENT]) -> [&[u8]; LENT] {
@@ -77,7 +77,8 @@ impl<const READ: usize, const LENT: usize> Fences<READ, LENT> {
         turn: Turn,
     ) -> (u64, Answer) {
         self.show(call.read(), turn.side);
-        let result = self.call::<C>(call.lent(lengths, turn.spare), turn.side);
+        let lent = call.lent(lengths, turn.spare);
+        let result = self.call::<C>(call.order(), lent, turn.side);
         let reach = C::reach(lengths, result);
         let written = self.fronts(reach);
         let wrote = if result == 0 {
@@ -100,29 +101,64 @@ impl<const READ: usize, const LENT: usize> Fences<READ, LENT> {
         (result, answer)
     }
 
-    /// The library's answer, and whether it does what it has to with each buffer in turn one byte
-    /// short. A buffer that a success leaves as it was can lack none.
-    pub fn answer_and_shorts<C: Call<READ, LENT>>(
+    /// The library's answer, and whether it does what it has to with a buffer too short and with a
+    /// number that is no byte order. What was read stands there still.
+    pub fn answer_and_refusals<C: Call<READ, LENT>>(
         &mut self,
         call: &C,
+        other: u64,
         turn: Turn,
-    ) -> (Answer, bool) {
+    ) -> (Answer, Refuses) {
         let lengths = call.lengths();
         let (result, answer) = self.told(call, lengths, turn);
-        let good = (0..LENT).all(|short| {
+        let refuses = Refuses {
+            short_buffers: self.refuses_short(call, lengths, (result, &answer), turn),
+            other_orders: !C::TAKES_ORDER || self.refuses_order(call, lengths, other, turn),
+        };
+        (answer, refuses)
+    }
+
+    /// Whether it does what it has to with each buffer in turn one byte short. A buffer that a success
+    /// leaves as it was can lack none.
+    fn refuses_short<C: Call<READ, LENT>>(
+        &mut self,
+        call: &C,
+        lengths: [usize; LENT],
+        (result, answer): (u64, &Answer),
+        turn: Turn,
+    ) -> bool {
+        (0..LENT).all(|short| {
             let (wanted, reach) = C::told_short(lengths, result, short);
             if lengths[short] == 0 && wanted == SHORT_BUFFER << PLACES {
                 return true;
             }
             let mut lent = lengths;
             lent[short] = lent[short].saturating_sub(1);
-            // What was read stands there still.
-            let told = self.call::<C>(lent, turn.side);
+            let told = self.call::<C>(call.order(), lent, turn.side);
             let written = self.fronts(reach).concat();
             told == wanted && self.are_kept_past(reach) && answer.bytes.starts_with(&written)
-        });
-        (answer, good)
+        })
     }
+
+    /// Whether a number that is no byte order is refused by 1, with nothing written.
+    fn refuses_order<C: Call<READ, LENT>>(
+        &mut self,
+        call: &C,
+        lengths: [usize; LENT],
+        other: u64,
+        turn: Turn,
+    ) -> bool {
+        let told = self.call::<C>(other, call.lent(lengths, turn.spare), turn.side);
+        told == OUT_OF_DOMAIN << PLACES && self.are_kept_past([0; LENT])
+    }
+}
+
+/// Whether the library refuses what it has to.
+pub struct Refuses {
+    /// A lent buffer that is a byte short, by 16.
+    pub short_buffers: bool,
+    /// A number that is no byte order, by 1.
+    pub other_orders: bool,
 }
 
 fn place(result: u64) -> u64 {

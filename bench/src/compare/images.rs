@@ -1,11 +1,13 @@
 //! The chips' bytes as a case hands them in, with the record of where they stand.
 
 use onerom::images::{self, SPAN, Span, spans_record};
+use onerom::interface::image_span;
 use oracle::random::Random;
 use oracle::slot::ChipBytes;
 
 use super::calls::Part;
-use super::records::chip_bytes;
+use super::records::{chip_bytes, four};
+use crate::pairs::swap_pairs;
 
 /// What stands between the chips' bytes, and is no chip's.
 const GAP: u8 = 0xA5;
@@ -38,6 +40,16 @@ impl Images {
             spans,
             bytes,
             seed: None,
+        }
+    }
+
+    /// Swaps the bytes of each pair within each chip, of which no two share bytes.
+    pub fn swap_pairs(&mut self) {
+        let (spans, _) = self.spans.as_chunks::<SPAN>();
+        for span in spans {
+            let start = four(span, image_span::START) as usize;
+            let length = four(span, image_span::LENGTH) as usize;
+            swap_pairs(&mut self.bytes[start..][..length]);
         }
     }
 

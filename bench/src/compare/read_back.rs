@@ -1,6 +1,6 @@
 //! The read-back, with what a case of kind 8 hands in.
 
-use onerom::{StoredSlot, slot, unscramble_slot_into};
+use onerom::{ByteOrder, StoredSlot, slot, unscramble_slot_into};
 use oracle::answer::recovered_fields;
 use oracle::case::{self, Case};
 use oracle::engine::Recovered;
@@ -16,6 +16,7 @@ use crate::plain;
 pub struct ReadBack {
     record: Vec<u8>,
     stored: Vec<u8>,
+    order: u64,
     output_length: u32,
     mark_length: u32,
 }
@@ -39,6 +40,7 @@ pub fn recovered(roms: Vec<Vec<u8>>, marks: &[u8]) -> Option<Wrote> {
 impl Call<2, 2> for ReadBack {
     const NAME: &'static str = "read-back";
     const KIND: u64 = 8;
+    const TAKES_ORDER: bool = true;
 
     fn of(case: &Case) -> Option<Self> {
         let Case::ReadBack(case) = case else {
@@ -47,9 +49,23 @@ impl Call<2, 2> for ReadBack {
         Some(Self {
             record: plain::to_stored(&case.slot).to_bytes().to_vec(),
             stored: case.data.clone(),
+            order: ByteOrder::LowFirst.number(),
             output_length: case.output_length,
             mark_length: case.mark_length,
         })
+    }
+
+    fn order(&self) -> u64 {
+        self.order
+    }
+
+    fn set_order(&mut self, order: u64) {
+        self.order = order;
+    }
+
+    fn is_wide(&self) -> bool {
+        let slot = self.slot();
+        slot.is_some_and(|slot| !slot.kind.is_plugin() && slot.word_bytes() == 2)
     }
 
     /// In half of the cases a byte of the algorithms or of the first ROM, else any.
@@ -99,8 +115,8 @@ impl Call<2, 2> for ReadBack {
         [INCONSISTENT, UNSERVED].contains(&number)
     }
 
-    fn call([slot, stored]: [&[u8]; 2], [output, marks]: [&mut [u8]; 2]) -> u64 {
-        unscramble_slot_into(slot, stored, output, marks)
+    fn call(order: u64, [slot, stored]: [&[u8]; 2], [output, marks]: [&mut [u8]; 2]) -> u64 {
+        unscramble_slot_into(slot, stored, order, output, marks)
     }
 
     fn success(&self, [output, marks]: [&[u8]; 2]) -> Option<Wrote> {

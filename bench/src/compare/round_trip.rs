@@ -5,7 +5,7 @@ use onerom::interface::{addr_layout, chip, description as at};
 use onerom::layout::{addr, cs_data};
 use onerom::slot::words;
 use onerom::{
-    AddrLayout, CsDataLayout, build_rom_image_into, derive_addr_layout_into,
+    AddrLayout, ByteOrder, CsDataLayout, build_rom_image_into, derive_addr_layout_into,
     derive_cs_data_layout_into, round_trip_into, table_length, unscramble_slot_into,
 };
 use oracle::answer::{fitted, table_fields};
@@ -25,6 +25,7 @@ use crate::plain;
 pub struct RoundTrip {
     description: Vec<u8>,
     images: Images,
+    order: u64,
 }
 
 /// Which of the four answers, and what.
@@ -83,7 +84,8 @@ impl RoundTrip {
         step(2, derive_cs_data_layout_into(record, &addr, &mut select))?;
         let mut table = vec![0; table_length(record, &addr)];
         let Images { spans, bytes, .. } = &self.images;
-        let told = build_rom_image_into(record, &addr, &select, spans, bytes, &mut table);
+        let told =
+            build_rom_image_into(record, &addr, &select, spans, bytes, self.order, &mut table);
         step(3, told)?;
         step(4, self.read_back(&addr, &select, &table))
     }
@@ -104,7 +106,13 @@ impl RoundTrip {
         let stored = plain::to_stored(&fitted(&slot, &address, &select, table.len()));
         let mut output = vec![0; stored.lengths(table.len()).iter().sum()];
         let mut marks = vec![0; stored.marks(table.len())];
-        unscramble_slot_into(&stored.to_bytes(), table, &mut output, &mut marks)
+        unscramble_slot_into(
+            &stored.to_bytes(),
+            table,
+            self.order,
+            &mut output,
+            &mut marks,
+        )
     }
 
     /// The chips' bytes of an output.
@@ -128,6 +136,7 @@ impl Call<3, 3> for RoundTrip {
     const KIND: u64 = 9;
     /// The stage.
     const NO_RECORD: &'static [u64] = &[1];
+    const TAKES_ORDER: bool = true;
 
     fn of(case: &Case) -> Option<Self> {
         let Case::Chain(record, images) = case else {
@@ -136,7 +145,26 @@ impl Call<3, 3> for RoundTrip {
         Some(Self {
             description: record.to_vec(),
             images: Images::spread(images),
+            order: ByteOrder::LowFirst.number(),
         })
+    }
+
+    fn order(&self) -> u64 {
+        self.order
+    }
+
+    fn set_order(&mut self, order: u64) {
+        self.order = order;
+    }
+
+    fn is_wide(&self) -> bool {
+        self.description.get(at::WORD_BYTES) == Some(&2)
+    }
+
+    fn swap_pairs(&mut self) {
+        if self.is_wide() {
+            self.images.swap_pairs();
+        }
     }
 
     fn make_ready(&mut self, random: &mut Random) {
@@ -204,9 +232,9 @@ impl Call<3, 3> for RoundTrip {
         }
     }
 
-    fn call(read: [&[u8]; 3], lent: [&mut [u8]; 3]) -> u64 {
+    fn call(order: u64, read: [&[u8]; 3], lent: [&mut [u8]; 3]) -> u64 {
         let ([description, spans, images], [table, output, marks]) = (read, lent);
-        round_trip_into(description, spans, images, table, output, marks)
+        round_trip_into(description, spans, images, order, table, output, marks)
     }
 
     /// The address layout's base is not among what is written; the address search alone tells it.

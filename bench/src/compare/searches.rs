@@ -54,7 +54,7 @@ impl Call<1, 1> for AddressSearch {
         [addr::LENGTH]
     }
 
-    fn call([description]: [&[u8]; 1], [layout]: [&mut [u8]; 1]) -> u64 {
+    fn call(_: u64, [description]: [&[u8]; 1], [layout]: [&mut [u8]; 1]) -> u64 {
         derive_addr_layout_into(description, layout)
     }
 
@@ -127,7 +127,7 @@ impl Call<2, 1> for SelectSearch {
         [cs_data::LENGTH]
     }
 
-    fn call([description, addr_layout]: [&[u8]; 2], [layout]: [&mut [u8]; 1]) -> u64 {
+    fn call(_: u64, [description, addr_layout]: [&[u8]; 2], [layout]: [&mut [u8]; 1]) -> u64 {
         derive_cs_data_layout_into(description, addr_layout, layout)
     }
 

@@ -3,8 +3,8 @@
 use onerom::images::{Span, spans_record};
 use onerom::slot::words;
 use onerom::{
-    AddrLayout, Call, Description, Refusal, build_rom_image_into, round_trip_into, table_length,
-    well_wired,
+    AddrLayout, ByteOrder, Call, Description, Refusal, build_rom_image_into, round_trip_into,
+    table_length, well_wired,
 };
 
 use super::Untried;
@@ -41,6 +41,9 @@ impl Outcome {
 
 /// The mark of a word that was read.
 const MARKED: u8 = 1;
+
+/// The byte order of the made bytes.
+const ORDER: ByteOrder = ByteOrder::LowFirst;
 
 /// Buffers that one trial after the other uses.
 #[derive(Default)]
@@ -90,13 +93,14 @@ impl Trials {
     fn round_trip(&mut self, slot: &Description, records: [&[u8]; 3]) -> Result<(), Refusal> {
         let [description, addr, cs_data] = records;
         let (spans, images, table) = (spans(slot), &self.images, &mut self.table);
-        let output = &mut self.output;
-        let result = round_trip_into(description, &spans, images, table, output, &mut self.marks);
+        let (output, marks, order) = (&mut self.output, &mut self.marks, ORDER.number());
+        let result = round_trip_into(description, &spans, images, order, table, output, marks);
         if result == 0 {
             return Ok(());
         }
         // The searches have answered before, so that the refusal is of one of the other two.
-        let call = match build_rom_image_into(description, addr, cs_data, &spans, images, table) {
+        let built = build_rom_image_into(description, addr, cs_data, &spans, images, order, table);
+        let call = match built {
             0 => Call::ReadBack,
             _ => Call::Build,
         };

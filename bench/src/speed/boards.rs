@@ -1,7 +1,7 @@
 //! The boards that the searches are measured on.
 
-use onerom::Description;
 use onerom::description::{Candidates, Chip, Kind};
+use onerom::{ByteOrder, Description};
 use onerom_bench::text;
 
 use super::{Input, tables};
@@ -49,6 +49,7 @@ fn input(name: &'static str, two_candidate_pins: usize, slot: Description) -> In
         name,
         size: [two_candidate_pins as u64, 1 << two_candidate_pins],
         slot,
+        order: ByteOrder::default(),
     }
 }
 

@@ -3,6 +3,8 @@
 use std::path::Path;
 use std::time::Duration;
 
+use onerom::ByteOrder;
+
 use super::{Row, Table, Times};
 use crate::ending::Fault;
 use crate::inputs::text_of;
@@ -45,7 +47,11 @@ fn row(row: &Row) -> String {
         ratios().fold(f64::INFINITY, f64::min),
         ratios().fold(0.0, f64::max),
     );
-    let (name, answer, [one, other]) = (row.input.name, &row.pair.answer, row.input.size);
+    let (answer, [one, other]) = (&row.pair.answer, row.input.size);
+    let name = match row.input.order {
+        ByteOrder::LowFirst => row.input.name.to_string(),
+        order => format!("{}, {order}", row.input.name),
+    };
     let (original, ours) = (shown(best.original), shown(best.ours));
     let ratio = best.ratio();
     format!(

@@ -2,7 +2,7 @@
 //! the socket's pins in order.
 
 use onerom::description::{Candidates, Chip, Kind, Multi, SetType};
-use onerom::{Description, derive_addr_layout};
+use onerom::{ByteOrder, Description, derive_addr_layout};
 
 use super::Input;
 use super::boards::{ADDRESS_27C040, DATA_27C040, sample};
@@ -131,7 +131,21 @@ fn of_sets() -> Vec<Input> {
         input("4096 words, 16-bit", single(chip_16_bit(12))),
     ];
     inputs.extend(of_512_kib().map(|(name, slot)| input(name, slot)));
-    inputs
+    with_high_first(inputs)
+}
+
+/// Behind each 16-bit slot the same high byte first.
+fn with_high_first(inputs: Vec<Input>) -> Vec<Input> {
+    let both = |input: Input| {
+        let is_wide = input.slot.word_bytes == 2;
+        let high = is_wide.then(|| Input {
+            slot: input.slot.clone(),
+            order: ByteOrder::HighFirst,
+            ..input
+        });
+        [Some(input), high].into_iter().flatten()
+    };
+    inputs.into_iter().flat_map(both).collect()
 }
 
 /// The sets whose tables have 512 KiB.
@@ -151,7 +165,7 @@ fn of_other_rows() -> Vec<Input> {
     let four = &chip_32(&ADDRESS_27C040[..17]);
     let mut again = single(chip_28(16));
     again.chips[0].size /= 2;
-    vec![
+    with_high_first(vec![
         input(
             "four 27C010, Banked, picked low",
             picked_low(four, SetType::Banked, 4),
@@ -165,7 +179,7 @@ fn of_other_rows() -> Vec<Input> {
             picked_low(&chip_16_bit(16), SetType::Banked, 4),
         ),
         input("27C512 of 32 KiB, read twice", again),
-    ]
+    ])
 }
 
 fn single(chip: Pinout) -> Description {
@@ -181,6 +195,7 @@ fn input(name: &'static str, slot: Description) -> Input {
         name,
         size: [bytes / u64::from(slot.word_bytes), bytes],
         slot,
+        order: ByteOrder::default(),
     }
 }
 

@@ -1,14 +1,15 @@
 //! A description that grows line by line.
 
-use super::TextError;
-use super::facts::{Draft, Told, add_part, missing, wrong};
+use super::facts::{Draft, ORDER, Told, add_part, missing, wrong};
 use super::included::Place;
 use super::words::{KINDS, Words};
+use super::{Ordered, TextError};
+use onerom::ByteOrder;
 use onerom::description::{
     Candidates, Chip, Description, Kind, Multi, Package, SOCKET_PINS, SetType, Setting, Settings,
 };
 
-const LINES: &str = "socket, package, pin, x1, x2, set, word, offset, limit, chip, address, data, \
+const LINES: &str = "socket, package, pin, x1, x2, set, word, order, offset, limit, chip, address, data, \
     control, settings, qualifiers, multi or include";
 
 /// The original's largest table.
@@ -53,6 +54,8 @@ const HIGHEST_PIN: u8 = 40;
 
 pub struct DescriptionDraft {
     pub slot: Description,
+    /// The byte order of the chips' files, where it is told.
+    pub order: Option<ByteOrder>,
     pub told: Told,
     /// Pins of each chip's own package, where they are told.
     pub packages: Vec<Option<u8>>,
@@ -78,6 +81,7 @@ impl Default for DescriptionDraft {
         };
         Self {
             slot,
+            order: None,
             told: Told::default(),
             packages: Vec::new(),
             chip_lines: Vec::new(),
@@ -86,7 +90,7 @@ impl Default for DescriptionDraft {
 }
 
 impl Draft for DescriptionDraft {
-    type Whole = Description;
+    type Whole = Ordered<Description>;
 
     fn line(&mut self, head: &str, words: &mut Words) -> Result<(), TextError> {
         match head {
@@ -94,7 +98,7 @@ impl Draft for DescriptionDraft {
             "chip" => return self.chip(words),
             "package" => return self.either_package(words),
             "address" | "data" | "control" => return self.chip_pins(head, words),
-            "word" | "settings" => return self.shared(head, words),
+            "word" | "settings" | ORDER => return self.shared(head, words),
             _ => {}
         }
         self.told.once(head.into(), words)?;
@@ -113,7 +117,7 @@ impl Draft for DescriptionDraft {
         Ok(())
     }
 
-    fn finished(mut self, last: usize) -> Result<Description, TextError> {
+    fn finished(mut self, last: usize) -> Result<Ordered<Description>, TextError> {
         self.whole_socket(last)?;
         self.within_package()?;
         self.whole_chips(last)?;
@@ -126,7 +130,10 @@ impl Draft for DescriptionDraft {
             );
         }
         self.slot.pin_offset = self.offset()?;
-        Ok(self.slot)
+        Ok(Ordered {
+            order: self.told.named_order(self.order),
+            slot: self.slot,
+        })
     }
 }
 
@@ -230,13 +237,14 @@ impl DescriptionDraft {
     fn shared(&mut self, head: &str, words: &mut Words) -> Result<(), TextError> {
         let elsewhere = self.told.elsewhere(head, words)?;
         let slot = &mut self.slot;
-        let before = (slot.word_bytes, slot.settings);
+        let before = (slot.word_bytes, slot.settings, self.order);
         match head {
             "word" => slot.word_bytes = words.byte("bytes in a word", 1..=2)?,
+            ORDER => self.order = Some(words.byte_order()?),
             _ => slot.settings = settings(words)?,
         }
         match elsewhere {
-            Some(place) if (slot.word_bytes, slot.settings) != before => {
+            Some(place) if (slot.word_bytes, slot.settings, self.order) != before => {
                 let place = place.seen_from(&words.part);
                 Err(words.error(format!(
                     "expected `{head}` as on {place}: the chips of a set share it"

@@ -2,9 +2,10 @@
 
 use std::collections::BTreeMap;
 
-use super::TextError;
 use super::included::Place;
 use super::words::Words;
+use super::{NamedOrder, TextError};
+use onerom::ByteOrder;
 use onerom::description::MOST_CHIPS;
 use onerom::images::LARGEST_CHIP;
 
@@ -37,6 +38,9 @@ pub fn take_line<D: Draft>(draft: &mut D, mut words: Words) -> Result<(), TextEr
     Ok(())
 }
 
+/// The fact that a line with a byte order tells.
+pub const ORDER: &str = "order";
+
 /// Where each fact that can stand only once was told.
 #[derive(Default)]
 pub struct Told(BTreeMap<String, Place>);
@@ -61,6 +65,13 @@ impl Told {
             Some(place) if place.part != words.part => Ok(Some(place.clone())),
             _ => self.once(fact.into(), words).map(|()| None),
         }
+    }
+
+    /// The byte order that was told, with its place.
+    pub fn named_order(&self, order: Option<ByteOrder>) -> Option<NamedOrder> {
+        let Place { part, line } = self.place(ORDER)?;
+        let file = part.file.as_deref().map(str::to_owned);
+        order.map(|order| NamedOrder { order, file, line })
     }
 
     /// Where a fact was told.

@@ -2,11 +2,11 @@
 
 use super::TextError;
 use super::described::DescriptionDraft;
-use super::facts::{Draft, missing};
+use super::facts::{Draft, ORDER, missing};
 use super::words::Words;
 use onerom::description::{Candidates, Chip, Package, SOCKET_PINS, Settings};
 
-/// What a chip's file tells.
+/// What a chip's file tells. A byte order that it names is of dumps: it is read, and left out.
 #[derive(Debug, Clone, PartialEq, Eq)]
 pub struct ChipFacts {
     /// Its size and pins.
@@ -38,8 +38,9 @@ pub struct Board {
     pub x: [Candidates; 2],
 }
 
-const CHIP_LINES: [&str; 8] = [
+const CHIP_LINES: [&str; 9] = [
     "word",
+    ORDER,
     "chip",
     "package",
     "address",

@@ -1,13 +1,15 @@
 //! A stored slot that grows line by line.
 
-use super::TextError;
-use super::facts::{Draft, Told, add_part, missing};
+use super::facts::{Draft, ORDER, Told, add_part, missing};
 use super::words::{NO_NUMBERS, OVERRIDES, SLOT_KINDS, Words};
+use super::{Ordered, TextError};
+use onerom::ByteOrder;
 use onerom::description::Candidates;
 use onerom::interface::values::GPIO_NONE;
 use onerom::slot::{Layout, MOST_LINES, MOST_OVERRIDES, Map, Rom, SlotKind, StoredSlot};
 
-const LINES: &str = "slot, size, address, data, dma, bit-mode, select, override, x1, x2 or rom";
+const LINES: &str =
+    "slot, size, order, address, data, dma, bit-mode, select, override, x1, x2 or rom";
 
 /// The word by which a layout's line is told from a ROM's.
 const ALGORITHM: &str = "algorithm";
@@ -36,6 +38,7 @@ pub struct StoredDraft {
     told: Told,
     kind: Option<SlotKind>,
     size: Option<u32>,
+    order: Option<ByteOrder>,
     layout: Layout,
     overrides: Vec<u8>,
     x: [Candidates; 2],
@@ -45,7 +48,7 @@ pub struct StoredDraft {
 }
 
 impl Draft for StoredDraft {
-    type Whole = StoredSlot;
+    type Whole = Ordered<StoredSlot>;
 
     fn line(&mut self, head: &str, words: &mut Words) -> Result<(), TextError> {
         if self.kind.is_none() && head != "slot" {
@@ -61,6 +64,7 @@ impl Draft for StoredDraft {
         match head {
             "slot" => self.kind = Some(kind(words)?),
             "size" => self.size = Some(words.number("bytes", 0..=u32::MAX.into())? as u32),
+            ORDER => self.order = Some(words.byte_order()?),
             "x1" => self.x[0] = words.candidates()?,
             "x2" => self.x[1] = words.candidates()?,
             "address" | "data" | "dma" | "bit-mode" | "select" => self.layout(head, words)?,
@@ -69,7 +73,7 @@ impl Draft for StoredDraft {
         Ok(())
     }
 
-    fn finished(self, last: usize) -> Result<StoredSlot, TextError> {
+    fn finished(self, last: usize) -> Result<Ordered<StoredSlot>, TextError> {
         let Some(kind) = self.kind else {
             return missing(last, "a `slot` line");
         };
@@ -77,14 +81,16 @@ impl Draft for StoredDraft {
             return missing(last, "a `size` line");
         };
         let roms = self.roms.iter().zip(&self.rom_lines);
-        Ok(StoredSlot {
+        let slot = StoredSlot {
             size,
             kind,
             layout: self.whole_layout(last)?,
             roms: roms.map(whole_rom).collect::<Result<_, _>>()?,
             overrides: self.overrides,
             x: self.x,
-        })
+        };
+        let order = self.told.named_order(self.order);
+        Ok(Ordered { slot, order })
     }
 }
 

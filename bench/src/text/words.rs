@@ -5,6 +5,7 @@ use std::str::SplitWhitespace;
 
 use super::TextError;
 use super::included::{Part, Place};
+use onerom::ByteOrder;
 use onerom::description::{Candidates, Kind, Setting};
 use onerom::slot::SlotKind;
 
@@ -41,6 +42,10 @@ pub const OVERRIDES: [(&str, u8); 4] = [
     ("low", 2 << 6),
     ("high", 3 << 6),
 ];
+
+/// Byte orders of the chips' files.
+pub const ORDERS: [(&str, ByteOrder); 2] =
+    [("low", ByteOrder::LowFirst), ("high", ByteOrder::HighFirst)];
 
 /// In place of a list that has no numbers.
 pub const NO_NUMBERS: &str = "none";
@@ -191,6 +196,11 @@ impl<'a> Words<'a> {
             return Err(self.error(format!("expected two different GPIOs, found {one} twice")));
         }
         Ok(Candidates::Two(one, two))
+    }
+
+    /// The byte order of the chips' files.
+    pub fn byte_order(&mut self) -> Result<ByteOrder, TextError> {
+        self.one_of("a byte order", &ORDERS)
     }
 
     /// All the numbers that are left: one at least, `most` at most.

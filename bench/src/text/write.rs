@@ -1,6 +1,8 @@
 //! A stored slot's lines.
 
-use super::words::{NO_NUMBERS, OVERRIDES, SLOT_KINDS};
+use super::facts::ORDER;
+use super::words::{NO_NUMBERS, ORDERS, OVERRIDES, SLOT_KINDS};
+use onerom::ByteOrder;
 use onerom::description::Candidates;
 use onerom::interface::values::GPIO_NONE;
 use onerom::slot::{Layout, MOST_LINES, Rom, SlotKind, StoredSlot};
@@ -8,11 +10,12 @@ use onerom::slot::{Layout, MOST_LINES, Rom, SlotKind, StoredSlot};
 /// GPIO of an override, below its kind.
 const GPIO: u8 = 0x3f;
 
-pub fn lines(slot: &StoredSlot) -> Vec<String> {
+pub fn lines(slot: &StoredSlot, order: ByteOrder) -> Vec<String> {
     let mut lines = vec![
         format!("slot {}", kind(slot.kind)),
         format!("size {}", slot.size),
     ];
+    lines.extend(unusual(order));
     lines.extend(slot.layout.iter().flat_map(layout));
     lines.extend(slot.overrides.iter().map(|&byte| forced(byte)));
     for (name, x) in ["x1", "x2"].into_iter().zip(slot.x) {
@@ -32,6 +35,12 @@ pub fn lines(slot: &StoredSlot) -> Vec<String> {
 fn kind(kind: SlotKind) -> String {
     let named = SLOT_KINDS.iter().find(|(_, one)| *one == kind);
     named.map_or(kind.number().to_string(), |(name, _)| name.to_string())
+}
+
+/// A line with a byte order that is not the usual one.
+fn unusual(order: ByteOrder) -> Option<String> {
+    let (name, _) = ORDERS.iter().find(|(_, own)| *own == order)?;
+    (order != ByteOrder::default()).then(|| format!("{ORDER} {name}"))
 }
 
 fn layout(layout: &Layout) -> [String; 5] {

@@ -6,7 +6,7 @@ use onerom::description::{
 use onerom::layout::cs_data::{Line, Qualifiers, Role};
 use onerom::slot::{Layout, Map, Rom, SlotKind};
 use onerom::{
-    AddrLayout, CsDataLayout, Refusal, StoredSlot, build_rom_image, derive_addr_layout,
+    AddrLayout, ByteOrder, CsDataLayout, Refusal, StoredSlot, build_rom_image, derive_addr_layout,
     derive_cs_data_layout, pin_page, round_trip, unscramble_slot,
 };
 use onerom_bench::{show, socket, text};
@@ -189,11 +189,12 @@ fn any_description_is_answered() {
         let slot = description(random);
         let image = vec![random.byte(); random.pick(&[0, 1, 8192, 9000])];
         let images = vec![Some(&image[..]); random.below(6)];
-        found += u32::from(told(round_trip(&slot, &images)).is_some());
+        let order = random.pick(&ByteOrder::BOTH);
+        found += u32::from(told(round_trip(&slot, &images, order)).is_some());
         let addr = told(derive_addr_layout(&slot)).unwrap_or_else(|| addr_layout(random));
         let cs_data = told(derive_cs_data_layout(&slot, Some(&addr)));
         let cs_data = cs_data.unwrap_or_else(|| cs_data_layout(random));
-        told(build_rom_image(&slot, &addr, &cs_data, &images));
+        told(build_rom_image(&slot, &addr, &cs_data, &images, order));
         told(pin_page(&addr, &cs_data));
         let shown = [
             show::addr_summary(&slot, &addr),
@@ -201,7 +202,7 @@ fn any_description_is_answered() {
             show::cs_data_summary(&cs_data),
             show::cs_data_table(&slot, &cs_data),
             socket::drawing(&slot, &addr, &cs_data),
-            text::write_slot(&StoredSlot::of_layouts(&slot, &addr, &cs_data)),
+            text::write_slot(&StoredSlot::of_layouts(&slot, &addr, &cs_data), order),
         ];
         assert!(shown.iter().all(|text| text.ends_with('\n')));
     }
@@ -218,8 +219,9 @@ fn any_stored_slot_is_answered() {
         if random.chance(80) {
             slot.size = bytes.len() as u32;
         }
-        told(unscramble_slot(&slot, &bytes));
-        let text = text::write_slot(&slot);
+        let order = random.pick(&ByteOrder::BOTH);
+        told(unscramble_slot(&slot, &bytes, order));
+        let text = text::write_slot(&slot, order);
         assert!(text::is_slot(&text));
         // What is outside the domain is told by its line.
         if let Err(why) = text::read_slot(&text) {
@@ -230,7 +232,7 @@ fn any_stored_slot_is_answered() {
 
 #[test]
 fn any_text_is_answered() {
-    const WORDS: [&str; 16] = [
+    const WORDS: [&str; 18] = [
         "socket",
         "24",
         "pin",
@@ -247,6 +249,8 @@ fn any_text_is_answered() {
         "#",
         "\n",
         "none",
+        "order",
+        "high",
     ];
     for number in 0..COUNT {
         let random = &mut Random::of_case(3, number);

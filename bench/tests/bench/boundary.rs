@@ -8,11 +8,13 @@ use onerom::fence::{Lent, Shown, Side};
 use onerom::page::LENGTH as PAGE;
 use onerom::slot::{Map, SlotKind};
 use onerom::{
-    Description, StoredSlot, build_rom_image_into, derive_addr_layout, derive_addr_layout_into,
-    derive_cs_data_layout, derive_cs_data_layout_into, images, pin_page, round_trip_into,
-    table_length, unscramble_slot_into, well_wired_result, write_page_into,
+    ByteOrder, Description, StoredSlot, build_rom_image_into, derive_addr_layout,
+    derive_addr_layout_into, derive_cs_data_layout, derive_cs_data_layout_into, images, pin_page,
+    round_trip_into, table_length, unscramble_slot_into, well_wired_result, write_page_into,
 };
 use onerom_bench::text;
+
+use ByteOrder::{HighFirst, LowFirst};
 
 const SUCCESS: u64 = 0;
 /// Of a slot that is not well wired.
@@ -47,6 +49,7 @@ fn multi() -> Description {
 /// A slot that all calls take, with what they are handed and what they write.
 struct Good {
     name: &'static str,
+    order: u64,
     chips: u64,
     description: Vec<u8>,
     spans: Vec<u8>,
@@ -68,7 +71,7 @@ fn chip(number: usize, size: u32) -> Vec<u8> {
 }
 
 impl Good {
-    fn of(name: &'static str, slot: &Description) -> Self {
+    fn of(name: &'static str, slot: &Description, order: ByteOrder) -> Self {
         let description = slot.to_bytes();
         let chips: Vec<Vec<u8>> = (slot.chips.iter().enumerate())
             .map(|(number, own)| chip(number, own.size))
@@ -86,10 +89,11 @@ impl Good {
             &spans,
             &images,
         ];
-        assert_eq!(build(&parts, &mut [&mut table]), SUCCESS);
+        assert_eq!(build(&parts, order.number(), &mut [&mut table]), SUCCESS);
         let stored = StoredSlot::of_layouts(slot, &addr, &cs_data);
         Self {
             name,
+            order: order.number(),
             chips: chips.len() as u64,
             description: description.to_vec(),
             spans: spans.to_vec(),
@@ -106,12 +110,15 @@ impl Good {
         }
     }
 
-    fn all() -> [Self; 4] {
+    fn all() -> [Self; 6] {
+        let (single, wide) = (described(SAMPLE), described(&wide([30, 31])));
         [
-            Self::of("Single", &described(SAMPLE)),
-            Self::of("Banked", &banked()),
-            Self::of("Multi", &multi()),
-            Self::of("16 bits", &described(&wide([30, 31]))),
+            Self::of("Single", &single, LowFirst),
+            Self::of("Single, high byte first", &single, HighFirst),
+            Self::of("Banked", &banked(), LowFirst),
+            Self::of("Multi", &multi(), LowFirst),
+            Self::of("16 bits", &wide, LowFirst),
+            Self::of("16 bits, high byte first", &wide, HighFirst),
         ]
     }
 }
@@ -143,12 +150,14 @@ impl Read {
     }
 }
 
-type Raw = fn(&[&[u8]], &mut [&mut [u8]]) -> u64;
+/// What is read, a byte order for the calls that take one, and what is lent.
+type Raw = fn(&[&[u8]], u64, &mut [&mut [u8]]) -> u64;
 
 /// A call on a slot.
 struct Function<'a> {
     name: String,
     call: Raw,
+    order: u64,
     chips: u64,
     read: Vec<(Read, &'a [u8])>,
     /// What a success writes.
@@ -157,40 +166,40 @@ struct Function<'a> {
     early: usize,
 }
 
-fn derive_addr(read: &[&[u8]], lent: &mut [&mut [u8]]) -> u64 {
+fn derive_addr(read: &[&[u8]], _: u64, lent: &mut [&mut [u8]]) -> u64 {
     derive_addr_layout_into(read[0], lent[0])
 }
 
-fn derive_cs_data(read: &[&[u8]], lent: &mut [&mut [u8]]) -> u64 {
+fn derive_cs_data(read: &[&[u8]], _: u64, lent: &mut [&mut [u8]]) -> u64 {
     derive_cs_data_layout_into(read[0], read[1], lent[0])
 }
 
-fn build(read: &[&[u8]], lent: &mut [&mut [u8]]) -> u64 {
-    build_rom_image_into(read[0], read[1], read[2], read[3], read[4], lent[0])
+fn build(read: &[&[u8]], order: u64, lent: &mut [&mut [u8]]) -> u64 {
+    build_rom_image_into(read[0], read[1], read[2], read[3], read[4], order, lent[0])
 }
 
 /// A success tells the page's length.
-fn write_page(read: &[&[u8]], lent: &mut [&mut [u8]]) -> u64 {
+fn write_page(read: &[&[u8]], _: u64, lent: &mut [&mut [u8]]) -> u64 {
     let told = write_page_into(read[0], read[1], lent[0]);
     assert_ne!(told, SUCCESS);
     if told == PAGE as u64 { SUCCESS } else { told }
 }
 
-fn unscramble(read: &[&[u8]], lent: &mut [&mut [u8]]) -> u64 {
+fn unscramble(read: &[&[u8]], order: u64, lent: &mut [&mut [u8]]) -> u64 {
     let [output, marks] = lent else {
         panic!("two buffers");
     };
-    unscramble_slot_into(read[0], read[1], output, marks)
+    unscramble_slot_into(read[0], read[1], order, output, marks)
 }
 
-fn round_trip(read: &[&[u8]], lent: &mut [&mut [u8]]) -> u64 {
+fn round_trip(read: &[&[u8]], order: u64, lent: &mut [&mut [u8]]) -> u64 {
     let [table, output, marks] = lent else {
         panic!("three buffers");
     };
-    round_trip_into(read[0], read[1], read[2], table, output, marks)
+    round_trip_into(read[0], read[1], read[2], order, table, output, marks)
 }
 
-fn wiring(read: &[&[u8]], _: &mut [&mut [u8]]) -> u64 {
+fn wiring(read: &[&[u8]], _: u64, _: &mut [&mut [u8]]) -> u64 {
     well_wired_result(read[0], read[1])
 }
 
@@ -204,6 +213,7 @@ impl<'a> Function<'a> {
         Self {
             name: format!("{name}, {}", good.name),
             call,
+            order: good.order,
             chips: good.chips,
             read: read.to_vec(),
             lent: lent.to_vec(),
@@ -292,7 +302,11 @@ impl<'a> Function<'a> {
         let mut places: Vec<&mut [u8]> = (buffers.iter_mut().zip(lent))
             .map(|(buffer, &length)| buffer.lend(length, side))
             .collect();
-        assert_eq!((self.call)(&slices, &mut places), told, "{name}");
+        assert_eq!(
+            (self.call)(&slices, self.order, &mut places),
+            told,
+            "{name}"
+        );
         for (number, (buffer, front)) in buffers.iter().zip(written).enumerate() {
             assert!(
                 buffer.front(front.len()) == *front,
@@ -376,7 +390,7 @@ fn no_bytes_need_no_place() {
                     .get_mut(no_lent)
                     .into_iter()
                     .for_each(|slice| *slice = &mut []);
-                (function.call)(&read, &mut places)
+                (function.call)(&read, function.order, &mut places)
             };
             for (which, (kind, exact)) in function.read.iter().enumerate() {
                 let told = kind.told(exact.len(), 0, function.chips);
@@ -410,7 +424,13 @@ fn clears(good: &Good, slot: &StoredSlot, wanted: u64) {
                 output.lend(counted + more[0], side),
                 mark.lend(marks + more[1], side),
             );
-            let told = unscramble_slot_into(shown.bytes(), stored.bytes(), places.0, places.1);
+            let told = unscramble_slot_into(
+                shown.bytes(),
+                stored.bytes(),
+                good.order,
+                places.0,
+                places.1,
+            );
             assert_eq!(told >> 48, wanted, "{}, {more:?}, {side:?}", good.name);
             let (rom, address) = (told >> 32 & 0xFFFF, told & 0xFFFF_FFFF);
             assert!(rom < good.chips && address < marks as u64);
@@ -451,7 +471,7 @@ fn a_word_without_entry_clears_the_words_counted() {
 fn unserved() -> Good {
     let mut slot = described(SAMPLE);
     slot.socket[22] = slot.socket[20];
-    let mut good = Good::of("unserved", &slot);
+    let mut good = Good::of("unserved", &slot, LowFirst);
     good.output.fill(0);
     good.marks.fill(0);
     good
@@ -488,20 +508,25 @@ fn a_round_trip_without_an_entry_keeps_its_table() {
 
 #[test]
 fn a_plugin_needs_no_marks() {
-    let good = Good::of("plugin", &described(SAMPLE));
+    let good = Good::of("plugin", &described(SAMPLE), LowFirst);
     let bytes = chip(1, 5000);
     let mut slot = good.stored.clone();
     (slot.kind, slot.size) = (SlotKind::UserPlugin, bytes.len() as u32);
-    let function = Function {
-        name: "plugin".to_string(),
+    let function = |order: ByteOrder| Function {
+        name: format!("plugin, {order}"),
         call: unscramble,
+        order: order.number(),
         chips: 1,
         read: Vec::new(),
         lent: vec![&bytes, &[]],
         early: 0,
     };
     let read = [slot.to_bytes().to_vec(), bytes.clone()];
-    for side in Side::BOTH {
+    for (function, side) in ByteOrder::BOTH
+        .map(function)
+        .iter()
+        .flat_map(|function| Side::BOTH.map(|side| (function, side)))
+    {
         for length in lengths(bytes.len()) {
             for marks in [0, 1, 5000] {
                 let (told, written) = function.told_lent(0, length);

@@ -4,8 +4,8 @@ use onerom::description::SetType;
 use onerom::images::{self, Span};
 use onerom::layout::cs_data::{Line, Role};
 use onerom::{
-    AddrLayout, Call, CsDataLayout, Description, Refusal, build_rom_image, build_rom_image_into,
-    derive_addr_layout, derive_cs_data_layout, table_length,
+    AddrLayout, ByteOrder, Call, CsDataLayout, Description, Refusal, build_rom_image,
+    build_rom_image_into, derive_addr_layout, derive_cs_data_layout, table_length,
 };
 use onerom_bench::text;
 
@@ -56,7 +56,13 @@ fn plain() -> Slot {
 
 impl Slot {
     fn build(&self, images: &[Option<&[u8]>]) -> Result<Vec<u8>, Refusal> {
-        build_rom_image(&self.description, &self.addr, &self.cs_data, images)
+        build_rom_image(
+            &self.description,
+            &self.addr,
+            &self.cs_data,
+            images,
+            ByteOrder::LowFirst,
+        )
     }
 
     fn table(&self, images: &[&[u8]]) -> Vec<u8> {
@@ -246,6 +252,7 @@ fn by_spans(spans: &[u8], images: &[u8]) -> (u64, [u8; 4]) {
         &slot.cs_data.to_bytes(),
         spans,
         images,
+        0,
         &mut table,
     );
     (result, table)
@@ -299,6 +306,7 @@ fn buffers_keep_what_is_not_theirs() {
             &slot.cs_data.to_bytes(),
             &spans,
             &bytes,
+            0,
             table,
         )
     };
@@ -313,7 +321,7 @@ fn buffers_keep_what_is_not_theirs() {
 fn any_records_are_taken() {
     let refused = |description: &[u8], addr: &[u8], cs_data: &[u8]| {
         let (spans, bytes) = images::joined(&[Some(&[0; 4])]);
-        build_rom_image_into(description, addr, cs_data, &spans, &bytes, &mut [0; 4]) >> 48
+        build_rom_image_into(description, addr, cs_data, &spans, &bytes, 0, &mut [0; 4]) >> 48
     };
     let slot = plain();
     let (description, addr) = (slot.description.to_bytes(), slot.addr.to_bytes());

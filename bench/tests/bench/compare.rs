@@ -19,6 +19,9 @@ const WRONG: [&str; 3] = [
     "records of random bytes",
 ];
 
+/// Those that take a byte order.
+const ORDERED: [&str; 3] = ["build", "read-back", "round trip"];
+
 /// Who judges: the model always, the original too if it can.
 const JUDGES: [&str; 3] = [
     "held against the original and the model",
@@ -74,18 +77,48 @@ fn none_differs(seed: u64) {
             assert!(wrong.contains("\n  refusal 1 "), "{wrong}");
         }
     }
-    let calls = CALLS.len() as u64;
-    let (whole, wrong) = (calls * COUNT, calls * COUNT * WRONG.len() as u64);
+    are_high_first(&told);
+    let (calls, wrongs) = (CALLS.len() as u64, WRONG.len() as u64);
+    let (whole, wrong) = (calls * COUNT, calls * COUNT * wrongs);
     assert!(cfg!(debug_assertions) || wrong >= 100_000);
-    let sum = format!("\nin all {whole} cases, {wrong} with wrong records, 0 differences\n");
-    assert!(told.ends_with(&sum), "{sum}");
+    let high = ORDERED.len() as u64 * COUNT * (2 + wrongs);
+    assert!(told.ends_with(&sum(whole, wrong, high)), "{told}");
+}
+
+/// The last line.
+fn sum(whole: u64, wrong: u64, high: u64) -> String {
+    format!(
+        "\nin all {whole} cases, {wrong} with wrong records, {high} runs high byte first, \
+         0 differences\n"
+    )
+}
+
+/// What ran high byte first: as many as low byte first, with the same numbers of each answer.
+fn are_high_first(told: &str) {
+    let answers = |part: &str| -> Vec<String> {
+        let own = part.lines().filter(|line| !line.contains(" held against "));
+        own.map(str::to_string).collect()
+    };
+    for call in ORDERED {
+        let low = part(told, &format!("\n{call}, the oracle's cases\n"));
+        assert!(low.contains("\n  with words of two bytes: "), "{low}");
+        for way in ["high byte first", "high byte first and swapped"] {
+            let high = part(told, &format!("\n{call}, the same, {way}\n"));
+            assert_eq!(answers(high), answers(low), "{call}, {way}");
+        }
+        for wrong in WRONG {
+            let head = format!("\n{call}, the same with {wrong}");
+            let low = part(told, &format!("{head}\n"));
+            let high = part(told, &format!("{head}, high byte first\n"));
+            assert_eq!(answers(high), answers(low), "{call}, {wrong}");
+        }
+    }
 }
 
 #[test]
 fn no_large_case_differs() {
     let count = if cfg!(debug_assertions) { 1 } else { 20 };
     let told = compared("compare-large", 1, count);
-    let (whole, wrong) = (2 * count, 6 * count);
-    let sum = format!("\nin all {whole} cases, {wrong} with wrong records, 0 differences\n");
+    let sum = sum(2 * count, 6 * count, 10 * count);
     assert!(told.ends_with(&sum), "{told}");
 }

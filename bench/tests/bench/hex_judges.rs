@@ -2,38 +2,12 @@
 //! each reads what the library writes, and the library reads what each writes, as far as the slip
 //! takes it. docs/DIFFERENCES.md has what it does not.
 
-use std::io::ErrorKind;
-use std::process::{Command, Output};
-
-use super::folder::{Folder, text};
+use super::folder::Folder;
+use super::judges::{made, run};
 use super::slots::random;
 use onerom::{hex_text, read_hex};
 
 const BLOCK: usize = 1 << 16;
-
-/// A program on its words; none where it is not installed.
-fn run(program: &str, words: &[&str], folder: &Folder) -> Option<Output> {
-    let told = Command::new(program)
-        .args(words)
-        .current_dir(&folder.path)
-        .output();
-    match told {
-        Err(why) if why.kind() == ErrorKind::NotFound => {
-            println!("no {program}: skipped");
-            None
-        }
-        told => Some(told.expect("the program runs")),
-    }
-}
-
-/// What a program makes of a file, if it succeeds.
-fn made(folder: &Folder, program: &str, words: &[&str]) -> Option<Vec<u8>> {
-    let _ = std::fs::remove_file(folder.path.join("made"));
-    let told = run(program, words, folder)?;
-    let said = text(&told.stderr);
-    assert!(told.status.success(), "{program} {words:?}: {said}");
-    Some(folder.read("made"))
-}
 
 const OBJCOPY_WRITES: [&str; 6] = ["-I", "binary", "-O", "ihex", "chip.bin", "made"];
 const OBJCOPY_READS: [&str; 6] = ["-I", "ihex", "-O", "binary", "chip.hex", "made"];

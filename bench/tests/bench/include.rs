@@ -1,8 +1,8 @@
 //! Descriptions that include files: what stands where, and what an error says.
 
 use super::folder::{Folder, text};
-use super::slots::SAMPLE;
-use onerom_bench::text::{Included, read, read_with};
+use super::slots::{SAMPLE, opened};
+use onerom_bench::text::{read, read_with};
 
 const BOARD: &str = "socket 24\npin 1 gpio 0\n";
 const CHIP: &str = "word 1\nchip size 2\npackage 24\naddress 1\ndata 2\nsettings ce-oe\n";
@@ -12,14 +12,7 @@ fn told(
     text: &str,
     files: &[(&str, &str)],
 ) -> Result<onerom::Description, (Option<String>, String)> {
-    let mut open = |name: &str| {
-        let file = files.iter().find(|file| file.0 == name);
-        let (name, text) = file.ok_or(format!("{name}: none"))?;
-        Ok(Included {
-            name: name.to_string(),
-            bytes: text.as_bytes().to_vec(),
-        })
-    };
+    let mut open = opened(files);
     read_with(text, &mut open).map_err(|why| (why.file.clone(), why.to_string()))
 }
 

@@ -8,7 +8,7 @@ use onerom::description::{Description, LENGTH, Package};
 use onerom::fence::{Lent, Shown, Side};
 use onerom::interface::description as at;
 use onerom::{
-    build_rom_image_into, derive_addr_layout_into, derive_cs_data_layout_into, images,
+    ByteOrder, build_rom_image_into, derive_addr_layout_into, derive_cs_data_layout_into, images,
     round_trip_into, well_wired_result,
 };
 use onerom_bench::text;
@@ -180,7 +180,7 @@ const CALLS: [Call; 5] = [
     Call {
         name: "build",
         call: |read, lent| {
-            build_rom_image_into(read[0], read[1], read[2], read[3], read[4], lent[0])
+            build_rom_image_into(read[0], read[1], read[2], read[3], read[4], 0, lent[0])
         },
         read: |slot| {
             let layouts = [slot.addr_layout(), slot.cs_data_layout()];
@@ -195,7 +195,7 @@ const CALLS: [Call; 5] = [
             let [table, output, marks] = lent else {
                 panic!("three buffers");
             };
-            round_trip_into(read[0], read[1], read[2], table, output, marks)
+            round_trip_into(read[0], read[1], read[2], 0, table, output, marks)
         },
         read: |slot| slot.images().to_vec(),
         lent: &[LIMIT, 1024, 1024],
@@ -223,7 +223,7 @@ fn told(failure: Failure) -> u64 {
 
 /// What a search finds, as a record.
 fn found(case: &Case, record: fn(&[u8]) -> Vec<u8>) -> Answer {
-    let line = answer::answer(&Model, case);
+    let line = answer::answer(&Model::LOW_FIRST, case);
     let numbers = line.split(' ').map(|word| word.parse().expect("a number"));
     let numbers: Vec<u64> = numbers.collect();
     match numbers[1] << 48 | numbers[2] {
@@ -240,7 +240,7 @@ fn built(slot: &Slot, record: &Record) -> Answer {
         images: slot.images,
         table_length: LIMIT as u32,
     };
-    let table: Told<Vec<u8>> = answer::build(&Model, &case);
+    let table: Told<Vec<u8>> = answer::build(&Model::LOW_FIRST, &case);
     match table {
         Ok(table) => (0, vec![table]),
         Err(failure) => (told(failure), vec![vec![]]),
@@ -248,7 +248,7 @@ fn built(slot: &Slot, record: &Record) -> Answer {
 }
 
 fn returned(slot: &Slot, record: &Record) -> Answer {
-    let chain = Chain::of(&Model, &Box::new(*record), &slot.images);
+    let chain = Chain::of(&Model::LOW_FIRST, &Box::new(*record), &slot.images);
     let table = chain.table.unwrap_or_default();
     match chain.told {
         Ok((_, read)) => {
@@ -434,7 +434,8 @@ fn a_padded_span_reaches_past_the_last() {
     assert_eq!((layout.base, layout.pins), (27, 8));
     assert_eq!(layout.lines, [27, 28, 29]);
     let rom: Vec<u8> = (0..8).map(|n| 31 * n + 5).collect();
-    let trip = onerom::round_trip(&slot, &[Some(&rom)]).expect("it reads back");
+    let trip =
+        onerom::round_trip(&slot, &[Some(&rom)], ByteOrder::LowFirst).expect("it reads back");
     assert_eq!((trip.table.len(), trip.output), (256, rom));
     assert_eq!(onerom::well_wired(&slot, &layout), Ok(true));
 }

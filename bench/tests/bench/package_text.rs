@@ -3,18 +3,14 @@
 use std::fs;
 
 use super::folder::{Folder, text};
-use super::slots::{SAMPLE, SAMPLE_A, changed};
+use super::slots::{SAMPLE, SAMPLE_A, changed, opened};
 use onerom::description::{Candidates, Package};
-use onerom_bench::text::{Included, TextError, read, read_board, read_chip, read_with};
+use onerom_bench::text::{TextError, read, read_board, read_chip, read_with};
 
 const SHORT: &str = "socket 24\nchip size 2\naddress 1\ndata 2\n";
 
 fn error(text: &str) -> String {
     read(text).expect_err("no description").to_string()
-}
-
-fn no_file(name: &str) -> Result<Included, String> {
-    Err(format!("{name}: none"))
 }
 
 #[test]
@@ -101,14 +97,7 @@ fn a_gpio_that_no_package_has() {
 
 /// Reads a text that may include these files.
 fn included(text: &str, files: &[(&str, &str)]) -> Result<onerom::Description, TextError> {
-    read_with(text, &mut |name| {
-        let file = files.iter().find(|file| file.0 == name);
-        let (name, text) = file.ok_or(format!("{name}: none"))?;
-        Ok(Included {
-            name: name.to_string(),
-            bytes: text.as_bytes().to_vec(),
-        })
-    })
+    read_with(text, &mut opened(files))
 }
 
 #[test]
@@ -155,8 +144,8 @@ fn the_two_lines_can_stand_in_different_files() {
 
 #[test]
 fn a_board_has_a_letter_and_a_chip_a_number() {
-    let board = |text: &str| read_board(text, &mut no_file).map_err(|why| why.to_string());
-    let chip = |text: &str| read_chip(text, &mut no_file).map_err(|why| why.to_string());
+    let board = |text: &str| read_board(text, &mut opened(&[])).map_err(|why| why.to_string());
+    let chip = |text: &str| read_chip(text, &mut opened(&[])).map_err(|why| why.to_string());
     let told = board("package a\nsocket 28\n").expect("a board");
     assert_eq!(told.package, Package::A);
     assert_eq!(board("socket 28\n").expect("a board").package, Package::B);

@@ -235,7 +235,7 @@ fn flags_that_are_none_are_told() {
     let help = "`onerom-bench compare --help` says more";
     let wanted = format!("onerom-bench compare: expected no flag, found `-2`; {help}\n");
     assert_eq!(said(&["compare", "1", "-2"]), wanted);
-    let wanted = "onerom-bench build: expected --any-length, --hex, --part, --unverified, found `--any`; \
+    let wanted = "onerom-bench build: expected --any-length, --hex, --high-first, --part, --unverified, found `--any`; \
         `onerom-bench build --help` says more\n";
     assert_eq!(said(&["build", "a", "--any", "b", "c"]), wanted);
     // Behind `--` a word is a file's name.

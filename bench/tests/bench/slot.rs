@@ -1,6 +1,7 @@
 //! The stored slot's record, place by place, and the answers of the read-back and the round trip.
 
 use super::slots::NUMBERED;
+use onerom::ByteOrder::LowFirst;
 use onerom::description::{Candidates, SetType};
 use onerom::images;
 use onerom::slot::{Map, Rom, SlotKind, StoredSlot};
@@ -51,7 +52,7 @@ fn stored(slot: &Description) -> (StoredSlot, Vec<u8>) {
     let (addr, cs_data) = layouts(slot);
     let chips: Vec<Vec<u8>> = (0..slot.chips.len() as u32).map(chip).collect();
     let images: Vec<Option<&[u8]>> = chips.iter().map(|chip| Some(&chip[..])).collect();
-    let table = build_rom_image(slot, &addr, &cs_data, &images);
+    let table = build_rom_image(slot, &addr, &cs_data, &images, LowFirst);
     let stored = StoredSlot::of_layouts(slot, &addr, &cs_data);
     (stored, table.expect("a table"))
 }
@@ -118,7 +119,11 @@ fn places_of_nothing() {
 #[test]
 fn what_has_no_place_is_refused() {
     let (good, table) = stored(&sample());
-    let number = |slot: &StoredSlot| unscramble_slot(slot, &table).expect_err("a refusal").number;
+    let number = |slot: &StoredSlot| {
+        unscramble_slot(slot, &table, LowFirst)
+            .expect_err("a refusal")
+            .number
+    };
     let mut slot = good.clone();
     slot.overrides = vec![0; 300];
     assert_eq!((slot.to_bytes()[18], number(&slot)), (255, 1));
@@ -153,15 +158,18 @@ fn the_slot_of_found_layouts() {
 fn a_table_reads_back() {
     for slot in [sample(), doubled()] {
         let (slot, table) = stored(&slot);
-        assert_eq!(unscramble_slot(&slot, &table), Ok(vec![chip(0)]));
+        assert_eq!(unscramble_slot(&slot, &table, LowFirst), Ok(vec![chip(0)]));
     }
     let (mut slot, table) = stored(&banked());
-    assert_eq!(unscramble_slot(&slot, &table), Ok(vec![chip(0), chip(1)]));
+    assert_eq!(
+        unscramble_slot(&slot, &table, LowFirst),
+        Ok(vec![chip(0), chip(1)])
+    );
     // No more than a ROM's size, and none of a ROM of no size.
     slot.roms[0].size = 5;
     slot.roms[1].size = 0;
     assert_eq!(slot.lengths(table.len()), [5, 0]);
-    let told = unscramble_slot(&slot, &table);
+    let told = unscramble_slot(&slot, &table, LowFirst);
     assert_eq!(told, Ok(vec![chip(0)[..5].to_vec(), vec![]]));
 }
 
@@ -186,9 +194,9 @@ fn an_entry_that_disagrees_is_named() {
     table[1 << 13 | 1 << 1] ^= 0x10;
     let said = "23 Inconsistent, place 1 (ROM 0, address 1): \
         two entries give different values for one word";
-    assert_eq!(refused(unscramble_slot(&slot, &table)), said);
+    assert_eq!(refused(unscramble_slot(&slot, &table, LowFirst)), said);
     let (mut output, mut marks) = ([7; 8200], [7; 8193]);
-    let result = unscramble_slot_into(&slot.to_bytes(), &table, &mut output, &mut marks);
+    let result = unscramble_slot_into(&slot.to_bytes(), &table, 0, &mut output, &mut marks);
     assert_eq!(result, 23 << 48 | 1);
     assert_eq!(
         (output[..8192] == [0; 8192], &output[8192..]),
@@ -203,7 +211,7 @@ fn a_forced_bit_leaves_words_unserved() {
     let told = |overrides: &[u8]| {
         let mut slot = good.clone();
         slot.overrides = overrides.to_vec();
-        refused(unscramble_slot(&slot, &table))
+        refused(unscramble_slot(&slot, &table, LowFirst))
     };
     // A0 is on GPIO 21, X1 on 8.
     let odd = "24 Unserved, place 1 (ROM 0, address 1): no entry gives a word";
@@ -218,7 +226,10 @@ fn a_forced_bit_leaves_words_unserved() {
     // Kinds 0 and 1 force nothing, and what is outside of the window counts for nothing.
     let mut slot = good.clone();
     slot.overrides = vec![21, 1 << 6 | 21, LOW | 30];
-    assert_eq!(unscramble_slot(&slot, &table), Ok(vec![chip(0), chip(1)]));
+    assert_eq!(
+        unscramble_slot(&slot, &table, LowFirst),
+        Ok(vec![chip(0), chip(1)])
+    );
 }
 
 #[test]
@@ -226,17 +237,23 @@ fn a_plugin_is_copied() {
     let (mut slot, _) = stored(&sample());
     slot.kind = SlotKind::PioPlugin;
     slot.size = 3;
-    assert_eq!(unscramble_slot(&slot, &[1, 2, 3]), Ok(vec![vec![1, 2, 3]]));
+    assert_eq!(
+        unscramble_slot(&slot, &[1, 2, 3], LowFirst),
+        Ok(vec![vec![1, 2, 3]])
+    );
     let (mut output, mut marks) = ([7; 4], [7; 4]);
     let call = |output: &mut [u8], marks: &mut [u8]| {
-        unscramble_slot_into(&slot.to_bytes(), &[1, 2, 3], output, marks)
+        unscramble_slot_into(&slot.to_bytes(), &[1, 2, 3], 0, output, marks)
     };
     assert_eq!(call(&mut output, &mut marks), 0);
     assert_eq!((output, marks), ([1, 2, 3, 7], [7; 4]));
     let mut short = [7; 2];
     assert_eq!((call(&mut short, &mut []), short), (16 << 48, [7; 2]));
     let wrong_size = "17 WrongSize, place 0: the data's length is not the declared size";
-    assert_eq!(refused(unscramble_slot(&slot, &[1, 2])), wrong_size);
+    assert_eq!(
+        refused(unscramble_slot(&slot, &[1, 2], LowFirst)),
+        wrong_size
+    );
 }
 
 #[test]
@@ -245,7 +262,7 @@ fn refusals_before_any_entry_are_named() {
     let told = |change: fn(&mut StoredSlot)| {
         let mut slot = good.clone();
         change(&mut slot);
-        let said = refused(unscramble_slot(&slot, &table));
+        let said = refused(unscramble_slot(&slot, &table, LowFirst));
         said.split(':').next().unwrap_or_default().to_string()
     };
     let kind = |slot: &mut StoredSlot| slot.kind = SlotKind::Unknown(7);
@@ -270,7 +287,7 @@ fn refusals_before_any_entry_are_named() {
 fn buffers_keep_what_is_not_theirs() {
     let (slot, table) = stored(&sample());
     let call = |output: &mut [u8], marks: &mut [u8]| {
-        unscramble_slot_into(&slot.to_bytes(), &table, output, marks)
+        unscramble_slot_into(&slot.to_bytes(), &table, 0, output, marks)
     };
     let (mut output, mut marks) = ([7; 8200], [7; 8194]);
     assert_eq!(call(&mut output, &mut marks), 0);
@@ -292,7 +309,7 @@ fn buffers_keep_what_is_not_theirs() {
 fn any_record_is_taken() {
     let mut buffers = ([7; 64], [7; 64]);
     let mut call = |slot: &[u8]| {
-        let result = unscramble_slot_into(slot, &[0; 16], &mut buffers.0, &mut buffers.1);
+        let result = unscramble_slot_into(slot, &[0; 16], 0, &mut buffers.0, &mut buffers.1);
         (result >> 48, buffers)
     };
     for length in [0, 1, 375, 377] {
@@ -307,7 +324,7 @@ fn any_record_is_taken() {
 fn a_round_trip_leaves_the_table_and_the_words() {
     let (_, table) = stored(&banked());
     let (first, second) = (chip(0), chip(1));
-    let trip = round_trip(&banked(), &[Some(&first), Some(&second)]).expect("a trip");
+    let trip = round_trip(&banked(), &[Some(&first), Some(&second)], LowFirst).expect("a trip");
     assert_eq!(trip.table, table);
     assert_eq!(trip.output, [first, second].concat());
     assert_eq!(trip.marks, [1; 16384]);
@@ -316,7 +333,7 @@ fn a_round_trip_leaves_the_table_and_the_words() {
 #[test]
 fn a_round_trip_is_refused_by_its_first_call_that_is() {
     let said = |slot: &Description, images: &[Option<&[u8]>]| {
-        let refusal = round_trip(slot, images).expect_err("a refusal");
+        let refusal = round_trip(slot, images, LowFirst).expect_err("a refusal");
         assert_eq!(refusal.call, Call::RoundTrip);
         refusal.to_string()
     };
@@ -345,7 +362,7 @@ fn a_round_trip_writes_when_the_table_is_built() {
         let [mut table, mut output, mut marks] = lengths.map(|length| vec![7; length]);
         let record = sample().to_bytes();
         let lent = (&mut table[..], &mut output[..], &mut marks[..]);
-        let result = round_trip_into(&record, spans, &images, lent.0, lent.1, lent.2);
+        let result = round_trip_into(&record, spans, &images, 0, lent.0, lent.1, lent.2);
         (result >> 48, [table, output, marks])
     };
     let as_before = |lengths: [usize; 3]| lengths.map(|length| vec![7; length]);

@@ -1,6 +1,7 @@
 //! Stored slots as text: what is written reads back as it was, what is read, and what an error says.
 
 use super::slots::NUMBERED;
+use onerom::ByteOrder;
 use onerom::description::Candidates;
 use onerom::slot::{Layout, Map, Rom, SlotKind, StoredSlot};
 use onerom_bench::text::{is_slot, read_slot, write_slot};
@@ -47,7 +48,7 @@ fn error(text: &str) -> String {
 fn comes_back(change: impl FnOnce(&mut StoredSlot)) -> String {
     let mut slot = whole();
     change(&mut slot);
-    let text = write_slot(&slot);
+    let text = write_slot(&slot, ByteOrder::LowFirst);
     assert_eq!(read_slot(&text).as_ref(), Ok(&slot), "{text}");
     assert!(is_slot(&text));
     text
@@ -55,7 +56,7 @@ fn comes_back(change: impl FnOnce(&mut StoredSlot)) -> String {
 
 #[test]
 fn every_line_is_written_and_read() {
-    assert_eq!(write_slot(&whole()), WHOLE);
+    assert_eq!(write_slot(&whole(), ByteOrder::LowFirst), WHOLE);
     assert_eq!(read_slot(WHOLE), Ok(whole()));
 }
 
@@ -162,7 +163,7 @@ fn what_has_no_place_does_not_read_back() {
     let unread = |change: fn(&mut StoredSlot)| {
         let mut slot = whole();
         change(&mut slot);
-        error(&write_slot(&slot))
+        error(&write_slot(&slot, ByteOrder::LowFirst))
     };
     let said = unread(|slot| slot.overrides = vec![0; 65]);
     assert_eq!(said, "line 72: expected at most 64 overrides");
@@ -226,7 +227,7 @@ fn errors_name_line_and_word() {
     );
     told(
         "socket 24",
-        "expected slot, size, address, data, dma, bit-mode, select, override, x1, x2 or rom, \
+        "expected slot, size, order, address, data, dma, bit-mode, select, override, x1, x2 or rom, \
          found `socket`",
     );
 }

@@ -3,6 +3,7 @@
 #![allow(dead_code, reason = "each test takes what it needs")]
 
 use onerom::slot::Layout;
+use onerom_bench::text::Included;
 
 pub const SAMPLE: &str = include_str!("../../sample/2764.txt");
 /// The same chip on a board with an RP2350A.
@@ -23,6 +24,18 @@ pub const NUMBERED: Layout = Layout {
     cs_base: 16,
     first_cs_pin: 17,
 };
+
+/// Finds the file that a line includes among these; each is a name and its text.
+pub fn opened(files: &[(&str, &str)]) -> impl FnMut(&str) -> Result<Included, String> {
+    move |name| {
+        let file = files.iter().find(|file| file.0 == name);
+        let (name, text) = file.ok_or(format!("{name}: none"))?;
+        Ok(Included {
+            name: name.to_string(),
+            bytes: text.as_bytes().to_vec(),
+        })
+    }
+}
 
 /// The sample with some of its lines changed.
 pub fn changed(changes: &[(&str, &str)]) -> String {

@@ -23,14 +23,14 @@ pub unpack-law : UnpackLaw
 unpack-law = record {
   addr = λ description buffer. unpacks _ (addr-placed description buffer);
   cs-data = λ description layout buffer. unpacks _ (cs-data-placed description layout buffer);
-  build = λ description addr csData spans images table. unpacks _ (build-placed description addr csData spans images table);
-  read-back = λ slot stored output marks. unpacks _ (read-back-placed slot stored output marks);
+  build = λ description addr csData spans images order table. unpacks _ (build-placed description addr csData spans images order table);
+  read-back = λ slot stored order output marks. unpacks _ (read-back-placed slot stored order output marks);
 }
 
 pub rows-law : RowsLaw
 rows-law = record {
   addr = λ description buffer. first-number _ (addr-placed description buffer);
   cs-data = λ description layout buffer. first-number _ (cs-data-placed description layout buffer);
-  build = λ description addr csData spans images table. first-number _ (build-placed description addr csData spans images table);
-  read-back = λ slot stored output marks. first-number _ (read-back-placed slot stored output marks);
+  build = λ description addr csData spans images order table. first-number _ (build-placed description addr csData spans images order table);
+  read-back = λ slot stored order output marks. first-number _ (read-back-placed slot stored order output marks);
 }

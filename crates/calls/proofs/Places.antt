@@ -24,13 +24,14 @@ use Rattle.cs_data_layout.proofs.Places.{cs-data-place}
 use Rattle.build_args.specs.Args.{argsOf}
 use Rattle.rom_image.specs.Build.{Built}
 use Rattle.rom_image.proofs.Places.{build-place}
-use Rattle.stored_record.specs.StoredRecord.{storedAt, storedFormed}
+use Rattle.stored_record.specs.StoredRecord.{storedAt}
 use Rattle.unscramble.specs.Recovered.{ReadBack, readRefused}
 use Rattle.unscramble.proofs.Places.{read-place}
 use Rattle.description_record.specs.Record.{wellFormed, described, decodedOf}
 use Rattle.addr_record.specs.AddrRecord.{addrSize, layoutBytes, layoutAt, givenAt, givenFormed}
 use Rattle.cs_data_record.specs.CsDataRecord.{csDataSize, csDataBytes, csDataAt}
 use Rattle.image_record.specs.ImageRecord.{spansAt}
+use Rattle.calls.specs.Order.{orderAt}
 use Rattle.calls.specs.Calls.{
   Answered,
   answered,
@@ -48,6 +49,7 @@ use Rattle.calls.specs.Calls.{
   buildFrom,
   buildRefused,
   buildCall,
+  readFormed,
   readFrom,
   readBackCall,
 }
@@ -100,22 +102,22 @@ cs-data-placed description layout buffer =
     (λ d. cs-data-found (csDataAnswer d a .outcome) (csDataAnswer d a .layout) buffer (cs-data-place d a)) (omega arith))
     (omega arith)
 
-module _ (description addr csData spans images table : List ℕ) where
+module _ (description addr csData spans images : List ℕ) (order : ℕ) (table : List ℕ) where
   abbrev builds : Description → Built
-  builds d = buildFrom d addr csData spans images table
+  builds d = buildFrom (orderAt order) d addr csData spans images table
 
   abbrev buildStops : Refusal → Built
   buildStops why = buildRefused why table
 
-  pub build-placed : Placed (buildCall description addr csData spans images table .answer)
+  pub build-placed : Placed (buildCall description addr csData spans images order table .answer)
   unfolding buildCall
   build-placed =
-      if-place (λ (x : Built). x .answer) (buildFormed addr csData spans) (ifRecord builds buildStops (decodedOf description)) (buildStops OutOfDomain)
-      (record-place (λ (x : Built). x .answer) builds buildStops description (λ d. build-place (argsOf d (layoutAt addr) (csDataAt csData) (spansAt spans)) images table) (omega arith))
+      if-place (λ (x : Built). x .answer) (buildFormed addr csData spans order) (ifRecord builds buildStops (decodedOf description)) (buildStops OutOfDomain)
+      (record-place (λ (x : Built). x .answer) builds buildStops description (λ d. build-place (orderAt order) (argsOf d (layoutAt addr) (csDataAt csData) (spansAt spans)) images table) (omega arith))
       (omega arith)
 
-pub read-back-placed : (slot stored output marks : List ℕ) → Placed (readBackCall slot stored output marks .answer)
+pub read-back-placed : (slot stored : List ℕ) (order : ℕ) (output marks : List ℕ) → Placed (readBackCall slot stored order output marks .answer)
 unfolding readBackCall
-read-back-placed slot stored output marks =
-    if-place (λ (x : ReadBack). x .answer) (storedFormed slot) (readFrom slot stored output marks) (readRefused OutOfDomain output marks)
-    (read-place (storedAt slot) stored output marks) (omega arith)
+read-back-placed slot stored order output marks =
+    if-place (λ (x : ReadBack). x .answer) (readFormed slot order) (readFrom (orderAt order) slot stored output marks) (readRefused OutOfDomain output marks)
+    (read-place (orderAt order) (storedAt slot) stored output marks) (omega arith)

@@ -18,6 +18,7 @@ use Rattle.cs_data_layout.specs.Search.{csDataAnswer}
 use Rattle.cs_data_layout.specs.declared.layout.CsDataLayout.{CsDataLayout}
 use Rattle.cs_data_layout.specs.declared.layout.CsDataOutcome.{CsDataOutcome}
 use Rattle.cs_data_layout.specs.declared.layout.CsDataAnswer.{CsDataAnswer}
+use Rattle.words.specs.declared.ByteOrder.{ByteOrder}
 use Rattle.build_args.specs.Args.{argsOf}
 use Rattle.rom_image.specs.Build.{Built, built, buildOf}
 use Rattle.addr_record.specs.AddrRecord.{addrSize, layoutBytes, layoutAt, layoutFormed, givenAt, givenFormed}
@@ -26,6 +27,7 @@ use Rattle.image_record.specs.ImageRecord.{spansAt, spansFormed}
 use Rattle.stored_record.specs.StoredRecord.{storedAt, storedFormed}
 use Rattle.unscramble.specs.Recovered.{ReadBack, readRefused, unscrambled}
 use Rattle.calls.specs.Packed.{resultOf}
+use Rattle.calls.specs.Order.{orderFormed, orderAt}
 
 -- a search's call is lent one buffer
 pub record Answered : Type 0 where
@@ -80,34 +82,41 @@ csDataCall description layout buffer =
     (callRefused OutOfDomain buffer)
 
 -- both layouts and the spans: here each has to be a record
-abbrev pub buildFormed : List ℕ → List ℕ → List ℕ → Bool
-buildFormed addr csData spans = layoutFormed addr && csDataFormed csData && spansFormed spans
+-- 02 Slip 5 2: beside them stands the number of the byte order, one for all chips
+abbrev pub buildFormed : List ℕ → List ℕ → List ℕ → ℕ → Bool
+buildFormed addr csData spans order = layoutFormed addr && csDataFormed csData && spansFormed spans && orderFormed order
 
 -- a build says itself what its table holds
-abbrev pub buildFrom : Description → List ℕ → List ℕ → List ℕ → List ℕ → List ℕ → Built
-buildFrom d addr csData spans images table = buildOf (argsOf d (layoutAt addr) (csDataAt csData) (spansAt spans)) images table
+abbrev pub buildFrom : ByteOrder → Description → List ℕ → List ℕ → List ℕ → List ℕ → List ℕ → Built
+buildFrom order d addr csData spans images table = buildOf order (argsOf d (layoutAt addr) (csDataAt csData) (spansAt spans)) images table
 
 abbrev pub buildRefused : Refusal → List ℕ → Built
 buildRefused why table = built (Answer.Refused why) table
 
--- `onerom_build_rom_image` of the bytes of a description, of both layouts and of the spans, of the chips' bytes, and of a lent table
-unfoldable pub buildCall : List ℕ → List ℕ → List ℕ → List ℕ → List ℕ → List ℕ → Built
-buildCall description addr csData spans images table =
-    cond (buildFormed addr csData spans)
-    (ifRecord (λ d. buildFrom d addr csData spans images table) (λ why. buildRefused why table) (decodedOf description))
+-- `onerom_build_rom_image` of the bytes of a description, of both layouts and of the spans, of the chips' bytes, of the number of their
+-- order, and of a lent table
+unfoldable pub buildCall : List ℕ → List ℕ → List ℕ → List ℕ → List ℕ → ℕ → List ℕ → Built
+buildCall description addr csData spans images order table =
+    cond (buildFormed addr csData spans order)
+    (ifRecord (λ d. buildFrom (orderAt order) d addr csData spans images table) (λ why. buildRefused why table) (decodedOf description))
     (buildRefused OutOfDomain table)
 
 -- 01 Numbers 5: read-back says itself what its buffers hold, since 23 and 24 do write
-abbrev pub readFrom : List ℕ → List ℕ → List ℕ → List ℕ → ReadBack
-readFrom slot stored output marks = unscrambled (storedAt slot) stored output marks
+abbrev pub readFrom : ByteOrder → List ℕ → List ℕ → List ℕ → List ℕ → ReadBack
+readFrom order slot stored output marks = unscrambled order (storedAt slot) stored output marks
 
--- `onerom_unscramble_slot` of a stored slot's bytes, of its table, and of two lent buffers
+-- the stored slot has to be a record, and the number a byte order's
+abbrev pub readFormed : List ℕ → ℕ → Bool
+readFormed slot order = storedFormed slot && orderFormed order
+
+-- `onerom_unscramble_slot` of a stored slot's bytes, of its table, of the number of a byte order, and of two lent buffers
 -- 01 Number 1: the bytes are no stored slot record
+-- 02 Slip 5 2: or the number is no order's, which is looked at before the slot, and so for a plugin too
 -- 01 Numbers 2: such bytes are refused before anything is done with a slot
-unfoldable pub readBackCall : List ℕ → List ℕ → List ℕ → List ℕ → ReadBack
-readBackCall slot stored output marks =
-    cond (storedFormed slot)
-    (readFrom slot stored output marks)
+unfoldable pub readBackCall : List ℕ → List ℕ → ℕ → List ℕ → List ℕ → ReadBack
+readBackCall slot stored order output marks =
+    cond (readFormed slot order)
+    (readFrom (orderAt order) slot stored output marks)
     (readRefused OutOfDomain output marks)
 
 -- what a caller gets: the answer as one number, and the buffers

@@ -21,13 +21,15 @@ pub record Unpacks (a : Answer) : Type 0 where
 pub record UnpackLaw : Type 0 where
   pub addr : (description buffer : List ℕ) → Unpacks (addrCall description buffer .answer)
   pub cs-data : (description layout buffer : List ℕ) → Unpacks (csDataCall description layout buffer .answer)
-  pub build : (description addr csData spans images table : List ℕ) → Unpacks (buildCall description addr csData spans images table .answer)
-  pub read-back : (slot stored output marks : List ℕ) → Unpacks (readBackCall slot stored output marks .answer)
+  pub build : (description addr csData spans images : List ℕ) (order : ℕ) (table : List ℕ)
+      → Unpacks (buildCall description addr csData spans images order table .answer)
+  pub read-back : (slot stored : List ℕ) (order : ℕ) (output marks : List ℕ) → Unpacks (readBackCall slot stored order output marks .answer)
 
 -- the calls of document 01 refuse by its own rows, the first 25 of the table
 pub record RowsLaw : Type 0 where
   pub addr : (description buffer : List ℕ) → answerCode (addrCall description buffer .answer) .number ≤ 25
   pub cs-data : (description layout buffer : List ℕ) → answerCode (csDataCall description layout buffer .answer) .number ≤ 25
-  pub build : (description addr csData spans images table : List ℕ)
-      → answerCode (buildCall description addr csData spans images table .answer) .number ≤ 25
-  pub read-back : (slot stored output marks : List ℕ) → answerCode (readBackCall slot stored output marks .answer) .number ≤ 25
+  pub build : (description addr csData spans images : List ℕ) (order : ℕ) (table : List ℕ)
+      → answerCode (buildCall description addr csData spans images order table .answer) .number ≤ 25
+  pub read-back : (slot stored : List ℕ) (order : ℕ) (output marks : List ℕ)
+      → answerCode (readBackCall slot stored order output marks .answer) .number ≤ 25

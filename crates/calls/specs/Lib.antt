@@ -1,4 +1,5 @@
 pub mod Packed
+pub mod Order
 pub mod Calls
 pub mod Law
 pub mod Hex

@@ -8,7 +8,7 @@ use lib.Dec.{ltb, eqb}
 use lib.ListN.{length, getD, take, drop}
 use lib.Seq.{take-at}
 use borrow.Author.Tests.{eqb-true}
-use Rattle.lists.proofs.Bools.{and-left, both}
+use Rattle.lists.proofs.Bools.{and-left, and-right, both}
 use Rattle.lists.proofs.Loops.{zero-one}
 use Rattle.slot.specs.declared.description.Description.{Description}
 use Rattle.refusal.specs.declared.Refusal.{Refusal}
@@ -35,10 +35,12 @@ use Rattle.cs_data_record.specs.CsDataRecord.{csDataSize, csDataBytes, csDataAt
 use Rattle.cs_data_record.proofs.Back.{cs-data-formed, cs-data-back}
 use Rattle.calls.specs.Packed.{packedCode}
 use Rattle.calls.proofs.Law.{done-alone}
+use Rattle.calls.specs.Order.{orderFormed, orderAt}
 use Rattle.calls.specs.Calls.{Answered, answered, callRefused, written, ifDescribed, addrOutcome, addrFound, addrCall, csDataOutcome, csDataFound, csDataCall, buildFormed, buildRefused, buildCall, readBackCall, readResult}
 use Rattle.build_args.specs.Faults.{tableSize}
 use Rattle.rom_image.specs.Build.{Built, buildOf}
 use Rattle.unscramble.specs.Recovered.{unscrambled}
+use Rattle.image_record.specs.ImageRecord.{spansFormed}
 use Rattle.stored_record.specs.StoredRecord.{storedAt}
 use Rattle.round_trip.specs.RoundTrip.{Accepted, tableBuilt}
 use Rattle.round_trip.proofs.RoundTrip.{round-trip}
@@ -162,15 +164,23 @@ module _ (b : Bench) (ok : FourCalls.Accepted b) where
 
   -- the build is given both
   abbrev made : Built
-  made = buildCall (b .description) (addrRecord b) (csDataRecord b) (b .spans) (b .images) (b .table)
+  made = buildCall (b .description) (addrRecord b) (csDataRecord b) (b .spans) (b .images) (b .order) (b .table)
 
-  built-is : made ≡ buildOf (slotArgs b) (b .images) (b .table)
+  is-record : buildFormed (addrRecord b) (csDataRecord b) (b .spans) (b .order) ≡ true
   unfolding buildCall
-  built-is =
-      let is-record = formed (λ (x : Built). x .answer) _ (buildRefused OutOfDomain (b .table)) OutOfDomain refl (buildFormed (addrRecord b) (csDataRecord b) (b .spans)) (done-alone (made .answer) (ok .build)) in
-      rw (is-record, done)
+  is-record =
+      formed (λ (x : Built). x .answer) _ (buildRefused OutOfDomain (b .table)) OutOfDomain refl (buildFormed (addrRecord b) (csDataRecord b) (b .spans) (b .order))
+      (done-alone (made .answer) (ok .build))
 
-  accepted : Accepted (slotArgs b) (b .images) (b .table)
+  built-is : made ≡ buildOf (orderAt (b .order)) (slotArgs b) (b .images) (b .table)
+  unfolding buildCall
+  built-is = rw (is-record, done)
+
+  -- and a number that is an order's
+  pub in-order : orderFormed (b .order) ≡ true
+  in-order = and-right (layoutFormed (addrRecord b) && csDataFormed (csDataRecord b) && spansFormed (b .spans)) (orderFormed (b .order)) is-record
+
+  accepted : Accepted (orderAt (b .order)) (slotArgs b) (b .images) (b .table)
   accepted = record {
     address = address .0 ∙ ap laidOut (sym addr-back);
     select =
@@ -178,12 +188,12 @@ module _ (b : Bench) (ok : FourCalls.Accepted b) where
     build = ap (λ (x : Built). x .answer) (sym built-is) ∙ done-alone (made .answer) (ok .build);
   }
 
-  table-is : stored b ≡ tableBuilt (slotArgs b) (b .images) (b .table)
+  table-is : stored b ≡ tableBuilt (orderAt (b .order)) (slotArgs b) (b .images) (b .table)
   table-is = ap (λ (x : Built). take (tableSize (slotArgs b .description) (slotArgs b .addr)) (x .table)) built-is
 
 pub four-calls : FourCalls.FourCalls
 unfolding readBackCall packedCode
 four-calls b slot output marks bytes ok wired given room =
-    let read = round-trip (slotArgs b) (b .images) (b .table) (storedAt slot) output marks bytes (given .says) (given .unforced) (accepted b ok) wired room in
-    rw (given .formed)
-    (ap (λ (t : List ℕ). readResult (unscrambled (storedAt slot) t output marks)) (table-is b ok) ∙ ap readResult read)
+    let read = round-trip (orderAt (b .order)) (slotArgs b) (b .images) (b .table) (storedAt slot) output marks bytes (given .says) (given .unforced) (accepted b ok) wired room in
+    rw (given .formed, in-order b ok)
+    (ap (λ (t : List ℕ). readResult (unscrambled (orderAt (b .order)) (storedAt slot) t output marks)) (table-is b ok) ∙ ap readResult read)

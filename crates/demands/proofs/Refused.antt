@@ -25,6 +25,7 @@ use Rattle.cs_data_layout.specs.Search.{csDataAnswer}
 use Rattle.cs_data_layout.specs.declared.layout.CsDataLayout.{CsDataLayout}
 use Rattle.cs_data_layout.specs.declared.layout.CsDataOutcome.{CsDataOutcome}
 use Rattle.image_record.specs.ImageRecord.{spansAt}
+use Rattle.words.specs.declared.ByteOrder.{ByteOrder}
 use Rattle.build_args.specs.Args.{argsOf}
 use Rattle.build_args.specs.Domain.{buildIn}
 use Rattle.build_args.specs.Faults.{buildFault}
@@ -33,7 +34,7 @@ use Rattle.rom_image.specs.Build.{buildAfter, built, buildOf}
 use Rattle.description_record.specs.Record.{decodedOf}
 use Rattle.addr_record.specs.AddrRecord.{addrSize, layoutBytes, layoutAt, givenAt, givenFormed}
 use Rattle.cs_data_record.specs.CsDataRecord.{csDataSize, csDataBytes, csDataAt}
-use Rattle.stored_record.specs.StoredRecord.{storedAt, storedFormed}
+use Rattle.stored_record.specs.StoredRecord.{storedAt}
 use Rattle.picks.specs.declared.Picked.{Picked}
 use Rattle.picks.specs.declared.Picked.the-variants.{NoChip, Chip}
 use Rattle.stored_slot.specs.Stored.{storedIn, storedPins}
@@ -45,7 +46,8 @@ use Rattle.stored_slot.specs.declared.stored.SlotType.{SlotType}
 use Rattle.stored_slot.specs.declared.stored.SlotType.the-variants.{Unknown, Plugin, Roms}
 use Rattle.unscramble.specs.Recovered.{firstFor, keptValue, disagreesFor, inconsistent, unserved, readBack, readRefused, front, afterEntries, readAfter, ofType, unscrambled}
 use Rattle.calls.specs.Packed.{packed, packedCode, resultOf}
-use Rattle.calls.specs.Calls.{Answered, answered, callRefused, written, ifDescribed, ifRecord, addrOutcome, addrFound, addrCall, csDataOutcome, csDataFound, csDataCall, buildFrom, buildFormed, buildRefused, buildCall, readBackCall, Returned, ReadReturned, searchResult, buildResult, readResult}
+use Rattle.calls.specs.Order.{orderAt}
+use Rattle.calls.specs.Calls.{Answered, answered, callRefused, written, ifDescribed, ifRecord, addrOutcome, addrFound, addrCall, csDataOutcome, csDataFound, csDataCall, buildFrom, buildFormed, buildRefused, buildCall, readFormed, readBackCall, Returned, ReadReturned, searchResult, buildResult, readResult}
 use Rattle.calls.proofs.Law.{rows-law}
 use Rattle.demands.specs.Refused.{numberIn, FromTable, Ends, ReadEnds, FirstDemand}
 use Rattle.demands.specs.Refused as ends
@@ -101,17 +103,17 @@ cs-data-ends CsDataOutcome.LaidOut l buffer = written-ends (csDataBytes l) buffe
 cs-data-ends (CsDataOutcome.Refused why) l buffer = stays why buffer
 
 -- the build
-after-ends : (b : BuildArgs) (images table : List ℕ) (f : FirstFault) → EndsSo table (buildResult (buildAfter b images table f))
+after-ends : (order : ByteOrder) (b : BuildArgs) (images table : List ℕ) (f : FirstFault) → EndsSo table (buildResult (buildAfter order b images table f))
 unfolding packedCode
-after-ends b images table (Of why) = stays why table
-after-ends b images table None = λ h. ends.Ends.done refl
+after-ends order b images table (Of why) = stays why table
+after-ends order b images table None = λ h. ends.Ends.done refl
 
-build-ends : (b : BuildArgs) (images table : List ℕ) → EndsSo table (buildResult (buildOf b images table))
+build-ends : (order : ByteOrder) (b : BuildArgs) (images table : List ℕ) → EndsSo table (buildResult (buildOf order b images table))
 unfolding buildOf
-build-ends b images table = by (buildIn b)
+build-ends order b images table = by (buildIn b)
   where
-    by : (t : Bool) → EndsSo table (buildResult (cond t (buildAfter b images table (buildFault b images (length table))) (built (Refused OutOfDomain) table)))
-    by true = after-ends b images table (buildFault b images (length table))
+    by : (t : Bool) → EndsSo table (buildResult (cond t (buildAfter order b images table (buildFault b images (length table))) (built (Refused OutOfDomain) table)))
+    by true = after-ends order b images table (buildFault b images (length table))
     by false = stays OutOfDomain table
 
 -- what the entries come to: 23 or 24
@@ -132,7 +134,7 @@ unfolding firstOf
 told-first zero f h = tt
 told-first (suc n) f h = told-or (firstOf n f) (f n) (told-first n f h) (h n)
 
-module _ (s : StoredSlot) (stored output marks : List ℕ) where
+module _ (order : ByteOrder) (s : StoredSlot) (stored output marks : List ℕ) where
   read-stays : (why : Refusal) → ReadEndsSo s output marks (readResult (readRefused why output marks))
   read-stays why h = ends.ReadEnds.refused (from-table why h) refl refl
 
@@ -148,13 +150,13 @@ module _ (s : StoredSlot) (stored output marks : List ℕ) where
           let n = addressAt s rom i in
           told-if (serves s set rom n i && not (eqb (valueAt s stored rom i) (keptValue s set stored rom n))) (Inconsistent rom n) (inl refl)
 
-  entries-end : (set : ChipSetType) (f : FirstFault) → Told f → ReadEndsSo s output marks (readResult (afterEntries s set stored output marks f))
+  entries-end : (set : ChipSetType) (f : FirstFault) → Told f → ReadEndsSo s output marks (readResult (afterEntries order s set stored output marks f))
   unfolding packedCode
   entries-end set None t h = ends.ReadEnds.done refl
   entries-end set (Of why) (inl e) h = ends.ReadEnds.cleared (inl (number-of why ∙ e)) refl refl
   entries-end set (Of why) (inr e) h = ends.ReadEnds.cleared (inr (number-of why ∙ e)) refl refl
 
-  roms-end : (set : ChipSetType) (f : FirstFault) → ReadEndsSo s output marks (readResult (readAfter s set stored output marks f))
+  roms-end : (set : ChipSetType) (f : FirstFault) → ReadEndsSo s output marks (readResult (readAfter order s set stored output marks f))
   roms-end set (Of why) = read-stays why
   roms-end set None = entries-end set (orElse (inconsistent s set stored) (unserved s set)) (told-entries set)
 
@@ -163,25 +165,25 @@ module _ (s : StoredSlot) (stored output marks : List ℕ) where
   plugin-end true = read-stays ShortBuffer
   plugin-end false = λ h. ends.ReadEnds.done refl
 
-  type-end : (t : SlotType) → ReadEndsSo s output marks (readResult (ofType s stored output marks t))
+  type-end : (t : SlotType) → ReadEndsSo s output marks (readResult (ofType order s stored output marks t))
   type-end Unknown = read-stays UnknownSlotType
   type-end Plugin = plugin-end (ltb (length output) (length stored))
   type-end (Roms set) = roms-end set (romsFault s set stored (length output) (length marks))
 
   tested-end : (in-domain wrong : Bool)
-      → ReadEndsSo s output marks (readResult (cond in-domain (cond wrong (readRefused WrongSize output marks) (ofType s stored output marks (s .«slot_type»))) (readRefused OutOfDomain output marks)))
+      → ReadEndsSo s output marks (readResult (cond in-domain (cond wrong (readRefused WrongSize output marks) (ofType order s stored output marks (s .«slot_type»))) (readRefused OutOfDomain output marks)))
   tested-end false wrong = read-stays OutOfDomain
   tested-end true true = read-stays WrongSize
   tested-end true false = type-end (s .«slot_type»)
 
-  read-end : ReadEndsSo s output marks (readResult (unscrambled s stored output marks))
+  read-end : ReadEndsSo s output marks (readResult (unscrambled order s stored output marks))
   unfolding unscrambled
   read-end = tested-end (storedIn s) (wrongSize s stored)
 
-formed-end : (t : Bool) (s : StoredSlot) (stored output marks : List ℕ)
-    → ReadEndsSo s output marks (readResult (cond t (unscrambled s stored output marks) (readRefused OutOfDomain output marks)))
-formed-end true s stored output marks = read-end s stored output marks
-formed-end false s stored output marks = read-stays s stored output marks OutOfDomain
+formed-end : (t : Bool) (order : ByteOrder) (s : StoredSlot) (stored output marks : List ℕ)
+    → ReadEndsSo s output marks (readResult (cond t (unscrambled order s stored output marks) (readRefused OutOfDomain output marks)))
+formed-end true order s stored output marks = read-end order s stored output marks
+formed-end false order s stored output marks = read-stays order s stored output marks OutOfDomain
 
 pub first-demand : FirstDemand
 unfolding addrCall csDataCall buildCall readBackCall
@@ -197,14 +199,14 @@ first-demand = record {
       (λ d. cs-data-ends (csDataAnswer d given .outcome) (csDataAnswer d given .layout) layout) (λ why. stays why layout) description)
       (stays OutOfDomain layout)
       (few (csDataCall description addr-layout layout .answer) (rows-law .cs-data description addr-layout layout));
-  build = λ description addr-layout cs-data-layout spans images table.
-      formed-ends (λ x. EndsSo table (buildResult x)) (buildFormed addr-layout cs-data-layout spans) _ _
-      (described-ends (λ x. EndsSo table (buildResult x)) (λ d. buildFrom d addr-layout cs-data-layout spans images table) (λ why. buildRefused why table)
-      (λ d. build-ends (argsOf d (layoutAt addr-layout) (csDataAt cs-data-layout) (spansAt spans)) images table) (λ why. stays why table) description)
+  build = λ description addr-layout cs-data-layout spans images order table.
+      formed-ends (λ x. EndsSo table (buildResult x)) (buildFormed addr-layout cs-data-layout spans order) _ _
+      (described-ends (λ x. EndsSo table (buildResult x)) (λ d. buildFrom (orderAt order) d addr-layout cs-data-layout spans images table) (λ why. buildRefused why table)
+      (λ d. build-ends (orderAt order) (argsOf d (layoutAt addr-layout) (csDataAt cs-data-layout) (spansAt spans)) images table) (λ why. stays why table) description)
       (stays OutOfDomain table)
-      (few (buildCall description addr-layout cs-data-layout spans images table .answer)
-      (rows-law .build description addr-layout cs-data-layout spans images table));
-  read-back = λ slot stored output marks.
-      formed-end (storedFormed slot) (storedAt slot) stored output marks
-      (few (readBackCall slot stored output marks .answer) (rows-law .read-back slot stored output marks));
+      (few (buildCall description addr-layout cs-data-layout spans images order table .answer)
+      (rows-law .build description addr-layout cs-data-layout spans images order table));
+  read-back = λ slot stored order output marks.
+      formed-end (readFormed slot order) (orderAt order) (storedAt slot) stored output marks
+      (few (readBackCall slot stored order output marks .answer) (rows-law .read-back slot stored order output marks));
 }

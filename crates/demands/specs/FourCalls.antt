@@ -25,6 +25,8 @@ pub record Bench : Type 0 where
   pub description : List ℕ
   pub spans : List ℕ
   pub images : List ℕ
+  -- the number of the byte order, for the build and for read-back alike
+  pub order : ℕ
   -- lent to the searches and to the build
   pub addr-buffer : List ℕ
   pub cs-data-buffer : List ℕ
@@ -45,7 +47,7 @@ abbrev pub csDataRecord : Bench → List ℕ
 csDataRecord b = take csDataSize (selected b .buffer)
 
 abbrev pub built : Bench → Returned
-built b = buildResult (buildCall (b .description) (addrRecord b) (csDataRecord b) (b .spans) (b .images) (b .table))
+built b = buildResult (buildCall (b .description) (addrRecord b) (csDataRecord b) (b .spans) (b .images) (b .order) (b .table))
 
 -- 00 Demand 3: both searches and the build accept
 pub record Accepted (b : Bench) : Type 0 where
@@ -70,10 +72,11 @@ pub record SlotRecord (b : Bench) (slot : List ℕ) : Type 0 where
 
 -- 00 Demand 3: of a well wired slot that is accepted, read-back returns 0, each chip's words and a mark for each, whatever the chips hold
 -- and whatever stood in the five buffers
+-- 02 Slip 5 4: under either byte order, the words match the dump
 abbrev pub FourCalls : Type 0
 FourCalls =
     (b : Bench) (slot output marks : List ℕ) → ((k : ℕ) → getD (b .images) k 0 < 256)
     → Accepted b → WellWired (slotArgs b .description) (slotArgs b .addr) → SlotRecord b slot
     → Room (slotArgs b .description) (slotArgs b .addr) output marks
-    → readResult (readBackCall slot (stored b) output marks)
+    → readResult (readBackCall slot (stored b) (b .order) output marks)
     ≡ readReturned 0 (returnedWhole (slotArgs b) (b .images) output marks .output) (returnedWhole (slotArgs b) (b .images) output marks .marks)

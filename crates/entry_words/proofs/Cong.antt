@@ -43,10 +43,10 @@ module _ (t u : ℕ → ℕ) (n : ℕ) (for : (i : ℕ) → i < n → t i ≡ u 
     pub output-cong : (w words : ℕ) → outputAfter w t v words n ≡ outputAfter w u z words n
     output-cong w words = words-cong w _ _ words (λ f h. value-cong f)
 
+  -- and of which the same two say the same
+  module _ (v z : ℕ → ℕ) (alike : (i j : ℕ) → i < n → j < n → eqb (v i) (v j) ≡ eqb (z i) (z j)) where
     test-same : (i x : ℕ) (b : Bool) → ltb x i ≡ b → i < n → b && not (eqb (v i) (v x)) ≡ b && not (eqb (z i) (z x))
-    test-same i x true e l =
-        let h = ltb-true x i e in
-        ap (λ (a : ℕ). not (eqb a (v x))) (says i l) ∙ ap (λ (a : ℕ). not (eqb (z i) a)) (says x (omega arith))
+    test-same i x true e l = let h = ltb-true x i e in ap not (alike i x l (omega arith))
     test-same i x false e l = refl
 
     disagrees-cong : (words i : ℕ) → i < n → disagrees t v words i ≡ disagrees u z words i

@@ -16,6 +16,7 @@ use refusal::Answer;
 use rom_image::build_rom_image;
 use slot::description::Description;
 use unscramble::unscramble_slot;
+use words::ByteOrder;
 ghost use mathlib.Core.Path.{_≡_};
 ghost use mathlib.Core.Bool.{true};
 ghost use Prim.Native.Nat.{_≤_};
@@ -28,20 +29,27 @@ ghost use Rattle.round_trip.specs.design.Readable.{Readable};
 ghost use Rattle.round_trip.specs.Chain.{trip, readOf, buildTrip, selectTrip, roundTripOf, AsDemanded};
 
 // Reads the table back that a build has left at the front of a buffer.
-fn read_table(b: BuildArgs, table: &[u8], output: &mut [u8], marks: &mut [u8]) -> Answer
+fn read_table(
+    order: ByteOrder,
+    b: BuildArgs,
+    table: &[u8],
+    output: &mut [u8],
+    marks: &mut [u8],
+) -> Answer
     requires { ⌜ Readable b × (tableSize (b .description) (b .addr) ≤ length (now table)) ⌝ }
     ensures { λ r. ⌜ trip r (now (table .entry)) (now (output .exit)) (now (marks .exit))
-        ≡ readOf b (now (table .entry)) (now (output .entry)) (now (marks .entry)) ⌝ }
+        ≡ readOf order b (now (table .entry)) (now (output .entry)) (now (marks .entry)) ⌝ }
 {
     let d = b.description;
     let a = b.addr;
     let c = b.cs_data;
     let size = table_size(d, a) as usize;
-    unscramble_slot(stored_slot(d, a, c), &table[0..size], output, marks)
+    unscramble_slot(order, stored_slot(d, a, c), &table[0..size], output, marks)
 }
 
 // The build by the layouts found, and read-back of its table.
 fn build_and_read(
+    order: ByteOrder,
     b: BuildArgs,
     images: &[u8],
     table: &mut [u8],
@@ -49,16 +57,17 @@ fn build_and_read(
     marks: &mut [u8],
 ) -> Answer
     ensures { λ r. ⌜ trip r (now (table .exit)) (now (output .exit)) (now (marks .exit))
-        ≡ buildTrip b (now (output .entry)) (now (marks .entry)) (buildOf b (now (images .entry)) (now (table .entry))) ⌝ }
+        ≡ buildTrip order b (now (output .entry)) (now (marks .entry)) (buildOf order b (now (images .entry)) (now (table .entry))) ⌝ }
 {
-    match build_rom_image(b, images, table) {
+    match build_rom_image(order, b, images, table) {
         Answer::Refused(why) => Answer::Refused(why),
-        Answer::Done => read_table(b, table, output, marks),
+        Answer::Done => read_table(order, b, table, output, marks),
     }
 }
 
 // The select search by the address layout found, and what follows it.
 fn select_and_build(
+    order: ByteOrder,
     d: Description,
     a: AddrLayout,
     images: &[u8],
@@ -68,7 +77,7 @@ fn select_and_build(
     marks: &mut [u8],
 ) -> Answer
     ensures { λ r. ⌜ trip r (now (table .exit)) (now (output .exit)) (now (marks .exit))
-        ≡ selectTrip d a (now (images .entry)) spans (now (table .entry)) (now (output .entry)) (now (marks .entry))
+        ≡ selectTrip order d a (now (images .entry)) spans (now (table .entry)) (now (output .entry)) (now (marks .entry))
         (csDataAnswer d (record { given = true; layout = a })) ⌝ }
 {
     let found = derive_cs_data_layout(
@@ -89,7 +98,7 @@ fn select_and_build(
                 cs_data: c,
                 spans,
             };
-            build_and_read(args, images, table, output, marks)
+            build_and_read(order, args, images, table, output, marks)
         }
     }
 }
@@ -97,6 +106,7 @@ fn select_and_build(
 // Both searches, the build and read-back in turn. The first that refuses answers; a well wired slot that is not refused reads back as
 // its chips.
 pub fn round_trip(
+    order: ByteOrder,
     d: Description,
     images: &[u8],
     spans: [ImageSpan; 4],
@@ -105,9 +115,9 @@ pub fn round_trip(
     marks: &mut [u8],
 ) -> Answer
     ensures { λ r. ⌜ trip r (now (table .exit)) (now (output .exit)) (now (marks .exit))
-        ≡ roundTripOf d (now (images .entry)) spans (now (table .entry)) (now (output .entry)) (now (marks .entry)) ⌝ }
+        ≡ roundTripOf order d (now (images .entry)) spans (now (table .entry)) (now (output .entry)) (now (marks .entry)) ⌝ }
     ensures { λ r. ⌜
-        AsDemanded d (now (images .entry)) spans (now (table .entry)) (now (output .entry)) (now (marks .entry))
+        AsDemanded order d (now (images .entry)) spans (now (table .entry)) (now (output .entry)) (now (marks .entry))
         (readBack r (now (output .exit)) (now (marks .exit))) ⌝ }
 {
     let found = derive_addr_layout(d);
@@ -115,7 +125,7 @@ pub fn round_trip(
     match outcome {
         AddrOutcome::Refused(why) => Answer::Refused(why),
         AddrOutcome::LaidOut => {
-            select_and_build(d, found.layout, images, spans, table, output, marks)
+            select_and_build(order, d, found.layout, images, spans, table, output, marks)
         }
     }
 }

@@ -23,7 +23,7 @@ use Rattle.cs_verdict.specs.Verdict.{verdictOf}
 use Rattle.cs_choices.specs.Nothing.{interior, lastRefused}
 use Rattle.cs_data_layout.specs.Search.{earlier, csBest, noneFits}
 use Rattle.bits.specs.Bits.{gather, scatter}
-use Rattle.words.specs.Words.{wordFrom, bytesOf, padWord}
+use Rattle.words.specs.Words.{wordFrom, chipWordFrom, bytesOf, padWord}
 use Rattle.build_args.specs.Images.{chipBytes}
 use Rattle.build_args.specs.Domain as SlotDomain
 use Rattle.refusal.specs.First.{firstOf}
@@ -42,7 +42,7 @@ unfolding cases
     lineSocket lineListed addrListed layoutIn reach fixedSpan spanUpTo spanTrial addrBest
     pinListed dataListed activeListed selectListed commonedListed numbered csSearchIn orNoActive checked
     verdictOf interior lastRefused earlier csBest noneFits
-    gather scatter wordFrom bytesOf padWord chipBytes
+    gather scatter wordFrom chipWordFrom bytesOf padWord chipBytes
     SlotDomain.selectLinesIn SlotDomain.csDataIn SlotDomain.buildIn
     firstOf Faults.addressIn Faults.picksIn Faults.dataPositionsIn Faults.buildFault
     chipAddress chipPicked scrambled entryAt tableOf buildOf

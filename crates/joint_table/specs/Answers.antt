@@ -20,6 +20,7 @@ use Rattle.cs_data_layout.specs.declared.layout.CsDataLayout.{CsDataLayout}
 use Rattle.cs_data_layout.specs.declared.layout.CsDataOutcome.{CsDataOutcome}
 use Rattle.build_args.specs.Faults.{tableSize}
 use Rattle.build_args.specs.Args.{argsOf}
+use Rattle.words.specs.declared.ByteOrder.the-variants.{LowFirst}
 use Rattle.rom_image.specs.Build.{buildOf}
 use Rattle.refusal.specs.declared.Answer.{Answer}
 use Rattle.joint_table.specs.Slots.{notGiven, addressLines, spans}
@@ -88,5 +89,5 @@ builtTold (Answer.Refused why) table i = toldRefused why
 -- 01 Bench 6: the entry of a table that is built for a chip of d's size
 abbrev pub entryOf : Description → CsDataLayout → List ℕ → ℕ → Told
 entryOf d c bytes i =
-    let b = buildOf (argsOf d addressLines c (spans bytes)) bytes (replicate (tableSize d addressLines) 0) in
+    let b = buildOf LowFirst (argsOf d addressLines c (spans bytes)) bytes (replicate (tableSize d addressLines) 0) in
     builtTold (b .answer) (b .table) i

@@ -63,8 +63,8 @@ pub extern "C" fn onerom_derive_cs_data_layout(
     cs_data::hand_over(derive_cs_data_layout(d, given_at(addr_layout)), layout)
 }
 
-// Builds the table of the slot that the record describes, from its layouts and the chips' bytes: `images` has them all, and
-// `spans` says where in it each chip's stand.
+// Builds the table of the slot that the record describes, from its layouts and the chips' bytes: `images` has them all, `spans` says
+// where in it each chip's stand, and `order` which byte of their words comes first.
 #[no_mangle]
 pub extern "C" fn onerom_build_rom_image(
     description: &[u8],
@@ -72,13 +72,14 @@ pub extern "C" fn onerom_build_rom_image(
     cs_data_layout: &[u8],
     spans: &[u8],
     images: &[u8],
+    order: u64,
     table: &mut [u8],
 ) -> u64
     ensures { λ r. ⌜ returned r (now (table .exit))
         ≡ buildResult (buildCall (now (description .entry)) (now («addr_layout» .entry)) (now («cs_data_layout» .entry)) (now (spans .entry))
-        (now (images .entry)) (now (table .entry))) ⌝ }
+        (now (images .entry)) order (now (table .entry))) ⌝ }
 {
-    if !build::formed(addr_layout, cs_data_layout, spans) {
+    if !build::formed(addr_layout, cs_data_layout, spans, order) {
         return packed(Refusal::OutOfDomain);
     }
     let decoded = description_record::decode(description);
@@ -86,6 +87,7 @@ pub extern "C" fn onerom_build_rom_image(
     match outcome {
         Answer::Done => {
             build::hand_over(
+                order,
                 decoded.description,
                 addr_layout,
                 cs_data_layout,
@@ -98,47 +100,59 @@ pub extern "C" fn onerom_build_rom_image(
     }
 }
 
-// Reads back the slot that the record stores, from its table: each ROM's words, chip after chip, and a mark for each word.
+// Reads back the slot that the record stores, from its table: each ROM's words, chip after chip, their bytes in the order asked for, and
+// a mark for each word.
 #[no_mangle]
 pub extern "C" fn onerom_unscramble_slot(
     slot: &[u8],
     stored: &[u8],
+    order: u64,
     output: &mut [u8],
     marks: &mut [u8],
 ) -> u64
     ensures { λ r. ⌜ readReturned r (now (output .exit)) (now (marks .exit))
-        ≡ readResult (readBackCall (now (slot .entry)) (now (stored .entry)) (now (output .entry)) (now (marks .entry))) ⌝ }
+        ≡ readResult (readBackCall (now (slot .entry)) (now (stored .entry)) order (now (output .entry)) (now (marks .entry))) ⌝ }
 {
-    if !stored_record::formed(slot) {
+    if !read_back::formed(slot, order) {
         return packed(Refusal::OutOfDomain);
     }
-    read_back::hand_over(slot, stored, output, marks)
+    read_back::hand_over(order, slot, stored, output, marks)
 }
 
-// Makes both layouts, the table and its read-back in turn. `images` has the chips' bytes, and `spans` says where in it each chip's stand.
+// Makes both layouts, the table and its read-back in turn. `images` has the chips' bytes in one order, and `spans` says where in it each
+// chip's stand.
 #[no_mangle]
 pub extern "C" fn onerom_round_trip(
     description: &[u8],
     spans: &[u8],
     images: &[u8],
+    order: u64,
     table: &mut [u8],
     output: &mut [u8],
     marks: &mut [u8],
 ) -> u64
     ensures { λ r. ⌜ tripReturned r (now (table .exit)) (now (output .exit)) (now (marks .exit))
-        ≡ tripResult (tripCall (now (description .entry)) (now (spans .entry)) (now (images .entry)) (now (table .entry))
+        ≡ tripResult (tripCall (now (description .entry)) (now (spans .entry)) (now (images .entry)) order (now (table .entry))
         (now (output .entry)) (now (marks .entry))) ⌝ }
-    ensures { λ r. ⌜ CallDemanded (now (description .entry)) (now (spans .entry)) (now (images .entry)) (now (table .entry))
+    ensures { λ r. ⌜ CallDemanded (now (description .entry)) (now (spans .entry)) (now (images .entry)) order (now (table .entry))
         (now (output .entry)) (now (marks .entry)) (readReturned r (now (output .exit)) (now (marks .exit))) ⌝ }
 {
-    if !image_record::formed(spans) {
+    if !trip::formed(spans, order) {
         return packed(Refusal::OutOfDomain);
     }
     let decoded = description_record::decode(description);
     let outcome = decoded.answer;
     match outcome {
         Answer::Done => {
-            trip::hand_over(decoded.description, spans, images, table, output, marks)
+            trip::hand_over(
+                order,
+                decoded.description,
+                spans,
+                images,
+                table,
+                output,
+                marks,
+            )
         }
         Answer::Refused(why) => packed(why),
     }

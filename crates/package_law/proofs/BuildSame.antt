@@ -22,6 +22,7 @@ use Rattle.cs_data_layout.specs.declared.layout.CsDataLayout.{CsDataLayout}
 use Rattle.cs_data_layout.specs.declared.layout.CsDataOutcome.{CsDataOutcome}
 use Rattle.picks.specs.declared.Picked.{Picked}
 use Rattle.picks.specs.declared.Picked.the-variants.{NoChip, Chip}
+use Rattle.words.specs.declared.ByteOrder.{ByteOrder}
 use Rattle.build_args.specs.Args.{argsOf}
 use Rattle.build_args.specs.Faults.{entriesOf, tableSize, picksIn, buildFault}
 use Rattle.build_args.specs.declared.images.ImageSpan.{ImageSpan}
@@ -36,23 +37,23 @@ use Rattle.package_law.specs.Law.{on}
 use Rattle.package_law.proofs.AddrSame.{addr-same}
 use Rattle.package_law.proofs.SelectSame.{cs-data-same}
 
-module _ (p : Package) (d : Description) where
+module _ (order : ByteOrder) (p : Package) (d : Description) where
   -- the build
 
   module _ (a : AddrLayout) (c : CsDataLayout) (spans : List ImageSpan) (images : List ℕ) where
-    word-same : (pad : ℕ) (x : Picked) (n : ℕ) → wordOf pad (on p d) images spans x n ≡ wordOf pad d images spans x n
+    word-same : (pad : ℕ) (x : Picked) (n : ℕ) → wordOf pad order (on p d) images spans x n ≡ wordOf pad order d images spans x n
     word-same pad NoChip n = refl
     word-same pad (Chip k) n = refl
 
-    entry-same : (pad n : ℕ) → entryAt pad (argsOf (on p d) a c spans) images n ≡ entryAt pad (argsOf d a c spans) images n
+    entry-same : (pad n : ℕ) → entryAt pad order (argsOf (on p d) a c spans) images n ≡ entryAt pad order (argsOf d a c spans) images n
     unfolding entryAt scrambled chipPicked
     entry-same pad n = ap (scrambled d c) (word-same pad (chipPicked d a c n) (chipAddress a n))
 
-    table-same : (pad : ℕ) → tableOf pad (argsOf (on p d) a c spans) images ≡ tableOf pad (argsOf d a c spans) images
+    table-same : (pad : ℕ) → tableOf pad order (argsOf (on p d) a c spans) images ≡ tableOf pad order (argsOf d a c spans) images
     unfolding tableOf
     table-same pad = λ i. entriesBytes (d .«word_bytes») (λ n. entry-same pad n i) (entriesOf a)
 
-    after-same : (lent : List ℕ) (f : FirstFault) → buildAfter (argsOf (on p d) a c spans) images lent f ≡ buildAfter (argsOf d a c spans) images lent f
+    after-same : (lent : List ℕ) (f : FirstFault) → buildAfter order (argsOf (on p d) a c spans) images lent f ≡ buildAfter order (argsOf d a c spans) images lent f
     after-same lent (Of why) = refl
     after-same lent None = λ i. built Answer.Done (table-same padByte i ++ drop (tableSize d a) lent)
 
@@ -60,7 +61,7 @@ module _ (p : Package) (d : Description) where
     unfolding buildFault picksIn
     fault-same n = refl
 
-    pub build-same : (lent : List ℕ) → buildBefore (argsOf (on p d) a c spans) images lent ≡ buildBefore (argsOf d a c spans) images lent
+    pub build-same : (lent : List ℕ) → buildBefore order (argsOf (on p d) a c spans) images lent ≡ buildBefore order (argsOf d a c spans) images lent
     unfolding slotIn
     build-same lent =
         let b = argsOf d a c spans in
@@ -71,33 +72,33 @@ module _ (p : Package) (d : Description) where
 
   module _ (images : List ℕ) (spans : List ImageSpan) (table output marks : List ℕ) where
     read-same : (a : AddrLayout) (c : CsDataLayout) (x : Answer) (t : List ℕ)
-        → afterBuild (argsOf (on p d) a c spans) output marks x t ≡ afterBuild (argsOf d a c spans) output marks x t
+        → afterBuild order (argsOf (on p d) a c spans) output marks x t ≡ afterBuild order (argsOf d a c spans) output marks x t
     unfolding storedOf
     read-same a c Answer.Done t = refl
     read-same a c (Answer.Refused why) t = refl
 
     select-same : (a : AddrLayout) (x : CsDataOutcome) (c : CsDataLayout)
-        → afterSelectBefore (on p d) a images spans table output marks x c ≡ afterSelectBefore d a images spans table output marks x c
+        → afterSelectBefore order (on p d) a images spans table output marks x c ≡ afterSelectBefore order d a images spans table output marks x c
     select-same a CsDataOutcome.LaidOut c =
-        let b = buildBefore (argsOf d a c spans) images table in
-        ap (buildTrip (argsOf (on p d) a c spans) output marks) (build-same a c spans images table) ∙ read-same a c (b .answer) (b .table)
+        let b = buildBefore order (argsOf d a c spans) images table in
+        ap (buildTrip order (argsOf (on p d) a c spans) output marks) (build-same a c spans images table) ∙ read-same a c (b .answer) (b .table)
     select-same a (CsDataOutcome.Refused why) c = refl
 
     address-same : (x : AddrOutcome) (a : AddrLayout)
-        → afterAddressBefore (on p d) images spans table output marks x a ≡ afterAddressBefore d images spans table output marks x a
+        → afterAddressBefore order (on p d) images spans table output marks x a ≡ afterAddressBefore order d images spans table output marks x a
     address-same AddrOutcome.LaidOut a =
         let g : GivenLayout = record { given = true; layout = a } in
         let x = csDataBefore d g in
-        ap (selectTripBefore (on p d) a images spans table output marks) (cs-data-same p d g) ∙ select-same a (x .outcome) (x .layout)
+        ap (selectTripBefore order (on p d) a images spans table output marks) (cs-data-same p d g) ∙ select-same a (x .outcome) (x .layout)
     address-same (AddrOutcome.Refused why) a = refl
 
-    pub trip-same : tripBefore (on p d) images spans table output marks ≡ tripBefore d images spans table output marks
+    pub trip-same : tripBefore order (on p d) images spans table output marks ≡ tripBefore order d images spans table output marks
     trip-same =
-        ap (λ (x : AddrAnswer). afterAddressBefore (on p d) images spans table output marks (x .outcome) (x .layout)) (addr-same p d)
+        ap (λ (x : AddrAnswer). afterAddressBefore order (on p d) images spans table output marks (x .outcome) (x .layout)) (addr-same p d)
         ∙ address-same (addrBefore d .outcome) (addrBefore d .layout)
 
-  -- the wiring's test
+-- the wiring's test
 
-  pub wired-same : (layout : List ℕ) → wiredAs (on p d) layout ≡ wiredAs d layout
-  unfolding wired reach pinCandidates
-  wired-same layout = refl
+pub wired-same : (p : Package) (d : Description) (layout : List ℕ) → wiredAs (on p d) layout ≡ wiredAs d layout
+unfolding wired reach pinCandidates
+wired-same p d layout = refl

@@ -21,11 +21,12 @@ use Rattle.addr_layout.specs.declared.layout.AddrAnswer.{AddrAnswer}
 use Rattle.addr_record.specs.AddrRecord.{layoutAt, layoutFormed, givenAt, givenFormed}
 use Rattle.cs_data_layout.specs.declared.layout.CsDataAnswer.{CsDataAnswer}
 use Rattle.cs_data_record.specs.CsDataRecord.{csDataAt}
-use Rattle.image_record.specs.ImageRecord.{spansAt, spansFormed}
+use Rattle.image_record.specs.ImageRecord.{spansAt}
 use Rattle.round_trip.specs.Chain.{stopped}
 use Rattle.calls.specs.Packed.{packed}
+use Rattle.calls.specs.Order.{orderAt}
 use Rattle.calls.specs.Calls.{ifDescribed, ifRecord, callRefused, addrFound, addrCall, csDataFound, csDataCall, buildFormed, buildRefused, buildCall}
-use Rattle.onerom.specs.Trip.{tripCall}
+use Rattle.onerom.specs.Trip.{tripFormed, tripCall}
 use Rattle.onerom.specs.Wired.{wiredCall}
 use Rattle.package_law.specs.Law.{on, CandidateOn, PackageLaw}
 use Rattle.package_law.specs.Calls.{boardOf, PlaceLaw, formedBefore, calledBefore, PlaceLaws, OneCall}
@@ -145,11 +146,11 @@ place-laws = record {
   select = λ layout buffer.
       place-law (givenFormed layout) _ _ (λ why. callRefused why buffer)
       (through (λ (x : CsDataAnswer). csDataFound x buffer) (package-laws .select (givenAt layout)));
-  build = λ addr csData spans images table.
-      place-law (buildFormed addr csData spans) _ _ (λ why. buildRefused why table)
-      (package-laws .build (layoutAt addr) (csDataAt csData) (spansAt spans) images table);
-  trip = λ spans images table output marks.
-      place-law (spansFormed spans) _ _ (λ why. stopped why table output marks) (package-laws .trip images (spansAt spans) table output marks);
+  build = λ addr csData spans images order table.
+      place-law (buildFormed addr csData spans order) _ _ (λ why. buildRefused why table)
+      (package-laws .build (orderAt order) (layoutAt addr) (csDataAt csData) (spansAt spans) images table);
+  trip = λ spans images order table output marks.
+      place-law (tripFormed spans order) _ _ (λ why. stopped why table output marks) (package-laws .trip (orderAt order) images (spansAt spans) table output marks);
   wiring = λ layout. place-law (layoutFormed layout) _ _ (λ why. packed why) (package-laws .wiring layout);
 }
 

@@ -22,6 +22,7 @@ use Rattle.cs_data_layout.specs.Search.{givenIn, earlier, afterEarlier, csDataA
 use Rattle.cs_data_layout.specs.declared.layout.GivenLayout.{GivenLayout}
 use Rattle.cs_data_layout.specs.declared.layout.CsDataLayout.{CsDataLayout}
 use Rattle.cs_data_layout.specs.declared.layout.CsDataOutcome.{CsDataOutcome}
+use Rattle.words.specs.declared.ByteOrder.{ByteOrder}
 use Rattle.build_args.specs.Args.{argsOf}
 use Rattle.build_args.specs.Domain.{csDataIn, buildIn}
 use Rattle.build_args.specs.Faults.{buildFault}
@@ -55,37 +56,37 @@ cs-data-kept d a =
     tested (slotIn d) (keeps d) (λ b. b && leb (twos (numbered d)) 16 && givenIn d a) (afterEarlier d (handed a) (earlier d a))
     (csDataRefused OutOfDomain) refl
 
-pub build-kept : (b : BuildArgs) (images lent : List ℕ)
-    → buildOf b images lent ≡ cond (keeps (b .description)) (buildBefore b images lent) (built (Answer.Refused OutOfDomain) lent)
+pub build-kept : (order : ByteOrder) (b : BuildArgs) (images lent : List ℕ)
+    → buildOf order b images lent ≡ cond (keeps (b .description)) (buildBefore order b images lent) (built (Answer.Refused OutOfDomain) lent)
 unfolding buildOf buildIn descriptionIn
-build-kept b images lent =
+build-kept order b images lent =
     let qualified = qualifiersIn (b .description .qualifiers) (b .description .«num_qualifiers») (b .addr .gpios) (b .addr .«num_lines») in
     tested (slotIn (b .description)) (keeps (b .description)) (λ t. t && layoutIn (b .addr) && qualified && csDataIn (b .«cs_data»))
-    (buildAfter b images lent (buildFault b images (length lent))) (built (Answer.Refused OutOfDomain) lent) refl
+    (buildAfter order b images lent (buildFault b images (length lent))) (built (Answer.Refused OutOfDomain) lent) refl
 
-module _ (d : Description) (images : List ℕ) (spans : List ImageSpan) (table output marks : List ℕ) where
+module _ (order : ByteOrder) (d : Description) (images : List ℕ) (spans : List ImageSpan) (table output marks : List ℕ) where
   select-kept : keeps d ≡ true → (a : AddrLayout) (x : CsDataOutcome) (c : CsDataLayout)
-      → afterSelect d a images spans table output marks x c ≡ afterSelectBefore d a images spans table output marks x c
+      → afterSelect order d a images spans table output marks x c ≡ afterSelectBefore order d a images spans table output marks x c
   select-kept k a CsDataOutcome.LaidOut c =
-      ap (buildTrip (argsOf d a c spans) output marks) (rw k at (build-kept (argsOf d a c spans) images table))
+      ap (buildTrip order (argsOf d a c spans) output marks) (rw k at (build-kept order (argsOf d a c spans) images table))
   select-kept k a (CsDataOutcome.Refused why) c = refl
 
   address-kept : keeps d ≡ true → (x : AddrOutcome) (a : AddrLayout)
-      → afterAddress d images spans table output marks x a ≡ afterAddressBefore d images spans table output marks x a
+      → afterAddress order d images spans table output marks x a ≡ afterAddressBefore order d images spans table output marks x a
   address-kept k AddrOutcome.LaidOut a =
       let g : GivenLayout = record { given = true; layout = a } in
       let x = csDataBefore d g in
-      ap (selectTrip d a images spans table output marks) (rw k at (cs-data-kept d g)) ∙ select-kept k a (x .outcome) (x .layout)
+      ap (selectTrip order d a images spans table output marks) (rw k at (cs-data-kept d g)) ∙ select-kept k a (x .outcome) (x .layout)
   address-kept k (AddrOutcome.Refused why) a = refl
 
   by-test : (t : Bool) → keeps d ≡ t
-      → roundTripOf d images spans table output marks ≡ cond t (tripBefore d images spans table output marks) (stopped OutOfDomain table output marks)
+      → roundTripOf order d images spans table output marks ≡ cond t (tripBefore order d images spans table output marks) (stopped OutOfDomain table output marks)
   unfolding roundTripOf
   by-test true k =
-      ap (addressTrip d images spans table output marks) (rw k at (addr-kept d))
+      ap (addressTrip order d images spans table output marks) (rw k at (addr-kept d))
       ∙ address-kept k (addrBefore d .outcome) (addrBefore d .layout)
-  by-test false k = ap (addressTrip d images spans table output marks) (rw k at (addr-kept d))
+  by-test false k = ap (addressTrip order d images spans table output marks) (rw k at (addr-kept d))
 
-  pub trip-kept : roundTripOf d images spans table output marks
-      ≡ cond (keeps d) (tripBefore d images spans table output marks) (stopped OutOfDomain table output marks)
+  pub trip-kept : roundTripOf order d images spans table output marks
+      ≡ cond (keeps d) (tripBefore order d images spans table output marks) (stopped OutOfDomain table output marks)
   trip-kept = by-test (keeps d) refl

@@ -45,10 +45,10 @@ pub package-laws : PackageLaws
 package-laws = record {
   address = by-test _ _ _ addr-kept addr-same;
   select = λ a. by-test _ _ _ (λ d. cs-data-kept d a) (λ p d. cs-data-same p d a);
-  build = λ a c spans images table.
-      by-test _ _ _ (λ d. build-kept (argsOf d a c spans) images table) (λ p d. build-same p d a c spans images table);
-  trip = λ images spans table output marks.
-      by-test _ _ _ (λ d. trip-kept d images spans table output marks) (λ p d. trip-same p d images spans table output marks);
+  build = λ order a c spans images table.
+      by-test _ _ _ (λ d. build-kept order (argsOf d a c spans) images table) (λ p d. build-same order p d a c spans images table);
+  trip = λ order images spans table output marks.
+      by-test _ _ _ (λ d. trip-kept order d images spans table output marks) (λ p d. trip-same order p d images spans table output marks);
   wiring = λ layout. by-test _ _ _ (λ d. refl) (λ p d. wired-same p d layout);
 }
 

@@ -23,6 +23,7 @@ use Rattle.cs_data_layout.specs.declared.layout.GivenLayout.{GivenLayout}
 use Rattle.cs_data_layout.specs.declared.layout.CsDataLayout.{CsDataLayout}
 use Rattle.cs_data_layout.specs.declared.layout.CsDataOutcome.{CsDataOutcome}
 use Rattle.cs_data_layout.specs.declared.layout.CsDataAnswer.{CsDataAnswer}
+use Rattle.words.specs.declared.ByteOrder.{ByteOrder}
 use Rattle.build_args.specs.Args.{argsOf}
 use Rattle.build_args.specs.Domain.{csDataIn}
 use Rattle.build_args.specs.Faults.{buildFault}
@@ -52,25 +53,25 @@ buildInBefore b =
     && qualifiersIn (b .description .qualifiers) (b .description .«num_qualifiers») (b .addr .gpios) (b .addr .«num_lines»)
     && csDataIn (b .«cs_data»)
 
-abbrev pub buildBefore : BuildArgs → List ℕ → List ℕ → Built
-buildBefore b images lent =
-    cond (buildInBefore b) (buildAfter b images lent (buildFault b images (length lent))) (built (Answer.Refused OutOfDomain) lent)
+abbrev pub buildBefore : ByteOrder → BuildArgs → List ℕ → List ℕ → Built
+buildBefore order b images lent =
+    cond (buildInBefore b) (buildAfter order b images lent (buildFault b images (length lent))) (built (Answer.Refused OutOfDomain) lent)
 
 -- the round trip, by these three in turn and the read-back
-abbrev pub afterSelectBefore : Description → AddrLayout → List ℕ → List ImageSpan → List ℕ → List ℕ → List ℕ → CsDataOutcome → CsDataLayout → Trip
-afterSelectBefore d a images spans table output marks CsDataOutcome.LaidOut c =
-    buildTrip (argsOf d a c spans) output marks (buildBefore (argsOf d a c spans) images table)
-afterSelectBefore d a images spans table output marks (CsDataOutcome.Refused why) c = stopped why table output marks
+abbrev pub afterSelectBefore : ByteOrder → Description → AddrLayout → List ℕ → List ImageSpan → List ℕ → List ℕ → List ℕ → CsDataOutcome → CsDataLayout → Trip
+afterSelectBefore order d a images spans table output marks CsDataOutcome.LaidOut c =
+    buildTrip order (argsOf d a c spans) output marks (buildBefore order (argsOf d a c spans) images table)
+afterSelectBefore order d a images spans table output marks (CsDataOutcome.Refused why) c = stopped why table output marks
 
-abbrev pub selectTripBefore : Description → AddrLayout → List ℕ → List ImageSpan → List ℕ → List ℕ → List ℕ → CsDataAnswer → Trip
-selectTripBefore d a images spans table output marks x =
-    afterSelectBefore d a images spans table output marks (x .outcome) (x .layout)
+abbrev pub selectTripBefore : ByteOrder → Description → AddrLayout → List ℕ → List ImageSpan → List ℕ → List ℕ → List ℕ → CsDataAnswer → Trip
+selectTripBefore order d a images spans table output marks x =
+    afterSelectBefore order d a images spans table output marks (x .outcome) (x .layout)
 
-abbrev pub afterAddressBefore : Description → List ℕ → List ImageSpan → List ℕ → List ℕ → List ℕ → AddrOutcome → AddrLayout → Trip
-afterAddressBefore d images spans table output marks AddrOutcome.LaidOut a =
-    selectTripBefore d a images spans table output marks (csDataBefore d (record { given = true; layout = a }))
-afterAddressBefore d images spans table output marks (AddrOutcome.Refused why) a = stopped why table output marks
+abbrev pub afterAddressBefore : ByteOrder → Description → List ℕ → List ImageSpan → List ℕ → List ℕ → List ℕ → AddrOutcome → AddrLayout → Trip
+afterAddressBefore order d images spans table output marks AddrOutcome.LaidOut a =
+    selectTripBefore order d a images spans table output marks (csDataBefore d (record { given = true; layout = a }))
+afterAddressBefore order d images spans table output marks (AddrOutcome.Refused why) a = stopped why table output marks
 
-abbrev pub tripBefore : Description → List ℕ → List ImageSpan → List ℕ → List ℕ → List ℕ → Trip
-tripBefore d images spans table output marks =
-    afterAddressBefore d images spans table output marks (addrBefore d .outcome) (addrBefore d .layout)
+abbrev pub tripBefore : ByteOrder → Description → List ℕ → List ImageSpan → List ℕ → List ℕ → List ℕ → Trip
+tripBefore order d images spans table output marks =
+    afterAddressBefore order d images spans table output marks (addrBefore d .outcome) (addrBefore d .layout)

@@ -14,11 +14,12 @@ use Rattle.description_record.specs.Record.{recordSize, offsetIn, csConfigIn, p
 use Rattle.build_args.specs.Args.{argsOf}
 use Rattle.addr_record.specs.AddrRecord.{layoutAt, layoutFormed, givenAt, givenFormed}
 use Rattle.cs_data_record.specs.CsDataRecord.{csDataAt}
-use Rattle.image_record.specs.ImageRecord.{spansAt, spansFormed}
+use Rattle.image_record.specs.ImageRecord.{spansAt}
 use Rattle.round_trip.specs.Chain.{stopped}
 use Rattle.calls.specs.Packed.{packed}
+use Rattle.calls.specs.Order.{orderAt}
 use Rattle.calls.specs.Calls.{callRefused, addrFound, addrCall, csDataFound, csDataCall, buildFormed, buildRefused, buildCall}
-use Rattle.onerom.specs.Trip.{tripCall}
+use Rattle.onerom.specs.Trip.{tripFormed, tripCall}
 use Rattle.onerom.specs.Wired.{wiredAs, wiredCall}
 use Rattle.package_law.specs.Before.{addrBefore, csDataBefore, buildBefore, tripBefore}
 use Rattle.package_law.specs.Law.{CandidateOn}
@@ -62,15 +63,15 @@ pub record PlaceLaws : Type 0 where
       → PlaceLaw (λ b. csDataCall b layout buffer)
       (calledBefore (givenFormed layout) (λ d. csDataFound (csDataBefore d (givenAt layout)) buffer) (λ why. callRefused why buffer))
       (callRefused OutOfDomain buffer)
-  pub build : (addr csData spans images table : List ℕ)
-      → PlaceLaw (λ b. buildCall b addr csData spans images table)
-      (calledBefore (buildFormed addr csData spans)
-      (λ d. buildBefore (argsOf d (layoutAt addr) (csDataAt csData) (spansAt spans)) images table)
+  pub build : (addr csData spans images : List ℕ) (order : ℕ) (table : List ℕ)
+      → PlaceLaw (λ b. buildCall b addr csData spans images order table)
+      (calledBefore (buildFormed addr csData spans order)
+      (λ d. buildBefore (orderAt order) (argsOf d (layoutAt addr) (csDataAt csData) (spansAt spans)) images table)
       (λ why. buildRefused why table))
       (buildRefused OutOfDomain table)
-  pub trip : (spans images table output marks : List ℕ)
-      → PlaceLaw (λ b. tripCall b spans images table output marks)
-      (calledBefore (spansFormed spans) (λ d. tripBefore d images (spansAt spans) table output marks)
+  pub trip : (spans images : List ℕ) (order : ℕ) (table output marks : List ℕ)
+      → PlaceLaw (λ b. tripCall b spans images order table output marks)
+      (calledBefore (tripFormed spans order) (λ d. tripBefore (orderAt order) d images (spansAt spans) table output marks)
       (λ why. stopped why table output marks))
       (stopped OutOfDomain table output marks)
   pub wiring : (layout : List ℕ)

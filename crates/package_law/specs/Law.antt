@@ -20,6 +20,7 @@ use Rattle.cs_data_layout.specs.Layout.{csDataRefused}
 use Rattle.cs_data_layout.specs.Search.{csDataAnswer}
 use Rattle.cs_data_layout.specs.declared.layout.GivenLayout.{GivenLayout}
 use Rattle.cs_data_layout.specs.declared.layout.CsDataLayout.{CsDataLayout}
+use Rattle.words.specs.declared.ByteOrder.{ByteOrder}
 use Rattle.build_args.specs.Args.{argsOf}
 use Rattle.build_args.specs.declared.images.ImageSpan.{ImageSpan}
 use Rattle.rom_image.specs.Build.{built, buildOf}
@@ -71,11 +72,11 @@ pub record PackageLaw {R : Type 0} (now before : Description → R) (refused : R
 pub record PackageLaws : Type 0 where
   pub address : PackageLaw addrAnswer addrBefore (addrRefused OutOfDomain)
   pub select : (a : GivenLayout) → PackageLaw (λ d. csDataAnswer d a) (λ d. csDataBefore d a) (csDataRefused OutOfDomain)
-  pub build : (a : AddrLayout) (c : CsDataLayout) (spans : List ImageSpan) (images table : List ℕ)
-      → PackageLaw (λ d. buildOf (argsOf d a c spans) images table) (λ d. buildBefore (argsOf d a c spans) images table)
+  pub build : (order : ByteOrder) (a : AddrLayout) (c : CsDataLayout) (spans : List ImageSpan) (images table : List ℕ)
+      → PackageLaw (λ d. buildOf order (argsOf d a c spans) images table) (λ d. buildBefore order (argsOf d a c spans) images table)
       (built (Answer.Refused OutOfDomain) table)
-  pub trip : (images : List ℕ) (spans : List ImageSpan) (table output marks : List ℕ)
-      → PackageLaw (λ d. roundTripOf d images spans table output marks) (λ d. tripBefore d images spans table output marks)
+  pub trip : (order : ByteOrder) (images : List ℕ) (spans : List ImageSpan) (table output marks : List ℕ)
+      → PackageLaw (λ d. roundTripOf order d images spans table output marks) (λ d. tripBefore order d images spans table output marks)
       (stopped OutOfDomain table output marks)
   pub wiring : (layout : List ℕ) → PackageLaw (λ d. wiredFrom d layout) (λ d. wiredAs d layout) (packed OutOfDomain)
 

@@ -21,6 +21,7 @@ use say::say_number;
 use say::say_refusal;
 use slot::description::Description;
 use std::num::wrapping_add_u8;
+use words::ByteOrder;
 ghost use Prim.Native.Nat.{_≤_};
 
 fn with(b: [u8; 424], place: usize, value: u8) -> [u8; 424] {
@@ -423,7 +424,7 @@ fn one_entry(size: u8, gpios: [u8; 16], bytes: &[u8], index: usize) {
         cs_data: data_lines(gpios),
         spans: [chip; 4],
     };
-    match build_rom_image(args, bytes, &mut table) {
+    match build_rom_image(ByteOrder::LowFirst, args, bytes, &mut table) {
         Answer::Done => say_entry(&table, index),
         Answer::Refused(r) => say_refusal(r),
     }

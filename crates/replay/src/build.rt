@@ -12,6 +12,9 @@ use case_numbers::case::number_at;
 use case_numbers::case::record_bytes;
 use onerom::onerom_build_rom_image;
 
+// Cases are low byte first.
+const LOW_FIRST: u64 = 0;
+
 fn put_table(ours: &mut [u64], begun: usize, table: &[u8]) -> usize {
     let long = put(ours, begun, table.len() as u64);
     put(ours, long, checksum(table))
@@ -37,7 +40,7 @@ fn built(case: &[u64], images: &[u8], lent: &mut [u8]) -> u64 {
     let a = addr_bytes(case, 425);
     let c = select_bytes(case, 455);
     let spans = span_bytes(case);
-    onerom_build_rom_image(&description, &a, &c, &spans, images, lent)
+    onerom_build_rom_image(&description, &a, &c, &spans, images, LOW_FIRST, lent)
 }
 
 // A case whose table or images are too large for the buffers is none here.

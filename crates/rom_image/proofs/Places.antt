@@ -16,6 +16,7 @@ use Rattle.refusal.specs.declared.first.FirstFault.the-variants.{None, Of}
 use Rattle.refusal.proofs.Places.{FirstRows, Small, small-or, small-if, small-test, small-first}
 use Rattle.domain.proofs.Bounds.{description-in}
 use Rattle.picks.specs.Picks.{chipsFit}
+use Rattle.words.specs.declared.ByteOrder.{ByteOrder}
 use Rattle.build_args.specs.Domain.{buildIn}
 use Rattle.build_args.specs.Images.{chipSpan, chipBytes}
 use Rattle.build_args.specs.Faults.{tableTooLarge, addressIn, picksIn, dataPositionsIn, missingAt, shortAt, tooShort, linesFault, imagesFault, buildFault}
@@ -48,16 +49,16 @@ module _ (b : BuildArgs) (images : List ℕ) (room : ℕ) (e : buildIn b ≡ tru
       small-test (tableTooLarge (b .description) (b .addr)) RomTableTooLarge _ (omega arith)
       (small-or (linesFault (b .description) (b .addr) (b .«cs_data»)) _ small-lines (small-or (imagesFault (b .description) images (b .spans)) _ small-images (small-if (tooShort (b .description) (b .addr) room) ShortBuffer (omega arith))))
 
-module _ (b : BuildArgs) (images lent : List ℕ) where
-  after-place : (f : FirstFault) → Small f → FirstRows (answerCode (buildAfter b images lent f .answer))
+module _ (order : ByteOrder) (b : BuildArgs) (images lent : List ℕ) where
+  after-place : (f : FirstFault) → Small f → FirstRows (answerCode (buildAfter order b images lent f .answer))
   after-place (Of why) h = h
   after-place None h = omega arith
 
   in-place : (t : Bool) → buildIn b ≡ t
-      → FirstRows (answerCode (cond t (buildAfter b images lent (buildFault b images (length lent))) (built (Answer.Refused OutOfDomain) lent) .answer))
+      → FirstRows (answerCode (cond t (buildAfter order b images lent (buildFault b images (length lent))) (built (Answer.Refused OutOfDomain) lent) .answer))
   in-place true e = after-place (buildFault b images (length lent)) (small-build b images (length lent) e)
   in-place false e = omega arith
 
-  pub build-place : FirstRows (answerCode (buildOf b images lent .answer))
+  pub build-place : FirstRows (answerCode (buildOf order b images lent .answer))
   unfolding buildOf
   build-place = in-place (buildIn b) refl

@@ -5,6 +5,7 @@ use mathlib.Core.List.{List}
 use lib.Dec.{ltb}
 use Rattle.bits.specs.Bits.{gather, indexAddress, scatter}
 use Rattle.words.specs.Words.{padWord, chipWord, entriesBytes}
+use Rattle.words.specs.declared.ByteOrder.{ByteOrder}
 use Rattle.slot.specs.declared.description.Description.{Description}
 use Rattle.addr_layout.specs.declared.layout.AddrLayout.{AddrLayout}
 use Rattle.cs_data_layout.specs.declared.layout.CsDataLayout.{CsDataLayout}
@@ -37,25 +38,27 @@ padOf pad d = padWord (d .«word_bytes») pad
 
 -- the word of the chip that is picked, at an address
 -- 01 rom_image 6: where no chip is picked the word is the pad
-abbrev pub wordOf : ℕ → Description → List ℕ → List ImageSpan → Picked → ℕ → ℕ
-wordOf pad d images spans NoChip n = padOf pad d
-wordOf pad d images spans (Chip k) n =
-    wordOrPad (padOf pad d) (wordCount d k) (λ m. chipWord (d .«word_bytes») (chipBytes images (chipSpan spans k)) m) n
+-- 02 Slip 5 2: the chip's word is taken by the byte order of the call
+abbrev pub wordOf : ℕ → ByteOrder → Description → List ℕ → List ImageSpan → Picked → ℕ → ℕ
+wordOf pad order d images spans NoChip n = padOf pad d
+wordOf pad order d images spans (Chip k) n =
+    wordOrPad (padOf pad d) (wordCount d k) (λ m. chipWord order (d .«word_bytes») (chipBytes images (chipSpan spans k)) m) n
 
 -- 01 rom_image 8: each data line carries its bit of the word to its position; where several meet the bits are or-ed, and a bit for
 -- position 8w or above is dropped
 unfoldable pub scrambled : Description → CsDataLayout → ℕ → ℕ
 scrambled d c v = scatter (c .«num_data_pins») (dataPosition c) (8 * d .«word_bytes») v
 
--- the entry at an index, over the pad byte
+-- the entry at an index, over the pad byte and the byte order
 -- 01 rom_image 6: a pad is scrambled as a word is
-unfoldable pub entryAt : ℕ → BuildArgs → List ℕ → ℕ → ℕ
-entryAt pad b images i =
+unfoldable pub entryAt : ℕ → ByteOrder → BuildArgs → List ℕ → ℕ → ℕ
+entryAt pad order b images i =
     scrambled (b .description) (b .«cs_data»)
-    (wordOf pad (b .description) images (b .spans) (chipPicked (b .description) (b .addr) (b .«cs_data») i) (chipAddress (b .addr) i))
+    (wordOf pad order (b .description) images (b .spans) (chipPicked (b .description) (b .addr) (b .«cs_data») i) (chipAddress (b .addr) i))
 
--- the table, over the pad byte
+-- the table, over the pad byte and the byte order
 -- 01 rom_image 1: the table is its 2^pins entries in index order
 -- 01 rom_image 9: an entry's lowest byte is written first
-unfoldable pub tableOf : ℕ → BuildArgs → List ℕ → List ℕ
-tableOf pad b images = entriesBytes (b .description .«word_bytes») (entryAt pad b images) (entriesOf (b .addr))
+-- 02 Slip 5 2: under either byte order
+unfoldable pub tableOf : ℕ → ByteOrder → BuildArgs → List ℕ → List ℕ
+tableOf pad order b images = entriesBytes (b .description .«word_bytes») (entryAt pad order b images) (entriesOf (b .addr))

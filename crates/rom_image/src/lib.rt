@@ -7,12 +7,13 @@ use build_faults::build_fault;
 use refusal::Answer;
 use refusal::Refusal;
 use refusal::first::FirstFault;
+use words::ByteOrder;
 ghost use mathlib.Core.Path.{_≡_};
 ghost use Rattle.rom_image.specs.Build.{built, buildOf};
 
-// Builds the table of a slot from its layouts and its chips' bytes.
-pub fn build_rom_image(b: BuildArgs, images: &[u8], table: &mut [u8]) -> Answer
-    ensures { λ r. ⌜ built r (now (table .exit)) ≡ buildOf b (now (images .entry)) (now (table .entry)) ⌝ }
+// Builds the table of a slot from its layouts and its chips' bytes, which are in one order.
+pub fn build_rom_image(order: ByteOrder, b: BuildArgs, images: &[u8], table: &mut [u8]) -> Answer
+    ensures { λ r. ⌜ built r (now (table .exit)) ≡ buildOf order b (now (images .entry)) (now (table .entry)) ⌝ }
 {
     if !in_domain(b) {
         return Answer::Refused(Refusal::OutOfDomain);
@@ -20,7 +21,7 @@ pub fn build_rom_image(b: BuildArgs, images: &[u8], table: &mut [u8]) -> Answer
     match build_fault(b, images, table.len()) {
         FirstFault::Of(why) => Answer::Refused(why),
         FirstFault::None => {
-            table::fill(b, images, table);
+            table::fill(order, b, images, table);
             Answer::Done
         }
     }

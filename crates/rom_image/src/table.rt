@@ -3,6 +3,7 @@ use build_args::BuildArgs;
 use build_wiring::sources::sources;
 use build_wiring::wiring::wiring;
 use table_fill::fill_by;
+use words::ByteOrder;
 use words::pad_word;
 ghost use mathlib.Core.Path.{_≡_};
 ghost use mathlib.Core.List.{_++_};
@@ -16,9 +17,9 @@ ghost use Rattle.rom_image.specs.design.Past.{PastTests};
 const PAD_BYTE: u8 = 0xAA;
 
 // Writes the table to the front of a buffer.
-pub fn fill(b: BuildArgs, images: &[u8], table: &mut [u8])
+pub fn fill(order: ByteOrder, b: BuildArgs, images: &[u8], table: &mut [u8])
     requires { ⌜ PastTests b (now images) (length (now table)) ⌝ }
-    ensures { λ _. ⌜ now (table .exit) ≡ tableOf padByte b (now (images .entry))
+    ensures { λ _. ⌜ now (table .exit) ≡ tableOf padByte order b (now (images .entry))
         ++ drop (tableSize (b .description) (b .addr)) (now (table .entry)) ⌝ }
 {
     let d = b.description;
@@ -28,7 +29,7 @@ pub fn fill(b: BuildArgs, images: &[u8], table: &mut [u8])
     let pad = pad_word(d.word_bytes as usize, PAD_BYTE);
     fill_by(
         wiring(d, a, c),
-        sources(d, spans),
+        sources(order, d, spans),
         pad,
         images,
         1u32 << a.num_addr_pins,

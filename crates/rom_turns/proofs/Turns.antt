@@ -12,7 +12,7 @@ use lib.Bits.{bitOr, or-lt}
 use lib.ListN.{length, getD}
 use Rattle.lists.proofs.Bools.{both}
 use Rattle.bits.proofs.Scattered.{scatter-lt}
-use Rattle.words.specs.Words.{chipWord, entryWord}
+use Rattle.words.specs.Words.{word, entryWord}
 use Rattle.words.proofs.Words.{words-room}
 use Rattle.word_rows.specs.design.Wrote.{RowIn, SameRow, Wrote, rowSays, saidBy}
 use Rattle.word_rows.proofs.Rows.{wrote-more, wrote-same}
@@ -72,7 +72,7 @@ module _ {rom : Rom} {positions lows low-bytes high-bytes stored output : List �
               let less : a - f < count = omega arith in
               let whole : f + (a - f) ≡ a = omega arith in
               let place : rom .start + f + (a - f) ≡ rom .start + a = omega arith in
-              let e₁ : chipWord (rom .«word_bytes») output (rom .start + f + (a - f)) ≡ said (f + (a - f)) = w here (a - f) less ∙ sym (row-says (a - f) less) in
+              let e₁ : word (rom .«word_bytes») output (rom .start + f + (a - f)) ≡ said (f + (a - f)) = w here (a - f) less ∙ sym (row-says (a - f) less) in
               rw (place, whole) at e₁
         ]
 

@@ -7,6 +7,7 @@ use native.Mathlib.Omega.{arith}
 use lib.ListN.{length, getD}
 use Rattle.slot.specs.declared.description.Description.{Description}
 use Rattle.refusal.specs.declared.Refusal.{Refusal}
+use Rattle.words.specs.declared.ByteOrder.{ByteOrder}
 use Rattle.addr_layout.specs.Search.{addrAnswer}
 use Rattle.addr_layout.specs.declared.layout.AddrLayout.{AddrLayout}
 use Rattle.addr_layout.specs.declared.layout.AddrOutcome.{AddrOutcome}
@@ -29,66 +30,66 @@ use Rattle.round_trip.proofs.StoredOf.{callable}
 use Rattle.round_trip.proofs.Whole.{reads-back}
 
 -- the build's answer
-module _ (b : BuildArgs) (images lent output marks : List ℕ) (x : Answer) (table : List ℕ) (e : built x table ≡ buildOf b images lent) where
+module _ (order : ByteOrder) (b : BuildArgs) (images lent output marks : List ℕ) (x : Answer) (table : List ℕ) (e : built x table ≡ buildOf order b images lent) where
   abbrev then : Answer → Trip
-  then y = afterBuild b output marks y table
+  then y = afterBuild order b output marks y table
 
-  pub build-stops : (why : Refusal) → x ≡ Answer.Refused why → stopped why table output marks ≡ buildTrip b output marks (buildOf b images lent)
-  build-stops why q = ap then (sym q) ∙ ap (buildTrip b output marks) e
+  pub build-stops : (why : Refusal) → x ≡ Answer.Refused why → stopped why table output marks ≡ buildTrip order b output marks (buildOf order b images lent)
+  build-stops why q = ap then (sym q) ∙ ap (buildTrip order b output marks) e
 
-  pub build-goes : (r : Answer) (o m : List ℕ) → x ≡ Answer.Done → trip r table o m ≡ readOf b table output marks
-      → trip r table o m ≡ buildTrip b output marks (buildOf b images lent)
-  build-goes r o m q h = h ∙ ap then (sym q) ∙ ap (buildTrip b output marks) e
+  pub build-goes : (r : Answer) (o m : List ℕ) → x ≡ Answer.Done → trip r table o m ≡ readOf order b table output marks
+      → trip r table o m ≡ buildTrip order b output marks (buildOf order b images lent)
+  build-goes r o m q h = h ∙ ap then (sym q) ∙ ap (buildTrip order b output marks) e
 
   pub readable-table : x ≡ Answer.Done → length table ≡ length lent → Readable b × (tableSize (b .description) (b .addr) ≤ length table)
   readable-table q h =
-      let can = callable b images lent (sym (ap (λ (y : Built). y .answer) e) ∙ q) in
+      let can = callable order b images lent (sym (ap (λ (y : Built). y .answer) e) ∙ q) in
       (can .0, omega (arith, can .1, h))
 
 -- the select search's answer
-module _ (d : Description) (a : AddrLayout) (images : List ℕ) (spans : List ImageSpan) (table output marks : List ℕ)
+module _ (order : ByteOrder) (d : Description) (a : AddrLayout) (images : List ℕ) (spans : List ImageSpan) (table output marks : List ℕ)
     (x : CsDataAnswer) (e : x ≡ csDataAnswer d (record { given = true; layout = a })) where
   abbrev select-then : CsDataOutcome → Trip
-  select-then y = afterSelect d a images spans table output marks y (x .layout)
+  select-then y = afterSelect order d a images spans table output marks y (x .layout)
 
   pub select-stops : (why : Refusal) → x .outcome ≡ CsDataOutcome.Refused why
-      → stopped why table output marks ≡ selectTrip d a images spans table output marks (csDataAnswer d (record { given = true; layout = a }))
-  select-stops why q = ap select-then (sym q) ∙ ap (selectTrip d a images spans table output marks) e
+      → stopped why table output marks ≡ selectTrip order d a images spans table output marks (csDataAnswer d (record { given = true; layout = a }))
+  select-stops why q = ap select-then (sym q) ∙ ap (selectTrip order d a images spans table output marks) e
 
-  pub select-goes : (t : Trip) → x .outcome ≡ CsDataOutcome.LaidOut → t ≡ buildTrip (argsOf d a (x .layout) spans) output marks (buildOf (argsOf d a (x .layout) spans) images table)
-      → t ≡ selectTrip d a images spans table output marks (csDataAnswer d (record { given = true; layout = a }))
-  select-goes t q h = h ∙ ap select-then (sym q) ∙ ap (selectTrip d a images spans table output marks) e
+  pub select-goes : (t : Trip) → x .outcome ≡ CsDataOutcome.LaidOut → t ≡ buildTrip order (argsOf d a (x .layout) spans) output marks (buildOf order (argsOf d a (x .layout) spans) images table)
+      → t ≡ selectTrip order d a images spans table output marks (csDataAnswer d (record { given = true; layout = a }))
+  select-goes t q h = h ∙ ap select-then (sym q) ∙ ap (selectTrip order d a images spans table output marks) e
 
 -- the address search's answer
-module _ (d : Description) (images : List ℕ) (spans : List ImageSpan) (table output marks : List ℕ) (x : AddrAnswer) (e : x ≡ addrAnswer d) where
+module _ (order : ByteOrder) (d : Description) (images : List ℕ) (spans : List ImageSpan) (table output marks : List ℕ) (x : AddrAnswer) (e : x ≡ addrAnswer d) where
   abbrev address-then : AddrOutcome → Trip
-  address-then y = afterAddress d images spans table output marks y (x .layout)
+  address-then y = afterAddress order d images spans table output marks y (x .layout)
 
-  whole : addressTrip d images spans table output marks x ≡ roundTripOf d images spans table output marks
+  whole : addressTrip order d images spans table output marks x ≡ roundTripOf order d images spans table output marks
   unfolding roundTripOf
-  whole = ap (addressTrip d images spans table output marks) e
+  whole = ap (addressTrip order d images spans table output marks) e
 
-  pub address-stops : (why : Refusal) → x .outcome ≡ AddrOutcome.Refused why → stopped why table output marks ≡ roundTripOf d images spans table output marks
+  pub address-stops : (why : Refusal) → x .outcome ≡ AddrOutcome.Refused why → stopped why table output marks ≡ roundTripOf order d images spans table output marks
   address-stops why q = ap address-then (sym q) ∙ whole
 
   pub address-goes : (t : Trip) → x .outcome ≡ AddrOutcome.LaidOut
-      → t ≡ selectTrip d (x .layout) images spans table output marks (csDataAnswer d (record { given = true; layout = x .layout }))
-      → t ≡ roundTripOf d images spans table output marks
+      → t ≡ selectTrip order d (x .layout) images spans table output marks (csDataAnswer d (record { given = true; layout = x .layout }))
+      → t ≡ roundTripOf order d images spans table output marks
   address-goes t q h = h ∙ ap address-then (sym q) ∙ whole
 
 -- demand 3, of the definition and so of whatever is equal to it
-module _ (d : Description) (images : List ℕ) (spans : List ImageSpan) (table output marks : List ℕ) (bytes : (k : ℕ) → getD images k 0 < 256) where
-  accepted : (a : AddrLayout) (c : CsDataLayout) → Accepted (argsOf d a c spans) images table
-      → roundTripOf d images spans table output marks ≡ readOf (argsOf d a c spans) (buildOf (argsOf d a c spans) images table .table) output marks
+module _ (order : ByteOrder) (d : Description) (images : List ℕ) (spans : List ImageSpan) (table output marks : List ℕ) (bytes : (k : ℕ) → getD images k 0 < 256) where
+  accepted : (a : AddrLayout) (c : CsDataLayout) → Accepted order (argsOf d a c spans) images table
+      → roundTripOf order d images spans table output marks ≡ readOf order (argsOf d a c spans) (buildOf order (argsOf d a c spans) images table .table) output marks
   unfolding roundTripOf
   accepted a c ok =
-      ap (addressTrip d images spans table output marks) (ok .address)
-      ∙ ap (selectTrip d a images spans table output marks) (ok .select)
-      ∙ ap (λ (y : Answer). afterBuild (argsOf d a c spans) output marks y (buildOf (argsOf d a c spans) images table .table)) (ok .build)
+      ap (addressTrip order d images spans table output marks) (ok .address)
+      ∙ ap (selectTrip order d a images spans table output marks) (ok .select)
+      ∙ ap (λ (y : Answer). afterBuild order (argsOf d a c spans) output marks y (buildOf order (argsOf d a c spans) images table .table)) (ok .build)
 
   abbrev what-is-read : Trip → ReadBack
   what-is-read t = readBack (t .answer) (t .output) (t .marks)
 
-  pub demanded : (r : Answer) (t o m : List ℕ) → trip r t o m ≡ roundTripOf d images spans table output marks → AsDemanded d images spans table output marks (readBack r o m)
+  pub demanded : (r : Answer) (t o m : List ℕ) → trip r t o m ≡ roundTripOf order d images spans table output marks → AsDemanded order d images spans table output marks (readBack r o m)
   demanded r t o m e a c ok wired room =
-      ap what-is-read (e ∙ accepted a c ok) ∙ reads-back d a c images spans table output marks bytes ok wired room
+      ap what-is-read (e ∙ accepted a c ok) ∙ reads-back order d a c images spans table output marks bytes ok wired room

@@ -8,8 +8,9 @@ use lib.ListN.{getD}
 use borrow.Author.Tests.{eq-eqb, ne-eqb}
 use Rattle.lists.specs.Tab.{joined}
 use Rattle.lists.proofs.Tab.{joined-cong}
-use Rattle.words.specs.Words.{word, wordsBytes}
-use Rattle.words.proofs.Words.{words-cong}
+use Rattle.words.specs.Words.{chipWord, chipWordsBytes}
+use Rattle.words.specs.declared.ByteOrder.{ByteOrder}
+use Rattle.words.proofs.Chip.{chip-words-cong}
 use Rattle.slot.specs.declared.description.Description.{Description}
 use Rattle.refusal.specs.declared.Refusal.{Refusal}
 use Rattle.addr_layout.specs.declared.layout.AddrLayout.{AddrLayout}
@@ -42,14 +43,14 @@ never : (b c : Bool) (why : Refusal) → (b ≡ true → c ≡ true) → faultIf
 never true c why h = rw (h refl)
 never false c why h = refl
 
-module _ (d : Description) (a : AddrLayout) (c : CsDataLayout) (images : List ℕ) (spans : List ImageSpan) (s : StoredSlot)
+module _ (order : ByteOrder) (d : Description) (a : AddrLayout) (c : CsDataLayout) (images : List ℕ) (spans : List ImageSpan) (s : StoredSlot)
     (f : Fitted d a c s) (t : ToldApart d a c) (fit : chipsFit (d .«set_type») (d .«num_chips») ≡ true)
     (bytes : (rom k : ℕ) → getD (chipBytes images (chipSpan spans rom)) k 0 < 256) where
   abbrev table : List ℕ
-  table = tableOf padByte (argsOf d a c spans) images
+  table = tableOf padByte order (argsOf d a c spans) images
 
   abbrev wordIn : ℕ → ℕ → ℕ
-  wordIn rom n = word (d .«word_bytes») (chipBytes images (chipSpan spans rom)) n
+  wordIn rom n = chipWord order (d .«word_bytes») (chipBytes images (chipSpan spans rom)) n
 
   entries-same : 2 ^ stored.storedPins s ≡ entriesOf a
   entries-same = ap (λ (x : ℕ). 2 ^ x) (f .pins)
@@ -62,7 +63,7 @@ module _ (d : Description) (a : AddrLayout) (c : CsDataLayout) (images : List �
   served-value : (rom n i : ℕ) → i < 2 ^ stored.storedPins s → read.serves s (d .«set_type») rom n i ≡ true → read.valueAt s table rom i ≡ wordIn rom n
   served-value rom n i l e =
       let p = serves-picks s (d .«set_type») rom n i e in
-      value-is d a c images spans s f t fit bytes rom n i (picked-there rom i p) (rw (← entries-same) l) p (serves-address s (d .«set_type») rom n i e)
+      value-is order d a c images spans s f t fit bytes rom n i (picked-there rom i p) (rw (← entries-same) l) p (serves-address s (d .«set_type») rom n i e)
       (serves-counted s (d .«set_type») rom n i e)
 
   kept-value : (rom n i : ℕ) → i < 2 ^ stored.storedPins s → read.serves s (d .«set_type») rom n i ≡ true → keptValue s (d .«set_type») table rom n ≡ wordIn rom n
@@ -85,15 +86,15 @@ module _ (d : Description) (a : AddrLayout) (c : CsDataLayout) (images : List �
     addressed = let e : 2 ^ stored.addrLines (stored.romAt s rom) ≡ 2 ^ a .«num_lines» = ap (λ (x : ℕ). 2 ^ x) (f .lines rom l) in omega (arith, e, q)
 
     abbrev at : ℕ
-    at = index d a c images spans s f t fit bytes rom n l addressed
+    at = index order d a c images spans s f t fit bytes rom n l addressed
 
     at-lt : at < 2 ^ stored.storedPins s
-    at-lt = rw entries-same (index-lt d a c images spans s f t fit bytes rom n l addressed)
+    at-lt = rw entries-same (index-lt order d a c images spans s f t fit bytes rom n l addressed)
 
     at-serves : read.serves s (d .«set_type») rom n at ≡ true
     at-serves =
-        serves-is s (d .«set_type») rom n at (f .unforced at) (index-picks d a c images spans s f t fit bytes rom n l addressed)
-        (index-address d a c images spans s f t fit bytes rom n l addressed) q
+        serves-is s (d .«set_type») rom n at (f .unforced at) (index-picks order d a c images spans s f t fit bytes rom n l addressed)
+        (index-address order d a c images spans s f t fit bytes rom n l addressed) q
 
     served-one : unservedIn s (d .«set_type») rom n ≡ None
     served-one =
@@ -107,10 +108,10 @@ module _ (d : Description) (a : AddrLayout) (c : CsDataLayout) (images : List �
   all-served = none-of (s .«num_roms») _ (λ rom l. none-of (sizes.romWords s rom) _ (λ n q. served-one rom n (rw (← f .chips) l) q))
 
   -- each chip's words as far as they are counted, one chip behind the other
-  pub recovered-words : recovered s (d .«set_type») table ≡ joined (d .«num_chips») (λ rom. wordsBytes (d .«word_bytes») (wordIn rom) (sizes.romWords s rom))
+  pub recovered-words : recovered order s (d .«set_type») table ≡ joined (d .«num_chips») (λ rom. chipWordsBytes order (d .«word_bytes») (wordIn rom) (sizes.romWords s rom))
   unfolding recovered
   recovered-words =
       joined-cong (s .«num_roms») _ _ (λ rom l.
-      ap (λ (w : ℕ). wordsBytes w (keptValue s (d .«set_type») table rom) (sizes.romWords s rom)) (f .bytes)
-      ∙ words-cong (d .«word_bytes») _ _ (sizes.romWords s rom) (λ n q. kept-one rom n (rw (← f .chips) l) q))
-      ∙ ap (λ (n : ℕ). joined n (λ rom. wordsBytes (d .«word_bytes») (wordIn rom) (sizes.romWords s rom))) (f .chips)
+      ap (λ (w : ℕ). chipWordsBytes order w (keptValue s (d .«set_type») table rom) (sizes.romWords s rom)) (f .bytes)
+      ∙ chip-words-cong order (d .«word_bytes») _ _ (sizes.romWords s rom) (λ n q. kept-one rom n (rw (← f .chips) l) q))
+      ∙ ap (λ (n : ℕ). joined n (λ rom. chipWordsBytes order (d .«word_bytes») (wordIn rom) (sizes.romWords s rom))) (f .chips)

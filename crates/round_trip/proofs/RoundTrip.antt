@@ -16,7 +16,8 @@ use Rattle.lists.proofs.Tab.{joined-cong}
 use Rattle.lists.proofs.Each.{each-all}
 use Rattle.lists.proofs.Loops.{zero-one}
 use Rattle.gpio.proofs.Fits.{fits-within}
-use Rattle.words.specs.Words.{word, wordsBytes}
+use Rattle.words.specs.Words.{chipWord, chipWordsBytes}
+use Rattle.words.specs.declared.ByteOrder.{ByteOrder}
 use Rattle.words.proofs.Words.{words-length}
 use Rattle.slot.specs.Description.{isMulti, noChip}
 use Rattle.slot.specs.declared.description.Description.{Description}
@@ -71,24 +72,24 @@ refused-not-built : (why : Refusal) → Answer.Refused why ≡ Answer.Done → �
 unfolding done
 refused-not-built why e = zero-one (ap done e)
 
-module _ (d : Description) (a : AddrLayout) (c : CsDataLayout) (images : List ℕ) (spans : List ImageSpan) (lent : List ℕ) where
+module _ (order : ByteOrder) (d : Description) (a : AddrLayout) (c : CsDataLayout) (images : List ℕ) (spans : List ImageSpan) (lent : List ℕ) where
   pub record Past : Type 0 where
     pub tests : PastTests (argsOf d a c spans) images (length lent)
-    pub table : buildOf (argsOf d a c spans) images lent .table ≡ tableOf padByte (argsOf d a c spans) images ++ drop (tableSize d a) lent
+    pub table : buildOf order (argsOf d a c spans) images lent .table ≡ tableOf padByte order (argsOf d a c spans) images ++ drop (tableSize d a) lent
 
   by-fault : (f : FirstFault) → buildFault (argsOf d a c spans) images (length lent) ≡ f → buildIn (argsOf d a c spans) ≡ true
-      → buildOf (argsOf d a c spans) images lent ≡ buildAfter (argsOf d a c spans) images lent f → buildAfter (argsOf d a c spans) images lent f .answer ≡ Answer.Done → Past
+      → buildOf order (argsOf d a c spans) images lent ≡ buildAfter order (argsOf d a c spans) images lent f → buildAfter order (argsOf d a c spans) images lent f .answer ≡ Answer.Done → Past
   by-fault (Of why) q i w e = absurd (refused-not-built why e)
   by-fault None q i w e = record { tests = record { domain = i; no-fault = q }; table = ap (λ (b : Built). b .table) w }
 
   by-domain : (t : Bool) → buildIn (argsOf d a c spans) ≡ t
-      → buildOf (argsOf d a c spans) images lent
-      ≡ cond t (buildAfter (argsOf d a c spans) images lent (buildFault (argsOf d a c spans) images (length lent))) (built (Answer.Refused OutOfDomain) lent)
-      → buildOf (argsOf d a c spans) images lent .answer ≡ Answer.Done → Past
+      → buildOf order (argsOf d a c spans) images lent
+      ≡ cond t (buildAfter order (argsOf d a c spans) images lent (buildFault (argsOf d a c spans) images (length lent))) (built (Answer.Refused OutOfDomain) lent)
+      → buildOf order (argsOf d a c spans) images lent .answer ≡ Answer.Done → Past
   by-domain false q w e = absurd (refused-not-built _ (sym (ap (λ (b : Built). b .answer) w) ∙ e))
   by-domain true q w e = by-fault (buildFault (argsOf d a c spans) images (length lent)) refl q w (sym (ap (λ (b : Built). b .answer) w) ∙ e)
 
-  pub build-past : buildOf (argsOf d a c spans) images lent .answer ≡ Answer.Done → Past
+  pub build-past : buildOf order (argsOf d a c spans) images lent .answer ≡ Answer.Done → Past
   unfolding buildOf
   build-past e = by-domain (buildIn (argsOf d a c spans)) refl refl e
 
@@ -128,11 +129,11 @@ module _ (d : Description) (a : AddrLayout) (c : CsDataLayout) (s : StoredSlot) 
 words-within : (x y w size long : ℕ) → x ≤ size / w → size ≤ long → x * w ≤ long
 words-within x y w size long h l = le-trans (mul-le-mul-right w h) (le-trans (div-mul-le-self size w) l)
 
-module _ (d : Description) (a : AddrLayout) (c : CsDataLayout) (images : List ℕ) (spans : List ImageSpan) (lent : List ℕ) (s : StoredSlot) (output marks : List ℕ)
-    (ok : Accepted (argsOf d a c spans) images lent) (bytes : (k : ℕ) → getD images k 0 < 256) (wired : WellWired d a) (given : StoredAs d a c s)
+module _ (order : ByteOrder) (d : Description) (a : AddrLayout) (c : CsDataLayout) (images : List ℕ) (spans : List ImageSpan) (lent : List ℕ) (s : StoredSlot) (output marks : List ℕ)
+    (ok : Accepted order (argsOf d a c spans) images lent) (bytes : (k : ℕ) → getD images k 0 < 256) (wired : WellWired d a) (given : StoredAs d a c s)
     (unforced : Unforced a s) (room : Room d a output marks) where
-  past : Past d a c images spans lent
-  past = build-past d a c images spans lent (ok .build)
+  past : Past order d a c images spans lent
+  past = build-past order d a c images spans lent (ok .build)
 
   in-description : descriptionIn d ≡ true
   in-description = described (argsOf d a c spans) (past .tests .domain)
@@ -158,24 +159,24 @@ module _ (d : Description) (a : AddrLayout) (c : CsDataLayout) (images : List �
   chip-byte rom k = part-byte images (chipSpan spans rom .start) (chipSpan spans rom .length) k (ltb k (chipSpan spans rom .length)) refl bytes
 
   -- the table that is read
-  table-long : length (tableOf padByte (argsOf d a c spans) images) ≡ tableSize d a
+  table-long : length (tableOf padByte order (argsOf d a c spans) images) ≡ tableSize d a
   unfolding tableOf
-  table-long = words-length (d .«word_bytes») (entryAt padByte (argsOf d a c spans) images) (entriesOf a)
+  table-long = words-length (d .«word_bytes») (entryAt padByte order (argsOf d a c spans) images) (entriesOf a)
 
-  table-is : tableBuilt (argsOf d a c spans) images lent ≡ tableOf padByte (argsOf d a c spans) images
-  table-is = ap (take (tableSize d a)) (past .table) ∙ take-at (tableOf padByte (argsOf d a c spans) images) (drop (tableSize d a) lent) (tableSize d a) table-long
+  table-is : tableBuilt order (argsOf d a c spans) images lent ≡ tableOf padByte order (argsOf d a c spans) images
+  table-is = ap (take (tableSize d a)) (past .table) ∙ take-at (tableOf padByte order (argsOf d a c spans) images) (drop (tableSize d a) lent) (tableSize d a) table-long
 
   -- what comes back of a chip
   chip-back : (k : ℕ) → k < d .«num_chips»
-      → wordsBytes (d .«word_bytes») (λ n. word (d .«word_bytes») (chipBytes images (chipSpan spans k)) n) (sizes.romWords s k) ≡ firstBytes (argsOf d a c spans) images k
+      → chipWordsBytes order (d .«word_bytes») (λ n. chipWord order (d .«word_bytes») (chipBytes images (chipSpan spans k)) n) (sizes.romWords s k) ≡ firstBytes (argsOf d a c spans) images k
   chip-back k l =
-      ap (λ (n : ℕ). wordsBytes (d .«word_bytes») (word (d .«word_bytes») (chipBytes images (chipSpan spans k))) n) (words-same d a c s same-lines k l)
-      ∙ words-take (d .«word_bytes») (chipBytes images (chipSpan spans k)) (chipWords d a k) (chip-byte k)
+      ap (λ (n : ℕ). chipWordsBytes order (d .«word_bytes») (chipWord order (d .«word_bytes») (chipBytes images (chipSpan spans k))) n) (words-same d a c s same-lines k l)
+      ∙ words-take order (d .«word_bytes») (chipBytes images (chipSpan spans k)) (chipWords d a k) (chip-byte k)
       (words-within (chipWords d a k) 0 (d .«word_bytes») (getD (d .chips) k noChip .size) _ (omega arith) (can .lent k l))
 
-  all-back : recovered s (d .«set_type») (tableOf padByte (argsOf d a c spans) images) ≡ joined (d .«num_chips») (firstBytes (argsOf d a c spans) images)
+  all-back : recovered order s (d .«set_type») (tableOf padByte order (argsOf d a c spans) images) ≡ joined (d .«num_chips») (firstBytes (argsOf d a c spans) images)
   all-back =
-      recovered-words d a c images spans s same-lines told (can .chips) chip-byte
+      recovered-words order d a c images spans s same-lines told (can .chips) chip-byte
       ∙ joined-cong (d .«num_chips») _ _ (λ k l. chip-back k l)
 
   -- read-back refuses nothing
@@ -194,40 +195,40 @@ module _ (d : Description) (a : AddrLayout) (c : CsDataLayout) (images : List �
       let same : at .gpio ≡ stored.storedSelect s = cc in
       subst (addr.InWindow a) same (at .inside)
 
-  none-before : romsFault s (d .«set_type») (tableOf padByte (argsOf d a c spans) images) (length output) (length marks) ≡ None
+  none-before : romsFault s (d .«set_type») (tableOf padByte order (argsOf d a c spans) images) (length output) (length marks) ≡ None
   none-before =
       let board = description-in d in-description .board in
       let all = all-same d a c s same-lines in
-      none-refused d a c s given small (laid .0) (laid .1 .sound) wired (board .x1) (board .x2) (tableOf padByte (argsOf d a c spans) images) (length output) (length marks) table-long told
+      none-refused d a c s given small (laid .0) (laid .1 .sound) wired (board .x1) (board .x2) (tableOf padByte order (argsOf d a c spans) images) (length output) (length marks) table-long told
       (selected-at .1 .sound .data-above) (can .chips) select-window (rw (all, given .word-bytes) (room .for-output)) (rw all (room .for-marks))
 
-  size-right : wrongSize s (tableOf padByte (argsOf d a c spans) images) ≡ false
-  size-right = rw (eq-eqb (length (tableOf padByte (argsOf d a c spans) images)) (s .size) (table-long ∙ sym (given .size)))
+  size-right : wrongSize s (tableOf padByte order (argsOf d a c spans) images) ≡ false
+  size-right = rw (eq-eqb (length (tableOf padByte order (argsOf d a c spans) images)) (s .size) (table-long ∙ sym (given .size)))
 
   -- so that the entries decide, and none is at fault
   abbrev table : List ℕ
-  table = tableOf padByte (argsOf d a c spans) images
+  table = tableOf padByte order (argsOf d a c spans) images
 
-  tested : unscrambled s table output marks ≡ recover.ofType s table output marks (s .«slot_type»)
+  tested : unscrambled order s table output marks ≡ recover.ofType order s table output marks (s .«slot_type»)
   unfolding unscrambled
   tested = rw (stored-in d a c s in-description given, size-right)
 
   entries-none : orElse (inconsistent s (d .«set_type») table) (unserved s (d .«set_type»)) ≡ None
   entries-none =
-      both-none _ _ (consistent d a c images spans s same-lines told (can .chips) chip-byte) (all-served d a c images spans s same-lines told (can .chips) chip-byte)
+      both-none _ _ (consistent order d a c images spans s same-lines told (can .chips) chip-byte) (all-served order d a c images spans s same-lines told (can .chips) chip-byte)
 
-  reads : unscrambled s table output marks ≡ returnedWhole (argsOf d a c spans) images output marks
+  reads : unscrambled order s table output marks ≡ returnedWhole (argsOf d a c spans) images output marks
   reads =
       tested
-      ∙ ap (recover.ofType s table output marks) (given .set-type)
-      ∙ ap (recover.readAfter s (d .«set_type») table output marks) none-before
-      ∙ ap (recover.afterEntries s (d .«set_type») table output marks) entries-none
+      ∙ ap (recover.ofType order s table output marks) (given .set-type)
+      ∙ ap (recover.readAfter order s (d .«set_type») table output marks) none-before
+      ∙ ap (recover.afterEntries order s (d .«set_type») table output marks) entries-none
       ∙ ap (λ (r : List ℕ). readBack Answer.Done (front r output) (front (replicate (sizes.allWords s) 1) marks)) all-back
       ∙ ap (λ (n : ℕ). readBack Answer.Done (front (joined (d .«num_chips») (firstBytes (argsOf d a c spans) images)) output) (front (replicate n 1) marks)) (all-same d a c s same-lines)
 
-  reads-built : unscrambled s (tableBuilt (argsOf d a c spans) images lent) output marks ≡ returnedWhole (argsOf d a c spans) images output marks
-  reads-built = ap (λ (t : List ℕ). unscrambled s t output marks) table-is ∙ reads
+  reads-built : unscrambled order s (tableBuilt order (argsOf d a c spans) images lent) output marks ≡ returnedWhole (argsOf d a c spans) images output marks
+  reads-built = ap (λ (t : List ℕ). unscrambled order s t output marks) table-is ∙ reads
 
 pub round-trip : RoundTrip
-round-trip b images lent s output marks bytes given unforced ok wired room =
-    reads-built (b .description) (b .addr) (b .«cs_data») images (b .spans) lent s output marks ok bytes wired given unforced room
+round-trip order b images lent s output marks bytes given unforced ok wired room =
+    reads-built order (b .description) (b .addr) (b .«cs_data») images (b .spans) lent s output marks ok bytes wired given unforced room

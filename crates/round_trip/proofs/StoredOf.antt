@@ -17,6 +17,7 @@ use Rattle.cs_data_law.specs.Law.{FoundBest}
 use Rattle.cs_data_law.specs.Sound as cs
 use Rattle.cs_data_layout.proofs.Bounds.{line-in}
 use Rattle.cs_data_layout.specs.declared.layout.CsDataLayout.{CsDataLayout}
+use Rattle.words.specs.declared.ByteOrder.{ByteOrder}
 use Rattle.build_args.specs.Args.{argsOf}
 use Rattle.build_args.specs.declared.BuildArgs.{BuildArgs}
 use Rattle.round_trip.specs.design.Readable.{Readable}
@@ -142,10 +143,10 @@ pub unforced-stored : (d : Description) (a : AddrLayout) (c : CsDataLayout) → 
 unfolding storedOf stored.names
 unforced-stored d a c g w = (refl, refl)
 
-module _ (d : Description) (a : AddrLayout) (c : CsDataLayout) (images : List ℕ) (spans : List ImageSpan) (lent : List ℕ)
-    (ok : Accepted (argsOf d a c spans) images lent) where
-  past : Past d a c images spans lent
-  past = build-past d a c images spans lent (ok .build)
+module _ (order : ByteOrder) (d : Description) (a : AddrLayout) (c : CsDataLayout) (images : List ℕ) (spans : List ImageSpan) (lent : List ℕ)
+    (ok : Accepted order (argsOf d a c spans) images lent) where
+  past : Past order d a c images spans lent
+  past = build-past order d a c images spans lent (ok .build)
 
   selects : (n : ℕ) × FoundBest d (record { given = true; layout = a }) n c
   selects = cs-found d (record { given = true; layout = a }) c (ok .select)
@@ -165,10 +166,10 @@ module _ (d : Description) (a : AddrLayout) (c : CsDataLayout) (images : List �
   stored-as = stored-as-storable d a c storable
 
 -- what `stored_slot` and a read of the table ask of their caller, once the build accepts
-pub callable : (b : BuildArgs) (images lent : List ℕ) → buildOf b images lent .answer ≡ Answer.Done
+pub callable : (order : ByteOrder) (b : BuildArgs) (images lent : List ℕ) → buildOf order b images lent .answer ≡ Answer.Done
     → Readable b × (tableSize (b .description) (b .addr) ≤ length lent)
-callable b images lent e =
-    let past = build-past (b .description) (b .addr) (b .«cs_data») images (b .spans) lent e in
+callable order b images lent e =
+    let past = build-past order (b .description) (b .addr) (b .«cs_data») images (b .spans) lent e in
     let w = description-in (b .description) (described b (past .tests .domain)) .word-bytes in (
       record {
         pins = pins-few (b .description) (b .addr) (b .«cs_data») images (b .spans) _ (past .tests);

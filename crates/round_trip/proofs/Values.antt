@@ -11,8 +11,9 @@ use Rattle.bits.specs.Bits.{gather, scatter}
 use Rattle.bits.proofs.Gathered.{gather-cong}
 use Rattle.bits.proofs.Scattered.{scatter-lt}
 use Rattle.bits.proofs.Back.{gather-scatter}
-use Rattle.words.specs.Words.{word}
-use Rattle.words.proofs.Words.{word-lt}
+use Rattle.words.specs.Words.{word, chipWord}
+use Rattle.words.specs.declared.ByteOrder.{ByteOrder}
+use Rattle.words.proofs.Chip.{chip-lt}
 use Rattle.words.proofs.Back.{word-of-words}
 use Rattle.slot.specs.declared.description.Description.{Description}
 use Rattle.addr_layout.specs.declared.layout.AddrLayout.{AddrLayout}
@@ -42,7 +43,7 @@ back : (n m : ℕ) (p : ℕ → ℕ) (v : ℕ) → n ≡ m → ((k : ℕ) → k 
 back n m p v e i o h =
     ap (λ (x : ℕ). gather x p (scatter n p m v)) (sym e) ∙ gather-scatter n p m v i o ∙ ap (λ (x : ℕ). v % 2 ^ x) e ∙ mod-eq-of-lt h
 
-module _ (d : Description) (a : AddrLayout) (c : CsDataLayout) (images : List ℕ) (spans : List ImageSpan) (s : StoredSlot)
+module _ (order : ByteOrder) (d : Description) (a : AddrLayout) (c : CsDataLayout) (images : List ℕ) (spans : List ImageSpan) (s : StoredSlot)
     (f : Fitted d a c s) (t : ToldApart d a c) (fit : chipsFit (d .«set_type») (d .«num_chips») ≡ true)
     (bytes : (rom k : ℕ) → getD (chipBytes images (chipSpan spans rom)) k 0 < 256) where
   -- read-back picks and addresses as the build does
@@ -64,11 +65,11 @@ module _ (d : Description) (a : AddrLayout) (c : CsDataLayout) (images : List �
       omega (arith, e, q)
 
   abbrev wordIn : ℕ → ℕ → ℕ
-  wordIn rom n = word (d .«word_bytes») (chipBytes images (chipSpan spans rom)) n
+  wordIn rom n = chipWord order (d .«word_bytes») (chipBytes images (chipSpan spans rom)) n
 
   -- the entry that picks a chip at an address that is counted holds that word, scrambled
   entry-holds : (rom n i : ℕ) → rom < d .«num_chips» → chipPicked d a c i ≡ Chip rom → chipAddress a i ≡ n → n < wordCount d rom
-      → entryAt padByte (argsOf d a c spans) images i ≡ scrambled d c (wordIn rom n)
+      → entryAt padByte order (argsOf d a c spans) images i ≡ scrambled d c (wordIn rom n)
   unfolding entryAt
   entry-holds rom n i l p q r = rw (p, q, lt-ltb n (wordCount d rom) r)
 
@@ -77,25 +78,25 @@ module _ (d : Description) (a : AddrLayout) (c : CsDataLayout) (images : List �
   unfolding scrambled
   unscrambled-word v h = back (c .«num_data_pins») (8 * d .«word_bytes») (dataPosition c) v (t .data-lines) (t .data-in) (t .data-own) h
 
-  entry-lt : (i : ℕ) → entryAt padByte (argsOf d a c spans) images i < 2 ^ (8 * d .«word_bytes»)
+  entry-lt : (i : ℕ) → entryAt padByte order (argsOf d a c spans) images i < 2 ^ (8 * d .«word_bytes»)
   unfolding entryAt scrambled
   entry-lt i = scatter-lt (c .«num_data_pins») (dataPosition c) (8 * d .«word_bytes») _
 
-  stored-word : (i : ℕ) → i < entriesOf a → word (d .«word_bytes») (tableOf padByte (argsOf d a c spans) images) i ≡ entryAt padByte (argsOf d a c spans) images i
+  stored-word : (i : ℕ) → i < entriesOf a → word (d .«word_bytes») (tableOf padByte order (argsOf d a c spans) images) i ≡ entryAt padByte order (argsOf d a c spans) images i
   unfolding tableOf
   stored-word i h =
       ap (λ (b : List ℕ). word (d .«word_bytes») b i) (sym (append-nil _))
-      ∙ word-of-words (d .«word_bytes») (entryAt padByte (argsOf d a c spans) images) (entriesOf a) [] i h (entry-lt i)
+      ∙ word-of-words (d .«word_bytes») (entryAt padByte order (argsOf d a c spans) images) (entriesOf a) [] i h (entry-lt i)
 
   pub value-is : (rom n i : ℕ) → rom < d .«num_chips» → i < entriesOf a → read.romPicked s (d .«set_type») i ≡ Chip rom
-      → read.addressAt s rom i ≡ n → n < sizes.romWords s rom → read.valueAt s (tableOf padByte (argsOf d a c spans) images) rom i ≡ wordIn rom n
+      → read.addressAt s rom i ≡ n → n < sizes.romWords s rom → read.valueAt s (tableOf padByte order (argsOf d a c spans) images) rom i ≡ wordIn rom n
   unfolding read.valueAt
   value-is rom n i l h p q r =
       let held = entry-holds rom n i l (sym (picked-same i) ∙ p) (sym (address-same rom i l) ∙ q) (counted rom n l r) in
-      ap (λ (w : ℕ). gather (8 * w) (stored.storedDataPosition s rom) (word w (tableOf padByte (argsOf d a c spans) images) i)) (f .bytes)
+      ap (λ (w : ℕ). gather (8 * w) (stored.storedDataPosition s rom) (word w (tableOf padByte order (argsOf d a c spans) images) i)) (f .bytes)
       ∙ gather-cong (8 * d .«word_bytes») _ _ _ (λ k m. f .data-line rom k l (rw (t .data-lines) m))
       ∙ ap (gather (8 * d .«word_bytes») (dataPosition c)) (stored-word i h ∙ held)
-      ∙ unscrambled-word (wordIn rom n) (word-lt (d .«word_bytes») (chipBytes images (chipSpan spans rom)) (n * d .«word_bytes») (bytes rom))
+      ∙ unscrambled-word (wordIn rom n) (chip-lt order (d .«word_bytes») (chipBytes images (chipSpan spans rom)) (n * d .«word_bytes») (bytes rom))
 
   -- every word has an entry
   module _ (rom n : ℕ) (l : rom < d .«num_chips») (q : n < 2 ^ a .«num_lines») where

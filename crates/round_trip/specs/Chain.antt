@@ -5,6 +5,7 @@ use Prim.Native.Nat.{ℕ}
 use lib.ListN.{take}
 use Rattle.slot.specs.declared.description.Description.{Description}
 use Rattle.refusal.specs.declared.Refusal.{Refusal}
+use Rattle.words.specs.declared.ByteOrder.{ByteOrder}
 use Rattle.addr_layout.specs.Search.{addrAnswer}
 use Rattle.addr_layout.specs.declared.layout.AddrLayout.{AddrLayout}
 use Rattle.addr_layout.specs.declared.layout.AddrOutcome.{AddrOutcome}
@@ -42,40 +43,40 @@ abbrev pub tripRead : List ℕ → ReadBack → Trip
 tripRead table r = trip (r .answer) table (r .output) (r .marks)
 
 -- 01 Well wired 9: read-back is handed the built table itself, cut to the size of a table
-abbrev pub readOf : BuildArgs → List ℕ → List ℕ → List ℕ → Trip
-readOf b table output marks =
+abbrev pub readOf : ByteOrder → BuildArgs → List ℕ → List ℕ → List ℕ → Trip
+readOf order b table output marks =
     tripRead table
-    (unscrambled (storedOf (b .description) (b .addr) (b .«cs_data»)) (take (tableSize (b .description) (b .addr)) table) output marks)
+    (unscrambled order (storedOf (b .description) (b .addr) (b .«cs_data»)) (take (tableSize (b .description) (b .addr)) table) output marks)
 
-abbrev pub afterBuild : BuildArgs → List ℕ → List ℕ → Answer → List ℕ → Trip
-afterBuild b output marks Answer.Done table = readOf b table output marks
-afterBuild b output marks (Answer.Refused why) table = stopped why table output marks
+abbrev pub afterBuild : ByteOrder → BuildArgs → List ℕ → List ℕ → Answer → List ℕ → Trip
+afterBuild order b output marks Answer.Done table = readOf order b table output marks
+afterBuild order b output marks (Answer.Refused why) table = stopped why table output marks
 
-abbrev pub buildTrip : BuildArgs → List ℕ → List ℕ → Built → Trip
-buildTrip b output marks x = afterBuild b output marks (x .answer) (x .table)
+abbrev pub buildTrip : ByteOrder → BuildArgs → List ℕ → List ℕ → Built → Trip
+buildTrip order b output marks x = afterBuild order b output marks (x .answer) (x .table)
 
 -- 01 Well wired 8: the build gets the description that the searches got, and the two layouts that they found
-abbrev pub afterSelect : Description → AddrLayout → List ℕ → List ImageSpan → List ℕ → List ℕ → List ℕ → CsDataOutcome → CsDataLayout → Trip
-afterSelect d a images spans table output marks CsDataOutcome.LaidOut c =
-    buildTrip (argsOf d a c spans) output marks (buildOf (argsOf d a c spans) images table)
-afterSelect d a images spans table output marks (CsDataOutcome.Refused why) c = stopped why table output marks
+abbrev pub afterSelect : ByteOrder → Description → AddrLayout → List ℕ → List ImageSpan → List ℕ → List ℕ → List ℕ → CsDataOutcome → CsDataLayout → Trip
+afterSelect order d a images spans table output marks CsDataOutcome.LaidOut c =
+    buildTrip order (argsOf d a c spans) output marks (buildOf order (argsOf d a c spans) images table)
+afterSelect order d a images spans table output marks (CsDataOutcome.Refused why) c = stopped why table output marks
 
-abbrev pub selectTrip : Description → AddrLayout → List ℕ → List ImageSpan → List ℕ → List ℕ → List ℕ → CsDataAnswer → Trip
-selectTrip d a images spans table output marks x = afterSelect d a images spans table output marks (x .outcome) (x .layout)
+abbrev pub selectTrip : ByteOrder → Description → AddrLayout → List ℕ → List ImageSpan → List ℕ → List ℕ → List ℕ → CsDataAnswer → Trip
+selectTrip order d a images spans table output marks x = afterSelect order d a images spans table output marks (x .outcome) (x .layout)
 
 -- 01 Well wired 8: the select search gets the description that the address search got
-abbrev pub afterAddress : Description → List ℕ → List ImageSpan → List ℕ → List ℕ → List ℕ → AddrOutcome → AddrLayout → Trip
-afterAddress d images spans table output marks AddrOutcome.LaidOut a =
-    selectTrip d a images spans table output marks (csDataAnswer d (record { given = true; layout = a }))
-afterAddress d images spans table output marks (AddrOutcome.Refused why) a = stopped why table output marks
+abbrev pub afterAddress : ByteOrder → Description → List ℕ → List ImageSpan → List ℕ → List ℕ → List ℕ → AddrOutcome → AddrLayout → Trip
+afterAddress order d images spans table output marks AddrOutcome.LaidOut a =
+    selectTrip order d a images spans table output marks (csDataAnswer d (record { given = true; layout = a }))
+afterAddress order d images spans table output marks (AddrOutcome.Refused why) a = stopped why table output marks
 
-abbrev pub addressTrip : Description → List ℕ → List ImageSpan → List ℕ → List ℕ → List ℕ → AddrAnswer → Trip
-addressTrip d images spans table output marks x = afterAddress d images spans table output marks (x .outcome) (x .layout)
+abbrev pub addressTrip : ByteOrder → Description → List ℕ → List ImageSpan → List ℕ → List ℕ → List ℕ → AddrAnswer → Trip
+addressTrip order d images spans table output marks x = afterAddress order d images spans table output marks (x .outcome) (x .layout)
 
-unfoldable pub roundTripOf : Description → List ℕ → List ImageSpan → List ℕ → List ℕ → List ℕ → Trip
-roundTripOf d images spans table output marks = addressTrip d images spans table output marks (addrAnswer d)
+unfoldable pub roundTripOf : ByteOrder → Description → List ℕ → List ImageSpan → List ℕ → List ℕ → List ℕ → Trip
+roundTripOf order d images spans table output marks = addressTrip order d images spans table output marks (addrAnswer d)
 
 -- 00 Demand 3: the four calls in turn come to what ReadsBack says, whichever layouts the searches find
-abbrev pub AsDemanded : Description → List ℕ → List ImageSpan → List ℕ → List ℕ → List ℕ → ReadBack → Type 0
-AsDemanded d images spans table output marks r =
-    (a : AddrLayout) (c : CsDataLayout) → ReadsBack (argsOf d a c spans) images table output marks r
+abbrev pub AsDemanded : ByteOrder → Description → List ℕ → List ImageSpan → List ℕ → List ℕ → List ℕ → ReadBack → Type 0
+AsDemanded order d images spans table output marks r =
+    (a : AddrLayout) (c : CsDataLayout) → ReadsBack order (argsOf d a c spans) images table output marks r

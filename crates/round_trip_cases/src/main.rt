@@ -27,6 +27,7 @@ use slot::description::Package;
 use slot::description::Setting;
 use std::num::wrapping_add_u8;
 use wired::well_wired;
+use words::ByteOrder;
 ghost use Prim.Native.Nat.{_≤_};
 
 const JUNK: u8 = 195;
@@ -334,6 +335,7 @@ fn run(name: &[u8], case: Case) {
     let mut output = [JUNK; 2048];
     let mut marks = [JUNK; 1024];
     match round_trip(
+        ByteOrder::LowFirst,
         slot,
         &images,
         spans(case),

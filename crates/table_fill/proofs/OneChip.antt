@@ -5,8 +5,8 @@ use Prim.Native.Nat.{ℕ, _+_, _*_, _^_, _≤_, _<_}
 use native.Mathlib.Omega.{arith}
 use lib.Bits.{bitAnd}
 use lib.ListN.{length, getD}
-use Rattle.words.specs.Words.{wordFrom}
-use Rattle.words.proofs.Words.{word-lt}
+use Rattle.words.specs.Words.{chipWordFrom}
+use Rattle.words.proofs.Chip.{chip-lt}
 use Rattle.word_rows.specs.design.Wrote.{Wrote, saidBy}
 use Rattle.word_rows.proofs.Rows.{wrote-same}
 use Rattle.table_rows.specs.design.Rows.{ChipRowIn, chipEntry}
@@ -58,16 +58,16 @@ module _ (w : Wiring) (bytes : ℕ) (sources : List Source) (pad : ℕ) (r : Row
     }
 
     pub chip-wrote : (new : List ℕ) → ReadsBy source mask → ((k : ℕ) → getD images k 0 < 256)
-        → Wrote bytes (chipEntry bytes chip-row (w .«num_lines») (linePositions w) lows highs images) (r .first) (r .count) old new
+        → Wrote bytes (chipEntry (source .order) bytes chip-row (w .«num_lines») (linePositions w) lows highs images) (r .first) (r .count) old new
         → Wrote bytes (λ q. entryBy w sources pad images (r .first + q)) (r .first) (r .count) old new
     chip-wrote new reads small h = wrote-same bytes _ _ (r .first) (r .count) old new (λ q l. sym (same q l)) h
       where
-        same : (q : ℕ) → q < r .count → chipEntry bytes chip-row (w .«num_lines») (linePositions w) lows highs images q ≡ entryBy w sources pad images (r .first + q)
+        same : (q : ℕ) → q < r .count → chipEntry (source .order) bytes chip-row (w .«num_lines») (linePositions w) lows highs images q ≡ entryBy w sources pad images (r .first + q)
         same q l =
             let n = partOf w (r .first + q) .address in
             let short : n < 2 ^ 24 = address-lt w (r .first + q) (i .wiring-in) in
-            entry-is w moves picking lows highs (i .tables) sources pad images (r .first + q) n (r .part .picks) bytes (wordFrom bytes images (source .start + bitAnd n mask * bytes)) _ (i .wiring-in) (i .bytes-are) refl (same-picks q l)
-            (sym (reads images bytes pad n (omega arith) (stand n (to-highest q l)))) (word-lt bytes images _ small) refl
+            entry-is w moves picking lows highs (i .tables) sources pad images (r .first + q) n (r .part .picks) bytes (chipWordFrom (source .order) bytes images (source .start + bitAnd n mask * bytes)) _ (i .wiring-in) (i .bytes-are) refl (same-picks q l)
+            (sym (reads images bytes pad n (omega arith) (stand n (to-highest q l)))) (chip-lt (source .order) bytes images _ small) refl
 
   -- no word stands there
   pub pads-wrote : (x : ℕ) (new : List ℕ) → Pads source (r .part .address) → x ≡ saidBy lows highs pad

@@ -11,7 +11,7 @@ use borrow.Author.Tests.{lt-ltb, le-ltb, ltb-true, ltb-false, leb-true, not-true
 use Rattle.lists.proofs.Bools.{both}
 use Rattle.lists.proofs.Loops.{zero-one}
 use Rattle.lists.proofs.Shifts.{shifted-one}
-use Rattle.words.specs.Words.{wordFrom}
+use Rattle.words.specs.Words.{chipWordFrom}
 use Rattle.table_fill.specs.design.Entries.{rawFrom}
 use Rattle.table_fill.specs.design.Rows.{ReadsBy, Pads}
 use Rattle.table_fill.specs.declared.sources.Source.{Source}
@@ -41,8 +41,8 @@ module _ (s : Source) where
       low = ap (λ (x : ℕ). bitAnd n (x - 1)) e ∙ and-mask n k ∙ ap (λ (x : ℕ). n % x) (sym e)
 
       by : (t : Bool) → ltb n (s .count) ≡ t
-          → cond t (wordFrom w images (s .start + n * w)) (cond (s .mirrored) (wordFrom w images (s .start + n % s .count * w)) pad)
-          ≡ wordFrom w images (s .start + bitAnd n (s .count - 1) * w)
+          → cond t (chipWordFrom (s .order) w images (s .start + n * w)) (cond (s .mirrored) (chipWordFrom (s .order) w images (s .start + n % s .count * w)) pad)
+          ≡ chipWordFrom (s .order) w images (s .start + bitAnd n (s .count - 1) * w)
       by true q = let same : n % s .count ≡ n = mod-eq-of-lt (ltb-true n (s .count) q) in rw (low, same)
       by false q = rw (low, m)
 

@@ -107,7 +107,19 @@ pub fn write_row(
             start: source.start,
             mask: mask,
         };
-        write_words(bytes, words, &lines, n, moves, lows, highs, images, table);
+        let order = source.order;
+        write_words(
+            order,
+            bytes,
+            words,
+            &lines,
+            n,
+            moves,
+            lows,
+            highs,
+            images,
+            table,
+        );
     } else if one_chip & none_stand(source, row.part.address) {
         let entry = scrambled(bytes, lows, highs, from.pad);
         write_pads(bytes, entry, row.first, row.count, table);

@@ -1,11 +1,12 @@
 // Where the words of a chip stand in the lent bytes.
-use words::word_at;
+use words::ByteOrder;
+use words::chip_word_at;
 ghost use mathlib.Core.Path.{_≡_};
 ghost use mathlib.Core.Bool.{true};
 ghost use Prim.Native.Nat.{ℕ, _+_, _*_, _≤_, _<_, _^_};
 ghost use lib.Bits.{bitAnd};
 ghost use lib.ListN.{length};
-ghost use Rattle.words.specs.Words.{wordFrom};
+ghost use Rattle.words.specs.Words.{chipWordFrom};
 ghost use Rattle.table_fill.specs.design.Entries.{rawFrom, RawIn};
 ghost use Rattle.table_fill.specs.design.Rows.{ReadsBy, Pads};
 
@@ -16,6 +17,8 @@ pub struct Source {
     pub count: u32,
     // Whether addresses past them read them again.
     pub mirrored: bool,
+    // Which byte of a word stands first.
+    pub order: ByteOrder,
 }
 
 // What an address reads: a source for each value of the bits that pick, and the word where none stands.
@@ -27,10 +30,11 @@ pub struct Chips {
 // Word n of a source.
 fn word_of(images: &[u8], w: usize, s: Source, n: u32) -> u32
     requires { ⌜ (w ≤ 2) × (s .start + n * w + w ≤ length (now images)) ⌝ }
-    ensures { λ r. ⌜ r ≡ wordFrom w (now (images .entry)) (s .start + n * w) ⌝ }
+    ensures { λ r. ⌜ r ≡ chipWordFrom (s .order) w (now (images .entry)) (s .start + n * w) ⌝ }
     ensures { λ r. ⌜ r < 2 ^ (8 * w) ⌝ }
 {
-    word_at(images, s.start as usize + n as usize * w, w)
+    let order = s.order;
+    chip_word_at(order, images, s.start as usize + n as usize * w, w)
 }
 
 // The word at an address of a source, or the pad word.

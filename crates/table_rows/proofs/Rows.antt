@@ -6,7 +6,8 @@ use native.Mathlib.Omega.{arith}
 use lib.Bits.{bitAnd}
 use lib.ListN.{length}
 use Rattle.bits.specs.Bits.{indexAddress}
-use Rattle.words.specs.Words.{wordFrom}
+use Rattle.words.specs.Words.{chipWordFrom}
+use Rattle.words.specs.declared.ByteOrder.{ByteOrder}
 use Rattle.words.proofs.Words.{words-room}
 use Rattle.word_rows.specs.design.Wrote.{saidBy}
 use Rattle.table_rows.specs.declared.ChipRow.{ChipRow}
@@ -23,7 +24,7 @@ module _ (w : ℕ) (row : ChipRow) (n : ℕ) (position : ℕ → ℕ) (lows high
   word-in moves table i h e = rw e (i .words-in q h)
 
   -- what it comes to is the row's entry
-  pub entry-is : (word entry : ℕ) → address ≡ indexAddress n position (row .first + q)
-      → word ≡ wordFrom w images (row .start + bitAnd address (row .mask) * w) → entry ≡ saidBy lows highs word
-      → entry ≡ chipEntry w row n position lows highs images q
-  entry-is word entry e f g = g ∙ ap (saidBy lows highs) (f ∙ ap (λ (a : ℕ). wordFrom w images (row .start + bitAnd a (row .mask) * w)) e)
+  pub entry-is : (order : ByteOrder) (word entry : ℕ) → address ≡ indexAddress n position (row .first + q)
+      → word ≡ chipWordFrom order w images (row .start + bitAnd address (row .mask) * w) → entry ≡ saidBy lows highs word
+      → entry ≡ chipEntry order w row n position lows highs images q
+  entry-is order word entry e f g = g ∙ ap (saidBy lows highs) (f ∙ ap (λ (a : ℕ). chipWordFrom order w images (row .start + bitAnd a (row .mask) * w)) e)

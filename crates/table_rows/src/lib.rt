@@ -2,8 +2,9 @@
 // known to the compiler, which then makes a loop of its own for it.
 use running_address::next_address;
 use word_rows::said;
+use words::ByteOrder;
+use words::chip_word_at;
 use words::put_word;
-use words::word_at;
 ghost use mathlib.Core.Path.{_≡_};
 ghost use Prim.Native.Nat.{_+_, _*_, _≤_, _<_, _^_};
 ghost use lib.ListN.{length, getD};
@@ -35,6 +36,7 @@ pub fn scrambled(w: usize, lows: &[u32], highs: &[u32], word: u32) -> u32
 // Writes a row of words that stand in one chip, the address kept from entry to entry. The promise speaks of the lines' positions; the code
 // looks at no line.
 fn chip_row(
+    order: ByteOrder,
     w: usize,
     row: ChipRow,
     lines: &[u8],
@@ -47,14 +49,14 @@ fn chip_row(
 )
     requires { ⌜ ChipRowIn w row n (λ k. getD (now lines) k 0) (now moves) (now lows) (now highs) (now images) (now table) ⌝ }
     ensures { λ _. ⌜ Wrote w
-        (chipEntry w row n (λ k. getD (now (lines .entry)) k 0) (now (lows .entry)) (now (highs .entry)) (now (images .entry)))
+        (chipEntry order w row n (λ k. getD (now (lines .entry)) k 0) (now (lows .entry)) (now (highs .entry)) (now (images .entry)))
         (row .first) (row .count) (now (table .entry)) (now (table .exit)) ⌝ }
 {
     let mut address = row.address;
     let mut q: u32 = 0;
     while q < row.count {
         let at = row.start as usize + (address & row.mask) as usize * w;
-        let word = word_at(images, at, w);
+        let word = chip_word_at(order, images, at, w);
         let entry = scrambled(w, lows, highs, word);
         put_word(table, (row.first + q) as usize * w, w, entry);
         address = next_address(moves, address, row.first + q);
@@ -64,6 +66,7 @@ fn chip_row(
 
 // The same, with a loop of its own for each width.
 pub fn write_words(
+    order: ByteOrder,
     w: usize,
     row: ChipRow,
     lines: &[u8],
@@ -76,15 +79,15 @@ pub fn write_words(
 )
     requires { ⌜ ChipRowIn w row n (λ k. getD (now lines) k 0) (now moves) (now lows) (now highs) (now images) (now table) ⌝ }
     ensures { λ _. ⌜ Wrote w
-        (chipEntry w row n (λ k. getD (now (lines .entry)) k 0) (now (lows .entry)) (now (highs .entry)) (now (images .entry)))
+        (chipEntry order w row n (λ k. getD (now (lines .entry)) k 0) (now (lows .entry)) (now (highs .entry)) (now (images .entry)))
         (row .first) (row .count) (now (table .entry)) (now (table .exit)) ⌝ }
 {
     if w == 1 {
-        chip_row(1, row, lines, n, moves, lows, highs, images, table);
+        chip_row(order, 1, row, lines, n, moves, lows, highs, images, table);
     } else if w == 2 {
-        chip_row(2, row, lines, n, moves, lows, highs, images, table);
+        chip_row(order, 2, row, lines, n, moves, lows, highs, images, table);
     } else {
-        chip_row(w, row, lines, n, moves, lows, highs, images, table);
+        chip_row(order, w, row, lines, n, moves, lows, highs, images, table);
     }
 }
 

@@ -8,7 +8,8 @@ use native.Mathlib.Omega.{arith}
 use lib.Dec.{ltb}
 use borrow.Author.Tests.{ltb-true, lt-ltb, le-ltb}
 use Rattle.lists.specs.Tab.{joined}
-use Rattle.words.specs.Words.{bytesOf, wordsBytes}
+use Rattle.words.specs.Words.{chipBytesOf, chipWordsBytes}
+use Rattle.words.specs.declared.ByteOrder.{ByteOrder}
 use Rattle.refusal.specs.declared.Refusal.{Refusal}
 use Rattle.refusal.specs.First.{orElse, faultIf, firstOf}
 use Rattle.refusal.specs.declared.first.FirstFault.{FirstFault}
@@ -52,14 +53,14 @@ faults-more h m (suc n) g e =
     ∙ ap (orElse (firstOf (m + n) h)) (e n (omega arith))
     ∙ rw add-suc
 
-words-more : (w : ℕ) (h : ℕ → ℕ) (m n : ℕ) (g : ℕ → ℕ) → ((k : ℕ) → k < n → g k ≡ h (m + k))
-    → wordsBytes w h m ++ wordsBytes w g n ≡ wordsBytes w h (m + n)
+words-more : (order : ByteOrder) (w : ℕ) (h : ℕ → ℕ) (m n : ℕ) (g : ℕ → ℕ) → ((k : ℕ) → k < n → g k ≡ h (m + k))
+    → chipWordsBytes order w h m ++ chipWordsBytes order w g n ≡ chipWordsBytes order w h (m + n)
 unfolding joined
-words-more w h m zero g e = rw add-zero (append-nil (wordsBytes w h m))
-words-more w h m (suc n) g e =
-    sym (append-assoc (wordsBytes w h m) (wordsBytes w g n) (bytesOf w (g n)))
-    ∙ ap (λ (l : List ℕ). l ++ bytesOf w (g n)) (words-more w h m n g (λ k l. e k (omega arith)))
-    ∙ ap (λ (x : ℕ). wordsBytes w h (m + n) ++ bytesOf w x) (e n (omega arith))
+words-more order w h m zero g e = rw add-zero (append-nil (chipWordsBytes order w h m))
+words-more order w h m (suc n) g e =
+    sym (append-assoc (chipWordsBytes order w h m) (chipWordsBytes order w g n) (chipBytesOf order w (g n)))
+    ∙ ap (λ (l : List ℕ). l ++ chipBytesOf order w (g n)) (words-more order w h m n g (λ k l. e k (omega arith)))
+    ∙ ap (λ (x : ℕ). chipWordsBytes order w h (m + n) ++ chipBytesOf order w x) (e n (omega arith))
     ∙ rw add-suc
 
 module _ (s : StoredSlot) where
@@ -72,11 +73,11 @@ module _ (s : StoredSlot) where
       ap (λ (f : FirstFault). orElse f (firstOf (romWords s m) (g m))) (faults-joined h g m (λ rom n l q. e rom n (omega arith) q))
       ∙ faults-more h (wordsBefore s m) (romWords s m) (g m) (λ n q. e m n (omega arith) q)
 
-  pub words-joined : (w : ℕ) (h : ℕ → ℕ) (g : ℕ → ℕ → ℕ) (m : ℕ)
+  pub words-joined : (order : ByteOrder) (w : ℕ) (h : ℕ → ℕ) (g : ℕ → ℕ → ℕ) (m : ℕ)
       → ((rom n : ℕ) → rom < m → n < romWords s rom → g rom n ≡ h (wordsBefore s rom + n))
-      → joined m (λ rom. wordsBytes w (g rom) (romWords s rom)) ≡ wordsBytes w h (wordsBefore s m)
+      → joined m (λ rom. chipWordsBytes order w (g rom) (romWords s rom)) ≡ chipWordsBytes order w h (wordsBefore s m)
   unfolding joined wordsBefore
-  words-joined w h g zero e = refl
-  words-joined w h g (suc m) e =
-      ap (λ (l : List ℕ). l ++ wordsBytes w (g m) (romWords s m)) (words-joined w h g m (λ rom n l q. e rom n (omega arith) q))
-      ∙ words-more w h (wordsBefore s m) (romWords s m) (g m) (λ n q. e m n (omega arith) q)
+  words-joined order w h g zero e = refl
+  words-joined order w h g (suc m) e =
+      ap (λ (l : List ℕ). l ++ chipWordsBytes order w (g m) (romWords s m)) (words-joined order w h g m (λ rom n l q. e rom n (omega arith) q))
+      ∙ words-more order w h (wordsBefore s m) (romWords s m) (g m) (λ n q. e m n (omega arith) q)

@@ -35,6 +35,7 @@ use Rattle.refusal.proofs.Places.{FirstRows, Small, small-or, small-if, small-t
 use Rattle.picks.specs.Picks.{chipsFit, picksOf, pickedBy}
 use Rattle.picks.specs.declared.Picked.{Picked}
 use Rattle.picks.specs.declared.Picked.the-variants.{NoChip, Chip}
+use Rattle.words.specs.declared.ByteOrder.{ByteOrder}
 use Rattle.stored_slot.specs.Stored.{romAt, storedIn, wordBytes, addrBase, storedDataBase, storedSelect, storedPins, within, inWindow, addrLines, dataLines, addrPosition, oneInside}
 use Rattle.stored_slot.specs.Words.{romWords, allWords, storedPickPosition}
 use Rattle.stored_slot.specs.Faults.{wrongSize, layoutFault, romFault, xFault, xFaults, selectFault, pickFault, romsFault}
@@ -156,12 +157,12 @@ module _ (s : StoredSlot) (e : storedIn s ≡ true) (set : ChipSetType) (stored 
       (λ rom l. small-first (romWords s rom) (unservedIn s set rom)
       (λ n m. small-if (eqb (firstFor s set rom n (2 ^ storedPins s)) (2 ^ storedPins s)) (Unserved rom n) (omega (arith, few-roms s e, rom-small s e rom l))))
 
-module _ (s : StoredSlot) (e : storedIn s ≡ true) (stored output marks : List ℕ) where
-  entries-place : (set : ChipSetType) (f : FirstFault) → Small f → FirstRows (answerCode (afterEntries s set stored output marks f .answer))
+module _ (order : ByteOrder) (s : StoredSlot) (e : storedIn s ≡ true) (stored output marks : List ℕ) where
+  entries-place : (set : ChipSetType) (f : FirstFault) → Small f → FirstRows (answerCode (afterEntries order s set stored output marks f .answer))
   entries-place set None h = omega arith
   entries-place set (Of why) h = h
 
-  after-place : (set : ChipSetType) (f : FirstFault) → Small f → FirstRows (answerCode (readAfter s set stored output marks f .answer))
+  after-place : (set : ChipSetType) (f : FirstFault) → Small f → FirstRows (answerCode (readAfter order s set stored output marks f .answer))
   after-place set (Of why) h = h
   after-place set None h =
       entries-place set (orElse (inconsistent s set stored) (unserved s set))
@@ -171,21 +172,21 @@ module _ (s : StoredSlot) (e : storedIn s ≡ true) (stored output marks : List 
   plugin-place true done = omega arith
   plugin-place false done = omega arith
 
-  type-place : (t : SlotType) → FirstRows (answerCode (ofType s stored output marks t .answer))
+  type-place : (t : SlotType) → FirstRows (answerCode (ofType order s stored output marks t .answer))
   type-place Unknown = omega arith
   type-place Plugin = plugin-place (ltb (length output) (length stored)) _
   type-place (Roms set) = after-place set (romsFault s set stored (length output) (length marks)) (small-roms s stored set (length output) (length marks))
 
-  size-place : (t : Bool) → FirstRows (answerCode (cond t (readRefused WrongSize output marks) (ofType s stored output marks (s .«slot_type»)) .answer))
+  size-place : (t : Bool) → FirstRows (answerCode (cond t (readRefused WrongSize output marks) (ofType order s stored output marks (s .«slot_type»)) .answer))
   size-place true = omega arith
   size-place false = type-place (s .«slot_type»)
 
-module _ (s : StoredSlot) (stored output marks : List ℕ) where
+module _ (order : ByteOrder) (s : StoredSlot) (stored output marks : List ℕ) where
   in-place : (t : Bool) → storedIn s ≡ t
-      → FirstRows (answerCode (cond t (cond (wrongSize s stored) (readRefused WrongSize output marks) (ofType s stored output marks (s .«slot_type»))) (readRefused OutOfDomain output marks) .answer))
-  in-place true e = size-place s e stored output marks (wrongSize s stored)
+      → FirstRows (answerCode (cond t (cond (wrongSize s stored) (readRefused WrongSize output marks) (ofType order s stored output marks (s .«slot_type»))) (readRefused OutOfDomain output marks) .answer))
+  in-place true e = size-place order s e stored output marks (wrongSize s stored)
   in-place false e = omega arith
 
-  pub read-place : FirstRows (answerCode (unscrambled s stored output marks .answer))
+  pub read-place : FirstRows (answerCode (unscrambled order s stored output marks .answer))
   unfolding unscrambled
   read-place = in-place (storedIn s) refl

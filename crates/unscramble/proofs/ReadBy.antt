@@ -1,19 +1,23 @@
 -- What the code reads the entries by says of each what the definitions say: the word that it is for, and its value. Assumes nothing.
-use mathlib.Core.Path.{_≡_, refl, _∙_, ap}
+use mathlib.Core.Path.{_≡_, refl, sym, _∙_, ap}
 use mathlib.Core.Bool.{Bool, true, false, cond, _&&_}
 use mathlib.Core.List.{List}
-use Prim.Native.Nat.{ℕ, suc, _+_, _-_, _*_, _≤_, _<_}
+use Prim.Native.Nat.{ℕ, suc, _+_, _-_, _*_, _^_, _≤_, _<_}
 use native.Mathlib.Nat.{lt-of-lt-of-le}
 use native.Mathlib.Omega.{arith}
 use lib.Dec.{ltb, eqb}
 use lib.ListN.{getD}
-use lib.Pow.{pow-mono}
+use lib.Pow.{pow-mono, pow-pos}
 use borrow.Author.Tests.{ltb-true, lt-ltb, le-ltb}
 use Rattle.lists.specs.Tab.{tab}
 use Rattle.lists.proofs.Tab.{getD-tab}
 use Rattle.bits.specs.Bits.{gather}
 use Rattle.bits.proofs.Gathered.{gather-lt, gather-cong}
 use Rattle.words.specs.Words.{word}
+use Rattle.words.specs.declared.ByteOrder.{ByteOrder}
+use Rattle.words.proofs.Turned.{turnedWord, turned-none, turned-empty}
+use Rattle.dump_lines.proofs.Says.{same-lines, ordered-says}
+use Rattle.dump_lines.specs.design.Lines.{orderedMap}
 use Rattle.slot.specs.declared.description.ChipSetType.{ChipSetType}
 use Rattle.slot.specs.declared.description.ChipSetType.the-variants.{Single, Banked, Multi}
 use Rattle.picks.specs.Picks.{picksOf, pickedBy, chipsFit}
@@ -47,9 +51,9 @@ nest : {A : Type 0} (f t : Bool) (x y : A) → cond (f && t) x y ≡ cond f (con
 nest true t x y = refl
 nest false t x y = refl
 
-module _ (s : StoredSlot) (set : ChipSetType) where
+module _ (order : ByteOrder) (s : StoredSlot) (set : ChipSetType) where
   abbrev r : Reading
-  r = readingOf s set
+  r = readingOf order s set
 
   -- the lines that pick
   pick-says : (i : ℕ) → gathered (pickMap s set) i ≡ gather (picksOf set (s .«num_roms»)) (storedPickPosition s set) i
@@ -79,11 +83,15 @@ module _ (s : StoredSlot) (set : ChipSetType) where
       let e : addressMap s set rom ≡ readMap (romAt s rom .addr) (addrBase s) = rw (lt-ltb rom 4 h, lt-ltb rom (s .«num_roms») l) in
       ap (λ (m : Map). gathered m i) (getD-tab (addressMap s set) 5 rom noMap (omega arith) ∙ e) ∙ map-says (romAt s rom .addr) (addrBase s) i
 
-  part-data : (rom v : ℕ) → rom < 5 → rom < s .«num_roms» → partBy (r .«data_lines») rom v ≡ gather (dataLines (romAt s rom)) (storedDataPosition s rom) v
+  part-data : (rom v : ℕ) → rom < 5 → rom < s .«num_roms» → wordBytes s ≤ 2 → dataLines (romAt s rom) ≡ 8 * wordBytes s
+      → partBy (r .«data_lines») rom v ≡ turnedWord order (wordBytes s) (gather (dataLines (romAt s rom)) (storedDataPosition s rom) v)
   unfolding readingOf
-  part-data rom v h l =
-      let e : dataMap s rom ≡ readMap (romAt s rom .«data_lines») (storedDataBase s) = rw (lt-ltb rom (s .«num_roms») l) in
-      ap (λ (m : Map). gathered m v) (getD-tab (dataMap s) 5 rom noMap h ∙ e) ∙ map-says (romAt s rom .«data_lines») (storedDataBase s) v
+  part-data rom v h l small all =
+      let map = readMap (romAt s rom .«data_lines») (storedDataBase s) in
+      let e : dataMap order s rom ≡ orderedMap order map = rw (lt-ltb rom (s .«num_roms») l) in
+      ap (λ (m : Map). gathered m v) (getD-tab (dataMap order s) 5 rom noMap h ∙ e)
+      ∙ ordered-says map v order (wordBytes s) small all
+      ∙ ap (turnedWord order (wordBytes s)) (map-says (romAt s rom .«data_lines») (storedDataBase s) v)
 
   extent-at : (k : ℕ) → k < 5 → getD (r .extents) k noExtent ≡ extentOf s k
   unfolding readingOf
@@ -130,7 +138,7 @@ module _ (s : StoredSlot) (set : ChipSetType) where
     word-same i = word-case i (romPicked s set i) refl
 
     -- what it says
-    module _ (whole : (rom : ℕ) → rom < s .«num_roms» → dataLines (romAt s rom) ≡ 8 * wordBytes s) (stored : List ℕ) where
+    module _ (small : wordBytes s ≤ 2) (whole : (rom : ℕ) → rom < s .«num_roms» → dataLines (romAt s rom) ≡ 8 * wordBytes s) (stored : List ℕ) where
       abbrev said-there : ℕ → ℕ → ℕ
       said-there i k = partBy (r .«data_lines») k (word (wordBytes s) stored i)
 
@@ -139,26 +147,37 @@ module _ (s : StoredSlot) (set : ChipSetType) where
       by-rom i = refl
 
       said-none : (v : ℕ) → partBy (r .«data_lines») 4 v ≡ 0
-      unfolding readingOf gathered gather
+      unfolding readingOf
       said-none v =
-          let e : dataMap s 4 ≡ noLines = rw (le-ltb 4 (s .«num_roms») few) in
-          ap (λ (m : Map). gathered m v) (getD-tab (dataMap s) 5 4 noMap (omega arith) ∙ e)
+          let e : dataMap order s 4 ≡ orderedMap order noLines = rw (le-ltb 4 (s .«num_roms») few) in
+          ap (λ (m : Map). gathered m v) (getD-tab (dataMap order s) 5 4 noMap (omega arith) ∙ e)
+          ∙ ordered-says noLines v order 0 (omega arith) refl ∙ turned-empty order (gathered noLines v)
+
+      -- what it says is a word
+      said-lt : (i : ℕ) (p : Picked) → saidOf s stored p i < 2 ^ (8 * wordBytes s)
+      unfolding valueAt
+      said-lt i NoChip = pow-pos (8 * wordBytes s)
+      said-lt i (Chip rom) = gather-lt (8 * wordBytes s) (storedDataPosition s rom) (word (wordBytes s) stored i)
+
+      pub said-fits : (i : ℕ) → saidAt s set stored i < 2 ^ (8 * wordBytes s)
+      unfolding saidAt
+      said-fits i = said-lt i (romPicked s set i)
 
       value-is : (rom i : ℕ) → gather (8 * wordBytes s) (storedDataPosition s rom) (word (wordBytes s) stored i) ≡ valueAt s stored rom i
       unfolding valueAt
       value-is rom i = refl
 
-      said-case : (i : ℕ) (p : Picked) → romPicked s set i ≡ p → valueBy r stored i ≡ saidOf s stored p i
-      said-case i NoChip e = by-rom i ∙ ap (said-there i) (place-is i ∙ ap romPlace e) ∙ said-none (word (wordBytes s) stored i)
+      said-case : (i : ℕ) (p : Picked) → romPicked s set i ≡ p → valueBy r stored i ≡ turnedWord order (wordBytes s) (saidOf s stored p i)
+      said-case i NoChip e = by-rom i ∙ ap (said-there i) (place-is i ∙ ap romPlace e) ∙ said-none (word (wordBytes s) stored i) ∙ sym (turned-none order (wordBytes s) small)
       said-case i (Chip rom) e =
           let there : rom < s .«num_roms» = picked-there s set fit rom i e in
           by-rom i
           ∙ ap (said-there i) (place-is i ∙ ap romPlace e)
-          ∙ part-data rom (word (wordBytes s) stored i) (omega arith) there
-          ∙ ap (λ (n : ℕ). gather n (storedDataPosition s rom) (word (wordBytes s) stored i)) (whole rom there)
-          ∙ value-is rom i
+          ∙ part-data rom (word (wordBytes s) stored i) (omega arith) there small (whole rom there)
+          ∙ ap (λ (n : ℕ). turnedWord order (wordBytes s) (gather n (storedDataPosition s rom) (word (wordBytes s) stored i))) (whole rom there)
+          ∙ ap (turnedWord order (wordBytes s)) (value-is rom i)
 
-      pub said-same : (i : ℕ) → valueBy r stored i ≡ saidAt s set stored i
+      pub said-same : (i : ℕ) → valueBy r stored i ≡ turnedWord order (wordBytes s) (saidAt s set stored i)
       unfolding saidAt
       said-same i = said-case i (romPicked s set i) refl
 
@@ -179,7 +198,7 @@ module _ (s : StoredSlot) (set : ChipSetType) where
 
     data-few : (k : ℕ) → k < 5 → getD (r .«data_lines») k noMap .lines ≤ 8 * wordBytes s
     unfolding readingOf
-    data-few k h = rw (getD-tab (dataMap s) 5 k noMap h) (data-case k (ltb k (s .«num_roms»)) refl)
+    data-few k h = rw (getD-tab (dataMap order s) 5 k noMap h, same-lines order) (data-case k (ltb k (s .«num_roms»)) refl)
 
     -- a place that is picked is one of the five
     place-if : (t : Bool) (k : ℕ) (next : Picked) → (t ≡ true → k < 5) → romPlace next < 5 → romPlace (cond t (Chip k) next) < 5

@@ -21,6 +21,9 @@ use Rattle.entry_words.specs.declared.Outcome.the-variants.{Whole, Disagrees, M
 use Rattle.lists.proofs.First.{never-both, not-less, first-within, first-found}
 use Rattle.lists.proofs.Loops.{zero-one}
 use Rattle.entry_words.proofs.Whole.{disagrees-first, whole-told, whole-marks}
+use Rattle.words.specs.declared.ByteOrder.{ByteOrder}
+use Rattle.words.proofs.Words.{words-cong}
+use Rattle.words.proofs.Turned.{turnedWord, turned-words}
 use Rattle.stored_slot.specs.Stored.{wordBytes, storedPins}
 use Rattle.unscramble.specs.Words.{romPicked, addressAt, valueAt, serves}
 use Rattle.stored_slot.specs.Words.{wordsBefore, allWords}
@@ -144,10 +147,18 @@ module _ (s : StoredSlot) (set : ChipSetType) (stored : List ℕ) where
           let h = whole-told t v (allWords s) entries e f (flat-counted s f rom n w) in
           sym (ap (λ (b : Bool). cond b (v (firstAt t f entries)) 0) h ∙ kept-said s set fit stored f rom n w (ltb-true (firstAt t f entries) entries h))
 
-      pub output-same : outputAfter (wordBytes s) t v (allWords s) entries ≡ recovered s set stored
+      -- low byte first the words are turned, and so stand in the order of the dump
+      turned-value : (order : ByteOrder) (f : ℕ) → f < allWords s
+          → valueAfter t (λ i. turnedWord order (wordBytes s) (v i)) entries f ≡ turnedWord order (wordBytes s) (valueAfter t v entries f)
+      turned-value order f l = rw (whole-told t v (allWords s) entries e f l)
+
+      pub output-same : (order : ByteOrder)
+          → outputAfter (wordBytes s) t (λ i. turnedWord order (wordBytes s) (v i)) (allWords s) entries ≡ recovered order s set stored
       unfolding recovered
-      output-same =
-          sym (words-joined s (wordBytes s) (valueAfter t v entries) (keptValue s set stored) (s .«num_roms») (λ rom n l q.
+      output-same order =
+          words-cong (wordBytes s) _ _ (allWords s) (turned-value order)
+          ∙ turned-words order (wordBytes s) (valueAfter t v entries) (allWords s)
+          ∙ sym (words-joined s order (wordBytes s) (valueAfter t v entries) (keptValue s set stored) (s .«num_roms») (λ rom n l q.
           kept-value (wordsBefore s rom + n) rom n (flat-of s rom n l q)))
 
       pub marks-same : marksAfter t (allWords s) entries ≡ replicate (allWords s) 1

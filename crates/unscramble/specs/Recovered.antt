@@ -6,6 +6,7 @@ use lib.Dec.{ltb, eqb}
 use lib.ListN.{length, drop, replicate}
 use Rattle.lists.specs.Tab.{joined}
 use Rattle.words.specs.Words.{chipWordsBytes}
+use Rattle.words.specs.declared.ByteOrder.{ByteOrder}
 use Rattle.lists.specs.First.{firstWhere}
 use Rattle.slot.specs.declared.description.ChipSetType.{ChipSetType}
 use Rattle.refusal.specs.declared.Refusal.{Refusal}
@@ -55,12 +56,13 @@ abbrev pub unserved : StoredSlot → ChipSetType → FirstFault
 unserved s set = firstOf (s .«num_roms») (λ rom. firstOf (romWords s rom) (unservedIn s set rom))
 
 -- the bytes of a ROM's words
-abbrev pub romBytes : StoredSlot → ChipSetType → List ℕ → ℕ → List ℕ
-romBytes s set stored rom = chipWordsBytes (wordBytes s) (keptValue s set stored rom) (romWords s rom)
+-- 02 Slip 5 2: in the byte order of the call
+abbrev pub romBytes : ByteOrder → StoredSlot → ChipSetType → List ℕ → ℕ → List ℕ
+romBytes order s set stored rom = chipWordsBytes order (wordBytes s) (keptValue s set stored rom) (romWords s rom)
 
 -- 01 Shape 2: one output has the bytes of all ROMs, each behind the one before
-unfoldable pub recovered : StoredSlot → ChipSetType → List ℕ → List ℕ
-recovered s set stored = joined (s .«num_roms») (romBytes s set stored)
+unfoldable pub recovered : ByteOrder → StoredSlot → ChipSetType → List ℕ → List ℕ
+recovered order s set stored = joined (s .«num_roms») (romBytes order s set stored)
 
 -- 01 Shape 2: beside the answer stand two lent buffers, an output for all ROMs and the marks
 pub record ReadBack : Type 0 where
@@ -81,17 +83,17 @@ front new old = new ++ drop (length new) old
 
 -- 01 Numbers 5: after 23 or 24 the bytes and the mark of every word are 0
 -- 01 Numbers 6: on success the mark of every word is 1
-abbrev pub afterEntries : StoredSlot → ChipSetType → List ℕ → List ℕ → List ℕ → FirstFault → ReadBack
-afterEntries s set stored output marks None =
-    readBack Done (front (recovered s set stored) output) (front (replicate (allWords s) 1) marks)
-afterEntries s set stored output marks (Of why) =
+abbrev pub afterEntries : ByteOrder → StoredSlot → ChipSetType → List ℕ → List ℕ → List ℕ → FirstFault → ReadBack
+afterEntries order s set stored output marks None =
+    readBack Done (front (recovered order s set stored) output) (front (replicate (allWords s) 1) marks)
+afterEntries order s set stored output marks (Of why) =
     readBack (Refused why) (front (replicate (allWords s * wordBytes s) 0) output) (front (replicate (allWords s) 0) marks)
 
 -- 01 Numbers 4: entries count only where no earlier test refuses
-abbrev pub readAfter : StoredSlot → ChipSetType → List ℕ → List ℕ → List ℕ → FirstFault → ReadBack
-readAfter s set stored output marks (Of why) = readRefused why output marks
-readAfter s set stored output marks None =
-    afterEntries s set stored output marks (orElse (inconsistent s set stored) (unserved s set))
+abbrev pub readAfter : ByteOrder → StoredSlot → ChipSetType → List ℕ → List ℕ → List ℕ → FirstFault → ReadBack
+readAfter order s set stored output marks (Of why) = readRefused why output marks
+readAfter order s set stored output marks None =
+    afterEntries order s set stored output marks (orElse (inconsistent s set stored) (unserved s set))
 
 -- 01 Number 16: the output has fewer bytes than the plugin
 -- 01 Numbers 6: a plugin leaves all marks as they were
@@ -101,17 +103,18 @@ pluginRead stored output marks =
     cond (ltb (length output) (length stored)) (readRefused ShortBuffer output marks) (readBack Done (front stored output) marks)
 
 -- 01 Number 18: the slot is neither a plugin nor of a known set kind
-abbrev pub ofType : StoredSlot → List ℕ → List ℕ → List ℕ → SlotType → ReadBack
-ofType s stored output marks Unknown = readRefused UnknownSlotType output marks
-ofType s stored output marks Plugin = pluginRead stored output marks
-ofType s stored output marks (Roms set) =
-    readAfter s set stored output marks (romsFault s set stored (length output) (length marks))
+abbrev pub ofType : ByteOrder → StoredSlot → List ℕ → List ℕ → List ℕ → SlotType → ReadBack
+ofType order s stored output marks Unknown = readRefused UnknownSlotType output marks
+ofType order s stored output marks Plugin = pluginRead stored output marks
+ofType order s stored output marks (Roms set) =
+    readAfter order s set stored output marks (romsFault s set stored (length output) (length marks))
 
 -- 01 Number 1: the slot is outside of the domain
 -- 01 Numbers 2: the domain is tested before all else
 -- 01 Numbers 4: the length (17) is tested next, before the kind is looked at, so that a plugin's 16 comes after it
-unfoldable pub unscrambled : StoredSlot → List ℕ → List ℕ → List ℕ → ReadBack
-unscrambled s stored output marks =
+-- 02 Slip 5 2: a read-back takes one byte order, for all ROMs; no refusal depends on it, and no plugin
+unfoldable pub unscrambled : ByteOrder → StoredSlot → List ℕ → List ℕ → List ℕ → ReadBack
+unscrambled order s stored output marks =
     cond (storedIn s)
-    (cond (wrongSize s stored) (readRefused WrongSize output marks) (ofType s stored output marks (s .«slot_type»)))
+    (cond (wrongSize s stored) (readRefused WrongSize output marks) (ofType order s stored output marks (s .«slot_type»)))
     (readRefused OutOfDomain output marks)

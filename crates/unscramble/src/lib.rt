@@ -17,6 +17,7 @@ use stored_slot::stored::SlotType;
 use stored_slot::stored::StoredSlot;
 use stored_slot::window::entries;
 use table_read::collect;
+use words::ByteOrder;
 ghost use mathlib.Core.Path.{_≡_};
 ghost use mathlib.Core.Bool.{true};
 ghost use mathlib.Core.List.{List};
@@ -43,6 +44,7 @@ fn plugin(stored: &[u8], output: &mut [u8]) -> Answer
 
 // The ROMs of a slot that nothing refuses before its entries are read.
 fn read_entries(
+    order: ByteOrder,
     s: StoredSlot,
     set_type: ChipSetType,
     stored: &[u8],
@@ -51,14 +53,21 @@ fn read_entries(
 ) -> Answer
     requires { ⌜ PastTests s «set_type» (now stored) (length (now output)) (length (now marks)) ⌝ }
     ensures { λ r. ⌜ readBack r (now (output .exit)) (now (marks .exit))
-        ≡ afterEntries s «set_type» (now (stored .entry)) (now (output .entry)) (now (marks .entry))
+        ≡ afterEntries order s «set_type» (now (stored .entry)) (now (output .entry)) (now (marks .entry))
         (orElse (inconsistent s «set_type» (now (stored .entry))) (unserved s «set_type»)) ⌝ }
 {
-    let outcome = collect(reading(s, set_type), stored, entries(s), output, marks);
+    let outcome = collect(
+        reading(order, s, set_type),
+        stored,
+        entries(s),
+        output,
+        marks,
+    );
     answered(fault_of(s, outcome))
 }
 
 fn roms_read(
+    order: ByteOrder,
     s: StoredSlot,
     set_type: ChipSetType,
     stored: &[u8],
@@ -67,19 +76,25 @@ fn roms_read(
 ) -> Answer
     requires { ⌜ storedIn s ≡ true ⌝ }
     ensures { λ r. ⌜ readBack r (now (output .exit)) (now (marks .exit))
-        ≡ readAfter s «set_type» (now (stored .entry)) (now (output .entry)) (now (marks .entry))
+        ≡ readAfter order s «set_type» (now (stored .entry)) (now (output .entry)) (now (marks .entry))
         (romsFault s «set_type» (now (stored .entry)) (length (now (output .entry))) (length (now (marks .entry)))) ⌝ }
 {
     match roms_fault(s, set_type, stored, output.len(), marks.len()) {
         FirstFault::Of(why) => Answer::Refused(why),
-        FirstFault::None => read_entries(s, set_type, stored, output, marks),
+        FirstFault::None => read_entries(order, s, set_type, stored, output, marks),
     }
 }
 
-// Reads a stored slot back: its ROMs' words, chip after chip, and a mark for each; a plugin's bytes as they are.
-pub fn unscramble_slot(s: StoredSlot, stored: &[u8], output: &mut [u8], marks: &mut [u8]) -> Answer
+// Reads a stored slot back: its ROMs' words, chip after chip, their bytes in one order, and a mark for each; a plugin's bytes as they are.
+pub fn unscramble_slot(
+    order: ByteOrder,
+    s: StoredSlot,
+    stored: &[u8],
+    output: &mut [u8],
+    marks: &mut [u8],
+) -> Answer
     ensures { λ r. ⌜ readBack r (now (output .exit)) (now (marks .exit))
-        ≡ unscrambled s (now (stored .entry)) (now (output .entry)) (now (marks .entry)) ⌝ }
+        ≡ unscrambled order s (now (stored .entry)) (now (output .entry)) (now (marks .entry)) ⌝ }
 {
     if !stored_in(s) {
         return Answer::Refused(Refusal::OutOfDomain);
@@ -91,6 +106,6 @@ pub fn unscramble_slot(s: StoredSlot, stored: &[u8], output: &mut [u8], marks: &
     match slot_type {
         SlotType::Unknown => Answer::Refused(Refusal::UnknownSlotType),
         SlotType::Plugin => plugin(stored, output),
-        SlotType::Roms(set_type) => roms_read(s, set_type, stored, output, marks),
+        SlotType::Roms(set_type) => roms_read(order, s, set_type, stored, output, marks),
     }
 }

@@ -1,4 +1,5 @@
 // What the entries are read by: positions of all lines, the words of each ROM among all, and the forced bits, found once a slot.
+use dump_lines::in_order;
 use entry_words::Extent;
 use entry_words::Map;
 use entry_words::Reading;
@@ -18,6 +19,7 @@ use stored_slot::stored::StoredSlot;
 use stored_slot::window::addr_base;
 use stored_slot::window::data_base;
 use stored_slot::window::word_bytes;
+use words::ByteOrder;
 ghost use mathlib.Core.Path.{_≡_};
 ghost use Prim.Native.Nat.{_-_, _^_, _≤_};
 ghost use mathlib.Core.Bool.{cond};
@@ -74,13 +76,13 @@ fn address_map(s: StoredSlot, k: u8) -> Map
     place_map(s.num_roms, k, gpios, addr_base(s) as u8)
 }
 
-fn data_map(s: StoredSlot, k: u8) -> Map
+fn data_map(order: ByteOrder, s: StoredSlot, k: u8) -> Map
     requires { ⌜ storedDataBase s ≤ 255 ⌝ }
-    ensures { λ r. ⌜ r ≡ dataMap s k ⌝ }
+    ensures { λ r. ⌜ r ≡ dataMap order s k ⌝ }
 {
     let rom = rom_at(s, k);
     let gpios = rom.data_lines;
-    place_map(s.num_roms, k, gpios, data_base(s) as u8)
+    in_order(order, place_map(s.num_roms, k, gpios, data_base(s) as u8))
 }
 
 fn pick_position(s: StoredSlot, set_type: ChipSetType, k: u8) -> u8
@@ -138,16 +140,16 @@ fn address_maps(s: StoredSlot, set_type: ChipSetType) -> [Map; 5]
     ]
 }
 
-fn data_maps(s: StoredSlot) -> [Map; 5]
+fn data_maps(order: ByteOrder, s: StoredSlot) -> [Map; 5]
     requires { ⌜ storedDataBase s ≤ 255 ⌝ }
-    ensures { λ r. ⌜ r ≡ tab 5 (dataMap s) ⌝ }
+    ensures { λ r. ⌜ r ≡ tab 5 (dataMap order s) ⌝ }
 {
     [
-        data_map(s, 0),
-        data_map(s, 1),
-        data_map(s, 2),
-        data_map(s, 3),
-        data_map(s, 4),
+        data_map(order, s, 0),
+        data_map(order, s, 1),
+        data_map(order, s, 2),
+        data_map(order, s, 3),
+        data_map(order, s, 4),
     ]
 }
 
@@ -201,13 +203,13 @@ fn extents(s: StoredSlot) -> [Extent; 5]
 }
 
 // What the entries of a slot are read by.
-pub fn reading(s: StoredSlot, set_type: ChipSetType) -> Reading
+pub fn reading(order: ByteOrder, s: StoredSlot, set_type: ChipSetType) -> Reading
     requires { ⌜ Readable s «set_type» ⌝ }
-    ensures { λ r. ⌜ r ≡ readingOf s «set_type» ⌝ }
+    ensures { λ r. ⌜ r ≡ readingOf order s «set_type» ⌝ }
 {
     Reading {
         address: address_maps(s, set_type),
-        data_lines: data_maps(s),
+        data_lines: data_maps(order, s),
         roms: places(set_type, s.num_roms),
         extents: extents(s),
         forced: forced(s),

@@ -14,7 +14,7 @@ use lib.Pow.{pow-pos}
 use lib.Seq.{drop-append-add, drop-drop}
 use borrow.Author.Tests.{lt-ltb, le-ltb, ltb-true, eqb-true, eq-eqb}
 use Rattle.lists.proofs.First.{first-one, first-found, first-passes}
-use Rattle.words.specs.Words.{wordsBytes, chipWord}
+use Rattle.words.specs.Words.{wordsBytes, word}
 use Rattle.words.proofs.Words.{words-length, words-cong, words-none}
 use Rattle.words.proofs.Back.{word-of-words}
 use Rattle.word_rows.specs.design.Wrote.{Wrote}
@@ -146,10 +146,10 @@ module _ {r : Reading} {k b m pins : ℕ} {order : Map} (hr : ReadingIn r) (p : 
   rom-rest l = written-rest w value (m + words) (r .words) out new rom-written (most l)
 
   -- a word stands as it is written
-  stands : (a : ℕ) → a < words → chipWord w new (m + a) ≡ value (m + a)
+  stands : (a : ℕ) → a < words → word w new (m + a) ≡ value (m + a)
   unfolding value
   stands a l =
-      ap (λ (x : List ℕ). chipWord w x (m + a)) rom-written
+      ap (λ (x : List ℕ). word w x (m + a)) rom-written
       ∙ word-of-words w value (m + words) (drop ((m + words) * w) out) (m + a) (omega arith) (value-few hr stored (entry (m + a)))
 
   -- and the other turns say the same
@@ -161,7 +161,7 @@ module _ {r : Reading} {k b m pins : ℕ} {order : Map} (hr : ReadingIn r) (p : 
     agrees (suc c) a lc la =
         value-there p (suc c) a lc la stored
         ∙ sym (same (suc c) (omega arith) lc a la)
-        ∙ ap (λ (x : ℕ). chipWord w new (x + a)) (p .suited .start)
+        ∙ ap (λ (x : ℕ). word w new (x + a)) (p .suited .start)
         ∙ stands a la
 
     -- an entry of the ROM says what stands

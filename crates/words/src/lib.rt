@@ -1,9 +1,16 @@
-// Words of w bytes, read from bytes and written there, low byte first.
+// Words of w bytes, read from bytes and written there, low byte first; and those of a chip, whose bytes are in the order of its dump.
 ghost use mathlib.Core.Path.{_≡_};
 ghost use mathlib.Core.List.{_++_};
 ghost use Prim.Native.Nat.{_+_, _*_, _%_, _^_, _≤_, _<_};
 ghost use lib.ListN.{length, take, drop};
-ghost use Rattle.words.specs.Words.{wordFrom, bytesOf, padWord};
+ghost use Rattle.words.specs.declared.ByteOrder.the-variants.{HighFirst};
+ghost use Rattle.words.specs.Words.{wordFrom, bytesOf, padWord, chipWordFrom};
+
+// Which byte of a word a dump has first.
+pub enum ByteOrder {
+    LowFirst,
+    HighFirst,
+}
 
 // A byte as a number that can be shifted past a byte's width.
 fn wide(x: u8) -> u32
@@ -25,6 +32,33 @@ pub fn word_at(b: &[u8], at: usize, w: usize) -> u32
         whole = wide(b[at + k]) + 256 * whole;
     }
     whole
+}
+
+// The word of w bytes at a place, high byte first.
+fn high_word_at(b: &[u8], at: usize, w: usize) -> u32
+    requires { ⌜ (w ≤ 2) × (at + w ≤ length (now b)) ⌝ }
+    ensures { λ r. ⌜ r ≡ chipWordFrom HighFirst w (now (b .entry)) at ⌝ }
+    ensures { λ r. ⌜ r < 2 ^ (8 * w) ⌝ }
+{
+    let mut whole: u32 = 0;
+    let mut k: usize = 0;
+    while k < w {
+        whole = wide(b[at + k]) + 256 * whole;
+        k += 1;
+    }
+    whole
+}
+
+// The word of a chip at a place of its bytes, which are in an order.
+pub fn chip_word_at(order: ByteOrder, b: &[u8], at: usize, w: usize) -> u32
+    requires { ⌜ (w ≤ 2) × (at + w ≤ length (now b)) ⌝ }
+    ensures { λ r. ⌜ r ≡ chipWordFrom order w (now (b .entry)) at ⌝ }
+    ensures { λ r. ⌜ r < 2 ^ (8 * w) ⌝ }
+{
+    match order {
+        ByteOrder::LowFirst => word_at(b, at, w),
+        ByteOrder::HighFirst => high_word_at(b, at, w),
+    }
 }
 
 fn low(x: u32) -> u8

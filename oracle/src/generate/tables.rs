@@ -7,6 +7,7 @@ use crate::description::{Description, MULTI, NONE, Pin, SINGLE};
 use crate::engine::Job;
 use crate::layout::{AddressLayout, SelectLayout};
 use crate::model::build;
+use crate::model::dump::Order;
 use crate::random::Random;
 use crate::slot::{SINGLE_RAM, SINGLE_ROM};
 
@@ -191,7 +192,7 @@ fn good_read_back(
         table_length: usize::MAX,
     };
     let length = usize::from(slot.word_bytes) << address.pins;
-    let table = build::table(&slot, &job);
+    let table = build::table(&slot, &job, Order::LowFirst);
     let data = table.unwrap_or_else(|_| (0..length).map(|_| random.byte()).collect());
     let mut record = fitted(&slot, &address, &select, data.len());
     if record.kind == SINGLE_ROM && random.chance(50) {

@@ -1,5 +1,6 @@
 //! The build of a table.
 
+use super::dump::{Order, word};
 use crate::description::{BANKED, Description, MULTI, SINGLE};
 use crate::engine::{Job, Told, refused};
 
@@ -96,15 +97,6 @@ fn word_at(words: u64, address: u64) -> Option<u64> {
     }
 }
 
-fn word(bytes: &[u8], number: u64, word_bytes: usize) -> u32 {
-    let start = number as usize * word_bytes;
-    let taken = &bytes[start..start + word_bytes];
-    taken
-        .iter()
-        .rev()
-        .fold(0, |word, &byte| word << 8 | u32::from(byte))
-}
-
 /// The chips' bytes, all there.
 fn chip_bytes(slot: &Description, job: &Job) -> Told<Vec<Vec<u8>>> {
     let images = &job.images[..slot.chips.len()];
@@ -118,7 +110,8 @@ fn chip_bytes(slot: &Description, job: &Job) -> Told<Vec<Vec<u8>>> {
     Ok(images.iter().map(|image| image.bytes()).collect())
 }
 
-pub fn table(slot: &Description, job: &Job) -> Told<Vec<u8>> {
+/// The table of chips whose bytes are in this order; its entries are low byte first.
+pub fn table(slot: &Description, job: &Job, order: Order) -> Told<Vec<u8>> {
     let word_bytes = usize::from(slot.word_bytes);
     let length = (1u64 << job.address.pins) * word_bytes as u64;
     if length > u64::from(slot.largest_table) {
@@ -136,7 +129,7 @@ pub fn table(slot: &Description, job: &Job) -> Told<Vec<u8>> {
         let chip = picked(slot.set_type, slot.chips.len(), &places.pick, index);
         let raw = chip.and_then(|chip| {
             let words = u64::from(slot.chips[chip].size) / word_bytes as u64;
-            word_at(words, address).map(|number| word(&bytes[chip], number, word_bytes))
+            word_at(words, address).map(|number| word(&bytes[chip], number, word_bytes, order))
         });
         let entry = scatter(&places.data, raw.unwrap_or(pad));
         table.extend_from_slice(&entry.to_le_bytes()[..word_bytes]);

@@ -1,11 +1,13 @@
 //! Document 01 once more, written from its text alone, as plainly as it can be run: what the
-//! original is held against, and the answer where the original has none. hex.rs, page.rs and the
-//! package in domain.rs are slips of document 02, of which the original has nothing.
+//! original is held against, and the answer where the original has none. hex.rs, page.rs, the package
+//! in domain.rs and the byte order in dump.rs are slips of document 02, of which the original has
+//! nothing.
 
 pub mod address;
 pub mod build;
 pub mod choice;
 pub mod domain;
+pub mod dump;
 pub mod hex;
 pub mod multi;
 pub mod page;
@@ -17,8 +19,16 @@ use crate::description::{Description, Multi};
 use crate::engine::{Engine, Job, Lent, Recovered, Told, refused};
 use crate::layout::{AddressLayout, SelectLayout};
 use crate::slot::Slot;
+use dump::Order;
 
-pub struct Model;
+/// Answers with the chips' bytes in a byte order.
+pub struct Model(Order);
+
+impl Model {
+    /// As document 01 and the original have it.
+    pub const LOW_FIRST: Self = Self(Order::LowFirst);
+    pub const HIGH_FIRST: Self = Self(Order::HighFirst);
+}
 
 /// Base and span fit if the end is at most 32, or the base is 16 or more and the end at most 48.
 pub fn window_fits(base: u32, span: u32) -> bool {
@@ -78,10 +88,10 @@ impl Engine for Model {
     }
 
     fn build(&self, slot: &Description, job: &Job) -> Told<Vec<u8>> {
-        build::table(slot, job)
+        build::table(slot, job, self.0)
     }
 
     fn read_back(&self, slot: &Slot, data: &[u8], lent: Lent) -> Told<Recovered> {
-        read_back::recover(slot, data, lent)
+        read_back::recover(slot, data, lent, self.0)
     }
 }

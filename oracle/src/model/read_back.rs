@@ -1,6 +1,7 @@
 //! Read-back of a slot's table.
 
 use super::build::{gather, picked};
+use super::dump::{Order, put};
 use crate::description::{BANKED, MULTI, NONE, Pin, SINGLE};
 use crate::engine::{Lent, Recovered, Told, refused};
 use crate::slot::{
@@ -147,7 +148,8 @@ fn forced(slot: &Slot, window: &Window) -> (u64, u64) {
     (any, high)
 }
 
-pub fn recover(slot: &Slot, data: &[u8], lent: Lent) -> Told<Recovered> {
+/// What a slot stores, as ROMs in this byte order.
+pub fn recover(slot: &Slot, data: &[u8], lent: Lent, order: Order) -> Told<Recovered> {
     if data.len() != slot.size as usize {
         return refused(17, 0);
     }
@@ -176,7 +178,7 @@ pub fn recover(slot: &Slot, data: &[u8], lent: Lent) -> Told<Recovered> {
         picked(set_type, roms.len(), &pick, index).filter(|_| free)
     };
     let kept = keep(data, window.word_bytes as usize, &roms, picked)?;
-    collect(&kept, window.word_bytes as usize)
+    collect(&kept, window.word_bytes as usize, order)
 }
 
 /// The values of each ROM's words, by address; none where no entry has come.
@@ -227,16 +229,16 @@ fn word(rom: usize, address: u64) -> u64 {
     ((rom as u64) << 32) + address
 }
 
-fn collect(kept: &Kept, word_bytes: usize) -> Told<Recovered> {
+fn collect(kept: &Kept, word_bytes: usize, order: Order) -> Told<Recovered> {
     let mut roms = Vec::new();
     let mut marks = 0;
     for (rom, words) in kept.iter().enumerate() {
         let mut bytes = Vec::new();
         for (address, value) in words.iter().enumerate() {
-            let Some(value) = value else {
+            let &Some(value) = value else {
                 return refused(24, word(rom, address as u64));
             };
-            bytes.extend_from_slice(&value.to_le_bytes()[..word_bytes]);
+            put(&mut bytes, value, word_bytes, order);
             marks += 1;
         }
         roms.push(bytes);

@@ -94,6 +94,61 @@ int main(void)
 }
 "#;
 
+/// A chip of two words of two bytes, on GPIO 0 and 16 to 31, selected by GPIO 8: its high bytes come first, and
+/// a table's entries are low byte first all the same.
+const ORDER_IN_C: &str = r#"#include "onerom.h"
+#include <string.h>
+
+static uint8_t d[ONEROM_DESCRIPTION_RECORD_SIZE], spans[ONEROM_IMAGE_SPANS_RECORD_SIZE];
+
+static void describe(void)
+{
+    uint8_t *chip = d + ONEROM_DESCRIPTION_CHIPS, *pins = d + ONEROM_DESCRIPTION_SOCKET;
+    int k;
+
+    d[ONEROM_DESCRIPTION_BOARD_PINS] = 24;
+    d[ONEROM_DESCRIPTION_WORD_BYTES] = 2;
+    d[ONEROM_DESCRIPTION_CHIP_COUNT] = 1;
+    d[ONEROM_DESCRIPTION_LARGEST_TABLE + 1] = 2;
+    d[ONEROM_DESCRIPTION_FORM] = ONEROM_FORM_CE_OE;
+    memset(d + ONEROM_DESCRIPTION_CE_SETTING, ONEROM_NOT_GIVEN, 6);
+    memset(pins, ONEROM_GPIO_NONE, 2 * 42);
+    chip[ONEROM_CHIP_BYTES] = 4;
+    chip[ONEROM_CHIP_ADDRESS_COUNT] = 2;
+    chip[ONEROM_CHIP_ADDRESS] = 1;
+    chip[ONEROM_CHIP_ADDRESS + 1] = 2;
+    pins[2 * 1] = 0;
+    chip[ONEROM_CHIP_DATA_COUNT] = 16;
+    for (k = 0; k < 16; k++) {
+        chip[ONEROM_CHIP_DATA + k] = (uint8_t)(3 + k);
+        pins[2 * (2 + k)] = (uint8_t)(16 + k);
+    }
+    chip[ONEROM_CHIP_CONTROL_COUNT] = 1;
+    chip[ONEROM_CHIP_CONTROL] = ONEROM_KIND_CE;
+    chip[ONEROM_CHIP_CONTROL + 1] = 20;
+    pins[2 * 19] = 8;
+    spans[ONEROM_IMAGE_SPAN_GIVEN] = 1;
+    spans[ONEROM_IMAGE_SPAN_LENGTH] = 4;
+}
+
+int main(void)
+{
+    static const uint8_t rom[4] = {0x12, 0x34, 0x56, 0x78}, entries[4] = {0x34, 0x12, 0x78, 0x56};
+    static uint8_t table[512], output[4], marks[2];
+    uint64_t trip, refused;
+
+    describe();
+    refused = onerom_round_trip(d, sizeof d, spans, sizeof spans, rom, sizeof rom, 2, table, sizeof table, output,
+                                sizeof output, marks, sizeof marks);
+    if (onerom_number(refused) != ONEROM_OUT_OF_DOMAIN || table[0] != 0)
+        return 1;
+    trip = onerom_round_trip(d, sizeof d, spans, sizeof spans, rom, sizeof rom, ONEROM_ORDER_HIGH_FIRST, table,
+                             sizeof table, output, sizeof output, marks, sizeof marks);
+    return !(ONEROM_INTERFACE_VERSION == 2 && trip == 0 && memcmp(table, entries, 4) == 0
+             && memcmp(output, rom, 4) == 0 && marks[0] == 1 && marks[1] == 1);
+}
+"#;
+
 /// Compiles and runs a program that ends with 0 if the calls do what it expects.
 fn runs_in_c(name: &str, program: &str) {
     let source = Path::new(env!("CARGO_TARGET_TMPDIR")).join(format!("{name}.c"));
@@ -110,6 +165,11 @@ fn the_calls_on_intel_hex_in_c() {
 #[test]
 fn the_pin_page_in_c() {
     runs_in_c("pin_page", PAGE_IN_C);
+}
+
+#[test]
+fn high_byte_first_in_c() {
+    runs_in_c("byte_order", ORDER_IN_C);
 }
 
 #[test]

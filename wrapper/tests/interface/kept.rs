@@ -105,7 +105,7 @@ fn of_image_spans() {
     let (record, addr, cs_data) = (sample().to_bytes(), addr_layout(), cs_data_layout());
     let (spans, images) = joined(&[Some(&[0; 256])]);
     let call = |spans: &[u8]| {
-        build_rom_image_into(&record, &addr, &cs_data, spans, &images, &mut [0; 256])
+        build_rom_image_into(&record, &addr, &cs_data, spans, &images, 0, &mut [0; 256])
     };
     are_refused(&spans, &places, call);
 }
@@ -121,7 +121,7 @@ fn of_a_stored_slot() {
         x: Default::default(),
         roms: vec![],
     };
-    let call = |slot: &[u8]| unscramble_slot_into(slot, &[7], &mut [0], &mut []);
+    let call = |slot: &[u8]| unscramble_slot_into(slot, &[7], 0, &mut [0], &mut []);
     are_refused(&plugin.to_bytes(), &places, call);
 }
 

@@ -68,7 +68,11 @@ fn values(page: &Page) -> String {
         constant(&about, &value.name, "u8", &value.value.to_string())
     });
     let items: String = items.collect();
-    block("What single bytes of the records say.", "values", &items)
+    block(
+        "What single bytes of the records say, and the numbers that calls take.",
+        "values",
+        &items,
+    )
 }
 
 fn record(record: &Record) -> String {

@@ -6,7 +6,7 @@ use mathlib.Core.List.{List}
 use lib.Dec.{ltb, eqb}
 use Rattle.lists.specs.Tab.{tab}
 use Rattle.lists.specs.First.{firstWhere}
-use Rattle.words.specs.Words.{chipWordsBytes}
+use Rattle.words.specs.Words.{wordsBytes}
 use Rattle.entry_words.specs.declared.Outcome.{Outcome}
 use Rattle.entry_words.specs.declared.Outcome.the-variants.{Whole, Disagrees, Missing}
 
@@ -30,7 +30,7 @@ abbrev pub marksAfter : (ℕ → ℕ) → ℕ → ℕ → List ℕ
 marksAfter t words m = tab words (markAfter t m)
 
 abbrev pub outputAfter : ℕ → (ℕ → ℕ) → (ℕ → ℕ) → ℕ → ℕ → List ℕ
-outputAfter w t v words m = chipWordsBytes w (valueAfter t v m) words
+outputAfter w t v words m = wordsBytes w (valueAfter t v m) words
 
 -- entry i is for a word that has a value, and says another
 abbrev pub disagrees : (ℕ → ℕ) → (ℕ → ℕ) → ℕ → ℕ → Bool

@@ -4,7 +4,7 @@ use mathlib.Core.Bool.{Bool, true, cond}
 use mathlib.Core.List.{List, _++_, _∷_}
 use lib.Dec.{eqb}
 use lib.ListN.{length, getD, take, drop}
-use Rattle.words.specs.Words.{bytesOf, chipWord}
+use Rattle.words.specs.Words.{bytesOf, word}
 
 -- the answer of a call with both buffers
 pub record Kept (A : Type 0) : Type 0 where
@@ -26,4 +26,4 @@ abbrev pub keepWord : ℕ → ℕ → ℕ → List ℕ → List ℕ → Kept Boo
 keepWord w f value output marks =
     cond (eqb (getD marks f 0) 0)
     (kept true (take (f * w) output ++ bytesOf w value ++ drop (f * w + w) output) (take f marks ++ (1 ∷ drop (f + 1) marks)))
-    (kept (eqb (chipWord w output f) value) output marks)
+    (kept (eqb (word w output f) value) output marks)

@@ -8,6 +8,7 @@ use Rattle.refusal.specs.declared.Refusal.the-variants.{OutOfDomain}
 use Rattle.lists.proofs.Bools.{and-left}
 use Rattle.addr_record.proofs.Long.{formed-long}
 use Rattle.rom_image.specs.Build.{Built}
+use Rattle.calls.specs.Order.{orderAt}
 use Rattle.calls.specs.Calls.{returned, buildFrom, buildRefused, buildCall, buildResult}
 use Rattle.onerom.proofs.Records.{taken, no-record, passed, formed, not-formed}
 use Rattle.onerom.proofs.onerom_build_rom_image.Statement.{statement}
@@ -15,7 +16,7 @@ use Rattle.onerom.proofs.onerom_build_rom_image.Tie as tie
 
 -- what a described slot comes to, and what a refusal leaves
 abbrev builds : (s : tie.Start) → Description → Built
-builds s d = buildFrom d (s .args .addr-layout .now) (s .args .cs-data-layout .now) (s .args .spans .now) (s .args .images .now) (s .args .table .now)
+builds s d = buildFrom (orderAt (s .args .order)) d (s .args .addr-layout .now) (s .args .cs-data-layout .now) (s .args .spans .now) (s .args .images .now) (s .args .table .now)
 
 abbrev refuse : (s : tie.Start) → Refusal → Built
 refuse s why = buildRefused why (s .args .table .now)
@@ -31,7 +32,7 @@ returns c =
 hand-over-requires : tie.Need-hand-over-requires
 hand-over-requires c κs =
     formed-long (c .before .before .before .before .before .before .before .before .before .before .before .before .args .addr-layout .now)
-    (and-left _ _ (and-left _ _ (passed _ _ (c .before .before .before .before .before .formed .ensures) (c .before .before .before .before .if1 .left))))
+    (and-left _ _ (and-left _ _ (and-left _ _ (passed _ _ (c .before .before .before .before .before .formed .ensures) (c .before .before .before .before .if1 .left)))))
 
 returns-2 : tie.Need-returns-2
 unfolding buildCall

@@ -9,6 +9,7 @@ use Rattle.slot.specs.declared.description.Description.{Description}
 use Rattle.refusal.specs.declared.Refusal.{Refusal}
 use Rattle.refusal.specs.declared.Refusal.the-variants.{OutOfDomain}
 use Rattle.round_trip.specs.Chain.{Trip, stopped}
+use Rattle.calls.specs.Order.{orderAt}
 use Rattle.onerom.specs.Trip.{TripReturned, tripReturned, tripFrom, tripCall, tripResult}
 use Rattle.onerom.proofs.Records.{taken, no-record, formed, not-formed}
 use borrow.Author.Needs.{needs}
@@ -17,7 +18,7 @@ use Rattle.onerom.proofs.onerom_round_trip.Tie as tie
 
 -- what a described slot comes to, and what a refusal leaves
 abbrev trips : (s : tie.Start) → Description → Trip
-trips s d = tripFrom d (s .args .spans .now) (s .args .images .now) (s .args .table .now) (s .args .output .now) (s .args .marks .now)
+trips s d = tripFrom (orderAt (s .args .order)) d (s .args .spans .now) (s .args .images .now) (s .args .table .now) (s .args .output .now) (s .args .marks .now)
 
 abbrev refuse : (s : tie.Start) → Refusal → Trip
 refuse s why = stopped why (s .args .table .now) (s .args .output .now) (s .args .marks .now)

@@ -4,6 +4,7 @@ use Prim.Native.Nat.{ℕ}
 use borrow.Author.Needs.{needs}
 use Rattle.refusal.specs.declared.Refusal.the-variants.{OutOfDomain}
 use Rattle.unscramble.specs.Recovered.{readRefused}
+use Rattle.calls.specs.Order.{orderAt}
 use Rattle.calls.specs.Calls.{readReturned, readFrom, readBackCall, readResult}
 use Rattle.onerom.proofs.Records.{formed, not-formed}
 use Rattle.onerom.proofs.onerom_unscramble_slot.Statement.{statement}
@@ -24,7 +25,7 @@ returns-2 c =
     let s = t .before .before .before .before .before .before .before .before .before in
     t .hand-over .ensures
     ∙ ap readResult
-    (formed (readFrom (s .args .slot .now) (s .args .stored .now) (s .args .output .now) (s .args .marks .now)) _ _ _ (t .before .before .before .before .formed .ensures) (t .before .before .before .if1 .left))
+    (formed (readFrom (orderAt (s .args .order)) (s .args .slot .now) (s .args .stored .now) (s .args .output .now) (s .args .marks .now)) _ _ _ (t .before .before .before .before .formed .ensures) (t .before .before .before .if1 .left))
 
 pub onerom-unscramble-slot-spec : {M : Type 1} → statement M
 onerom-unscramble-slot-spec =

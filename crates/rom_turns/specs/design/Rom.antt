@@ -5,7 +5,7 @@ use Prim.Native.Nat.{ℕ, _+_, _*_, _%_, _^_, _≤_, _<_}
 use mathlib.Core.List.{List}
 use lib.Bits.{bitOr}
 use lib.ListN.{length, getD}
-use Rattle.words.specs.Words.{chipWord, entryWord}
+use Rattle.words.specs.Words.{word, entryWord}
 use Rattle.word_rows.specs.design.Wrote.{Tables, saidBy}
 use Rattle.index_order.specs.design.Order.{indexOf}
 use Rattle.rom_turns.specs.declared.Rom.{Rom}
@@ -47,4 +47,4 @@ turnStart rom c = c * rom .span + rom .first
 
 -- the words that stand are what a turn's entries say
 abbrev pub SameTurn : Rom → (ℕ → ℕ) → List ℕ → ℕ → Type 0
-SameTurn rom f output n = (a : ℕ) → a < n → chipWord (rom .«word_bytes») output (rom .start + a) ≡ f a
+SameTurn rom f output n = (a : ℕ) → a < n → word (rom .«word_bytes») output (rom .start + a) ≡ f a

@@ -7,7 +7,8 @@ use mathlib.Core.List.{List, _++_}
 use lib.Dec.{ltb}
 use lib.ListN.{length, drop, getD}
 use Rattle.bits.specs.Bits.{gather, indexAddress, scatter}
-use Rattle.words.specs.Words.{wordFrom, entriesBytes}
+use Rattle.words.specs.Words.{chipWordFrom, entriesBytes}
+use Rattle.words.specs.declared.ByteOrder.the-variants.{LowFirst}
 use Rattle.table_fill.specs.declared.wiring.Wiring.{Wiring}
 use Rattle.table_fill.specs.declared.wiring.Part.{Part}
 use Rattle.table_fill.specs.declared.sources.Source.{Source}
@@ -34,7 +35,7 @@ scrambledBy w v = scatter (w .«num_data») (λ k. getD (w .«data_lines») k 0)
 -- where a chip's words stand in the lent bytes
 -- where there is no chip there is no word, so that every address gives the pad
 abbrev pub noSource : Source
-noSource = record { start = 0; count = 0; mirrored = false }
+noSource = record { start = 0; count = 0; mirrored = false; order = LowFirst }
 
 -- its words are in the lent bytes, and there are some to read again where it is mirrored
 pub record SourceIn (images : List ℕ) (w : ℕ) (s : Source) : Type 0 where
@@ -50,8 +51,8 @@ SourcesIn images w sources = (bits : ℕ) → bits < 2 ^ w .«num_picks» → So
 -- the pad where it is not
 abbrev pub rawFrom : List ℕ → ℕ → Source → ℕ → ℕ → ℕ
 rawFrom images w s pad n =
-    cond (ltb n (s .count)) (wordFrom w images (s .start + n * w))
-    (cond (s .mirrored) (wordFrom w images (s .start + n % s .count * w)) pad)
+    cond (ltb n (s .count)) (chipWordFrom (s .order) w images (s .start + n * w))
+    (cond (s .mirrored) (chipWordFrom (s .order) w images (s .start + n % s .count * w)) pad)
 
 -- what one word takes: its source, and a pad that is a word
 pub record RawIn (images : List ℕ) (w : ℕ) (s : Source) (pad : ℕ) : Type 0 where

@@ -5,7 +5,7 @@ use mathlib.Core.List.{List}
 use lib.Bits.{bitAnd}
 use lib.ListN.{length, getD}
 use Rattle.lists.specs.Tab.{tab}
-use Rattle.words.specs.Words.{wordFrom}
+use Rattle.words.specs.Words.{chipWordFrom}
 use Rattle.word_rows.specs.design.Wrote.{Wrote}
 use Rattle.running_address.specs.design.Moves.{Moves}
 use Rattle.table_fill.specs.design.Entries.{WiringIn, SourcesIn, partOf, scrambledBy, rawFrom, entryBy}
@@ -17,7 +17,7 @@ use Rattle.table_fill.specs.declared.row.Row.{Row}
 abbrev pub ReadsBy : Source → ℕ → Type 0
 ReadsBy s mask =
     (images : List ℕ) (w pad n : ℕ) → n < 2 ^ 32 → bitAnd n mask < s .count
-    → rawFrom images w s pad n ≡ wordFrom w images (s .start + bitAnd n mask * w)
+    → rawFrom images w s pad n ≡ chipWordFrom (s .order) w images (s .start + bitAnd n mask * w)
 
 -- from an address on a source has no words
 abbrev pub Pads : Source → ℕ → Type 0

@@ -15,12 +15,12 @@ use Rattle.table_rows.proofs.chip_row.Statement.{statement}
 use Rattle.table_rows.proofs.chip_row.Tie as tie
 
 abbrev Inv-loop : tie.InvT-loop
-Inv-loop w row lines n moves lows highs images table₀ address₀ q₀ table address q =
+Inv-loop order w row lines n moves lows highs images table₀ address₀ q₀ table address q =
     (q ≤ row .count) × (length table ≡ length table₀) × (address ≡ indexAddress n (λ k. getD lines k 0) (row .first + q))
-    × Wrote w (chipEntry w row n (λ k. getD lines k 0) lows highs images) (row .first) q table₀ table
+    × Wrote w (chipEntry order w row n (λ k. getD lines k 0) lows highs images) (row .first) q table₀ table
 
 abbrev μ-loop : tie.MeasureT-loop
-μ-loop w row lines n moves lows highs images table₀ address₀ q₀ table address q = row .count - q
+μ-loop order w row lines n moves lows highs images table₀ address₀ q₀ table address q = row .count - q
 
 loop-holds : tie.Need-loop-holds Inv-loop μ-loop
 loop-holds c = (omega arith, refl, rw add-zero (c .before .before .before .before .before .before .pre .address-is), wrote-none _ _ _ _)
@@ -60,8 +60,8 @@ mul-at c = let t = past-known c in record { fits = omega (arith, stands t, start
 add-at : tie.Need-add-at Inv-loop μ-loop
 add-at c = let t = past-known c in record { fits = omega (arith, stands t, start t .good) }
 
-word-at-requires : tie.Need-word-at-requires Inv-loop μ-loop
-word-at-requires c κs = let t = past-known c in (start t .pre .bytes, stands t)
+chip-word-at-requires : tie.Need-chip-word-at-requires Inv-loop μ-loop
+chip-word-at-requires c κs = let t = past-known c in (start t .pre .bytes, stands t)
 
 mul-put-word : tie.Need-mul-put-word Inv-loop μ-loop
 mul-put-word c = let t = past-entry c in record { fits = omega (arith, room t, t .before .before .loop .inv .1, start t .good) }
@@ -79,7 +79,7 @@ loop-again c =
     let v = t .before .before .loop in
     let put = c .before .before .before .before .put-word in
     let on : a .row .first + (v .q + 1) ≡ a .row .first + v .q + 1 = omega arith in
-    let entry = entry-is _ (a .row) (a .n) _ (a .lows .now) (a .highs .now) (a .images .now) (v .q) _ _ _ (v .inv .2) (c .before .before .before .before .before .before .before .before .word-at .ensures .0) (c .before .before .before .before .before .before .before .scrambled .ensures) in (
+    let entry = entry-is _ (a .row) (a .n) _ (a .lows .now) (a .highs .now) (a .images .now) (v .q) _ (a .order) _ _ (v .inv .2) (c .before .before .before .before .before .before .before .before .chip-word-at .ensures .0) (c .before .before .before .before .before .before .before .scrambled .ensures) in (
       omega (arith, t .if1 .taken),
       put .kept .0 ∙ v .inv .1,
       rw on (c .next-address .ensures _ _ (start t .pre .moves-are) (v .inv .2)),
@@ -100,7 +100,7 @@ chip-row-spec =
     cast-at-2
     mul-at
     add-at
-    word-at-requires
+    chip-word-at-requires
     (λ c κs. search needs)
     (λ c. search needs)
     (λ c. search needs)

@@ -5,7 +5,8 @@ use mathlib.Core.List.{List}
 use lib.Bits.{bitAnd}
 use lib.ListN.{length, getD}
 use Rattle.bits.specs.Bits.{indexAddress}
-use Rattle.words.specs.Words.{wordFrom}
+use Rattle.words.specs.Words.{chipWordFrom}
+use Rattle.words.specs.declared.ByteOrder.{ByteOrder}
 use Rattle.word_rows.specs.design.Wrote.{saidBy}
 use Rattle.running_address.specs.design.Moves.{Moves}
 use Rattle.table_rows.specs.declared.ChipRow.{ChipRow}
@@ -21,8 +22,8 @@ abbrev pub wordAt : ℕ → ChipRow → ℕ → (ℕ → ℕ) → ℕ → ℕ
 wordAt w row lines position q = row .start + bitAnd (indexAddress lines position (row .first + q)) (row .mask) * w
 
 -- the entry at that index
-abbrev pub chipEntry : ℕ → ChipRow → ℕ → (ℕ → ℕ) → List ℕ → List ℕ → List ℕ → ℕ → ℕ
-chipEntry w row lines position lows highs images q = saidBy lows highs (wordFrom w images (wordAt w row lines position q))
+abbrev pub chipEntry : ByteOrder → ℕ → ChipRow → ℕ → (ℕ → ℕ) → List ℕ → List ℕ → List ℕ → ℕ → ℕ
+chipEntry order w row lines position lows highs images q = saidBy lows highs (chipWordFrom order w images (wordAt w row lines position q))
 
 -- the address is the first index's, the words are in the lent bytes, and their entries have room
 pub record ChipRowIn (w : ℕ) (row : ChipRow) (lines : ℕ) (position : ℕ → ℕ) (moves lows highs images table : List ℕ) : Type 0 where

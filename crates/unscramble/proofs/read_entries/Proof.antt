@@ -22,14 +22,14 @@ entries-requires c κs = can (c .before .before .before .before) .pins
 collect-requires : tie.Need-collect-requires
 collect-requires c κs = let r = c .before .before .before in
     let s = r .before .before .before .before in
-    collectable (s .args .s) (s .args .set-type) (s .args .stored .now) (s .args .output .now) (s .args .marks .now) (s .pre) _ _ (r .reading .ensures) (c .before .before .entries .ensures)
+    collectable (s .args .order) (s .args .s) (s .args .set-type) (s .args .stored .now) (s .args .output .now) (s .args .marks .now) (s .pre) _ _ (r .reading .ensures) (c .before .before .entries .ensures)
 
 returns : tie.Need-returns
 returns c = let f = c .before in
     let k = f .before .before .before .before .before in
     let r = k .before .before .before .before in
     let s = r .before .before .before .before in
-    finishes (s .args .s) (s .args .set-type) (s .args .stored .now) (s .args .output .now) (s .args .marks .now) (s .pre) _ _ (r .reading .ensures) (k .before .before .before .entries .ensures) _ _ _ _ (c .answered .ensures ∙ ap answered (f .fault-of .ensures)) (k .collect .ensures)
+    finishes (s .args .order) (s .args .s) (s .args .set-type) (s .args .stored .now) (s .args .output .now) (s .args .marks .now) (s .pre) _ _ (r .reading .ensures) (k .before .before .before .entries .ensures) _ _ _ _ (c .answered .ensures ∙ ap answered (f .fault-of .ensures)) (k .collect .ensures)
 
 pub read-entries-spec : {M : Type 1} → statement M
 read-entries-spec =

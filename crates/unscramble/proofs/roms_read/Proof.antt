@@ -13,7 +13,7 @@ read-entries-requires c κs = let t = c .before .before in
 returns : tie.Need-returns
 returns c = let f = c .before .before .before in
     let s = f .before .before .before .before in
-    ap (readAfter (s .args .s) (s .args .set-type) (s .args .stored .now) (s .args .output .now) (s .args .marks .now)) (sym (c .before .why .given .1) ∙ f .roms-fault .ensures)
+    ap (readAfter (s .args .order) (s .args .s) (s .args .set-type) (s .args .stored .now) (s .args .output .now) (s .args .marks .now)) (sym (c .before .why .given .1) ∙ f .roms-fault .ensures)
 
 returns-2 : tie.Need-returns-2
 returns-2 c = let k = c .before .before .before .before in
@@ -21,7 +21,7 @@ returns-2 c = let k = c .before .before .before .before in
     let f = t .before .before in
     let s = f .before .before .before .before in
     k .read-entries .ensures
-    ∙ ap (readAfter (s .args .s) (s .args .set-type) (s .args .stored .now) (s .args .output .now) (s .args .marks .now)) (sym (t .enum-told .given .1) ∙ f .roms-fault .ensures)
+    ∙ ap (readAfter (s .args .order) (s .args .s) (s .args .set-type) (s .args .stored .now) (s .args .output .now) (s .args .marks .now)) (sym (t .enum-told .given .1) ∙ f .roms-fault .ensures)
 
 pub roms-read-spec : {M : Type 1} → statement M
 roms-read-spec =

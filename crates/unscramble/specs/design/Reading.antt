@@ -10,6 +10,8 @@ use Rattle.slot.specs.declared.description.ChipSetType.{ChipSetType}
 use Rattle.picks.specs.Picks.{picksOf, pickedBy}
 use Rattle.picks.specs.declared.Picked.{Picked}
 use Rattle.picks.specs.declared.Picked.the-variants.{NoChip, Chip}
+use Rattle.words.specs.declared.ByteOrder.{ByteOrder}
+use Rattle.dump_lines.specs.design.Lines.{orderedMap}
 use Rattle.entry_words.specs.declared.Map.{Map}
 use Rattle.entry_words.specs.declared.Extent.{Extent}
 use Rattle.entry_words.specs.declared.Reading.{Reading}
@@ -45,8 +47,9 @@ placeMap roms k gpios base = cond (ltb k roms) (readMap gpios base) noLines
 abbrev pub addressMap : StoredSlot → ChipSetType → ℕ → Map
 addressMap s set k = cond (ltb k 4) (placeMap (s .«num_roms») k (romAt s k .addr) (addrBase s)) (pickMap s set)
 
-abbrev pub dataMap : StoredSlot → ℕ → Map
-dataMap s k = placeMap (s .«num_roms») k (romAt s k .«data_lines») (storedDataBase s)
+-- the data lines are read in the order of the dump's bytes
+abbrev pub dataMap : ByteOrder → StoredSlot → ℕ → Map
+dataMap order s k = orderedMap order (placeMap (s .«num_roms») k (romAt s k .«data_lines») (storedDataBase s))
 
 -- the place of a ROM; the fifth for none
 abbrev pub romPlace : Picked → ℕ
@@ -57,10 +60,10 @@ romPlace (Chip k) = k
 abbrev pub extentOf : StoredSlot → ℕ → Extent
 extentOf s k = cond (ltb k (s .«num_roms»)) (record { start = wordsBefore s k; words = romWords s k }) (record { start = 0; words = 0 })
 
-unfoldable pub readingOf : StoredSlot → ChipSetType → Reading
-readingOf s set = record {
+unfoldable pub readingOf : ByteOrder → StoredSlot → ChipSetType → Reading
+readingOf order s set = record {
   address = tab 5 (addressMap s set);
-  «data_lines» = tab 5 (dataMap s);
+  «data_lines» = tab 5 (dataMap order s);
   roms = tab 8 (λ bits. romPlace (pickedBy set (s .«num_roms») bits));
   extents = tab 5 (extentOf s);
   forced = maskOf (storedPins s) (forcedAt s);

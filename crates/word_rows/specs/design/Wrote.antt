@@ -4,7 +4,7 @@ use Prim.Native.Nat.{ℕ, _+_, _*_, _/_, _%_, _≤_, _<_}
 use mathlib.Core.List.{List, _++_}
 use lib.Bits.{bitOr}
 use lib.ListN.{length, getD, drop}
-use Rattle.words.specs.Words.{wordsBytes, chipWord, entryWord}
+use Rattle.words.specs.Words.{wordsBytes, word, entryWord}
 
 -- behind words that stand at the front of a buffer there are now so many more
 abbrev pub Wrote : ℕ → (ℕ → ℕ) → ℕ → ℕ → List ℕ → List ℕ → Type 0
@@ -36,4 +36,4 @@ pub record RowIn (w : ℕ) (lows low-bytes high-bytes : List ℕ) (from : ℕ) (
 -- the words at a place are what the entries of a row say
 abbrev pub SameRow : ℕ → List ℕ → List ℕ → List ℕ → ℕ → List ℕ → List ℕ → ℕ → ℕ → Type 0
 SameRow w lows low-bytes high-bytes from stored output at count =
-    (q : ℕ) → q < count → chipWord w output (at + q) ≡ rowSays w lows low-bytes high-bytes stored from q
+    (q : ℕ) → q < count → word w output (at + q) ≡ rowSays w lows low-bytes high-bytes stored from q
