@@ -6,7 +6,6 @@ use picks::Picked;
 use picks::picked_by;
 use slot::description::Description;
 use table_fill::Source;
-use words::ByteOrder;
 ghost use mathlib.Core.Path.{_≡_};
 ghost use Prim.Native.Nat.{_≤_};
 ghost use Rattle.build_wiring.specs.Counts.{wordCount};
@@ -19,16 +18,15 @@ fn word_count(d: Description, k: u8) -> u32
     chip_size(d, k) / (d.word_bytes as u32)
 }
 
-fn source(order: ByteOrder, d: Description, spans: [ImageSpan; 4], picked: Picked) -> Source
+fn source(d: Description, spans: [ImageSpan; 4], picked: Picked) -> Source
     requires { ⌜ 1 ≤ d .«word_bytes» ⌝ }
-    ensures { λ r. ⌜ r ≡ sourceOf order d spans picked ⌝ }
+    ensures { λ r. ⌜ r ≡ sourceOf d spans picked ⌝ }
 {
     match picked {
         Picked::NoChip => Source {
             start: 0,
             count: 0,
             mirrored: false,
-            order: ByteOrder::LowFirst,
         },
         Picked::Chip(k) => {
             let span = span_at(spans, k as usize);
@@ -37,28 +35,26 @@ fn source(order: ByteOrder, d: Description, spans: [ImageSpan; 4], picked: Picke
                 start: span.start,
                 count: count,
                 mirrored: u32::count_ones(count) == 1,
-                order: order,
             }
         }
     }
 }
 
 // The source for each value of the bits that pick.
-pub fn sources(order: ByteOrder, d: Description, spans: [ImageSpan; 4]) -> [Source; 8]
+pub fn sources(d: Description, spans: [ImageSpan; 4]) -> [Source; 8]
     requires { ⌜ 1 ≤ d .«word_bytes» ⌝ }
-    ensures { λ r. ⌜ r ≡ sourcesOf order d spans ⌝ }
+    ensures { λ r. ⌜ r ≡ sourcesOf d spans ⌝ }
 {
     let none = Source {
         start: 0,
         count: 0,
         mirrored: false,
-        order: ByteOrder::LowFirst,
     };
     let set_type = d.set_type;
     let mut out = [none; 8];
     let mut bits: u8 = 0;
     while bits < 8 {
-        out[bits as usize] = source(order, d, spans, picked_by(set_type, d.num_chips, bits));
+        out[bits as usize] = source(d, spans, picked_by(set_type, d.num_chips, bits));
         bits += 1;
     }
     out

@@ -1,6 +1,5 @@
 -- What the data lines in the order of a dump's bytes say is the word in that order. Assumes nothing.
 use mathlib.Core.Path.{_≡_, refl, sym, _∙_, ap}
-use mathlib.Core.List.{List}
 use Prim.Native.Nat.{ℕ, zero, suc, _+_, _-_, _*_, _/_, _%_, _^_, _≤_, _<_}
 use native.Mathlib.Nat.{add-zero, add-suc, mul-add, mul-left-comm}
 use native.Mathlib.Omega.{arith}

@@ -1,9 +1,9 @@
 // The order of a dump's bytes as an order of data lines: a word of two bytes whose high byte comes first is the word of the same lines with
 // those of its two bytes exchanged, low byte first. So the order is looked at once a ROM, and no word costs more for it.
 use entry_words::Map;
-use words::ByteOrder;
 ghost use mathlib.Core.Path.{_≡_};
 ghost use Prim.Native.Nat.{_<_};
+ghost use Rattle.words.specs.declared.ByteOrder.the-variants.{HighFirst};
 ghost use Rattle.dump_lines.specs.design.Lines.{otherByte, turnedMap, orderedMap};
 
 // The line of the other byte that carries the same bit of it.
@@ -35,17 +35,12 @@ fn turned(map: Map) -> Map
     }
 }
 
-// The data lines in the order of a dump's bytes. Only a word of two bytes has two orders.
-pub fn in_order(order: ByteOrder, map: Map) -> Map
-    ensures { λ r. ⌜ r ≡ orderedMap order map ⌝ }
+// The data lines of a dump that has the high byte first. Only a word of two bytes has two orders.
+pub fn high_first(map: Map) -> Map
+    ensures { λ r. ⌜ r ≡ orderedMap HighFirst map ⌝ }
 {
-    match order {
-        ByteOrder::LowFirst => map,
-        ByteOrder::HighFirst => {
-            if map.lines == 16 {
-                return turned(map);
-            }
-            map
-        }
+    if map.lines == 16 {
+        return turned(map);
     }
+    map
 }

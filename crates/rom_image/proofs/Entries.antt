@@ -27,7 +27,7 @@ use Rattle.build_wiring.specs.design.Wiring.{wiringOf, sourceOf, sourcesOf}
 use Rattle.rom_image.proofs.Buildable.{Buildable}
 use Rattle.rom_image.proofs.Chips.{Lent, raw-word, source-in}
 
-module _ (order : ByteOrder) (d : Description) (a : AddrLayout) (c : CsDataLayout) (images : List ℕ) (spans : List ImageSpan) (b : Buildable d a c images spans) where
+module _ (d : Description) (a : AddrLayout) (c : CsDataLayout) (images : List ℕ) (spans : List ImageSpan) (b : Buildable d a c images spans) where
   picks-few : numPicks d ≤ 3
   picks-few = picks-three (d .«set_type») (d .«num_chips»)
 
@@ -55,23 +55,23 @@ module _ (order : ByteOrder) (d : Description) (a : AddrLayout) (c : CsDataLayou
 
   -- the bits of the picking lines: the source of the chip that they pick, which has its bytes
   module _ (bits : ℕ) (few : bits < 2 ^ numPicks d) where
-    source-at : getD (sourcesOf order d spans) bits noSource ≡ sourceOf order d spans (picked d bits)
+    source-at : getD (sourcesOf d spans) bits noSource ≡ sourceOf d spans (picked d bits)
     source-at = getD-tab _ 8 bits noSource (lt-of-lt-of-le few (pow-mono {j = 3} picks-few))
 
-    picked-lent : Lent order d images spans (picked d bits)
+    picked-lent : Lent d images spans (picked d bits)
     picked-lent k e = b .lent k (picked-below (d .«set_type») (d .«num_chips») bits k (b .chips) few e)
 
-  pub sources-in : SourcesIn images (wiringOf d a c) (sourcesOf order d spans)
+  pub sources-in : SourcesIn images (wiringOf d a c) (sourcesOf d spans)
   unfolding wiringOf
-  sources-in bits few = rw (source-at bits few) (source-in order d images spans (picked d bits) (b .some-bytes) (picked-lent bits few))
+  sources-in bits few = rw (source-at bits few) (source-in d images spans (picked d bits) (b .some-bytes) (picked-lent bits few))
 
   -- the entry at an index, and the table
-  pub entry-is : (pad i : ℕ) → entryBy (wiringOf d a c) (sourcesOf order d spans) (padOf pad d) images i ≡ entryAt pad order (argsOf d a c spans) images i
+  pub entry-is : (order : ByteOrder) (pad i : ℕ) → entryBy order (wiringOf d a c) (sourcesOf d spans) (padOf pad d) images i ≡ entryAt pad order (argsOf d a c spans) images i
   unfolding wiringOf entryBy entryAt chipPicked
-  entry-is pad i =
+  entry-is order pad i =
       let few = gather-lt (numPicks d) (pickPosition d a c) i in
-      rw (picks-are i, address-is i, source-at _ few, raw-word order d images spans pad _ (chipAddress a i) (picked-lent _ few)) (scrambled-is _)
+      rw (picks-are i, address-is i, source-at _ few, raw-word d images spans order pad _ (chipAddress a i) (picked-lent _ few)) (scrambled-is _)
 
-  pub table-is : (pad : ℕ) (lent : List ℕ) → tableBy (wiringOf d a c) (sourcesOf order d spans) (padOf pad d) images (entriesOf a) lent ≡ tableOf pad order (argsOf d a c spans) images ++ drop (tableSize d a) lent
+  pub table-is : (order : ByteOrder) (pad : ℕ) (lent : List ℕ) → tableBy order (wiringOf d a c) (sourcesOf d spans) (padOf pad d) images (entriesOf a) lent ≡ tableOf pad order (argsOf d a c spans) images ++ drop (tableSize d a) lent
   unfolding wiringOf tableOf
-  table-is pad lent = rw (words-cong (d .«word_bytes») (entryBy (wiringOf d a c) (sourcesOf order d spans) (padOf pad d) images) (entryAt pad order (argsOf d a c spans) images) (entriesOf a) (λ i l. entry-is pad i))
+  table-is order pad lent = rw (words-cong (d .«word_bytes») (entryBy order (wiringOf d a c) (sourcesOf d spans) (padOf pad d) images) (entryAt pad order (argsOf d a c spans) images) (entriesOf a) (λ i l. entry-is order pad i))

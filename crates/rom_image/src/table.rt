@@ -28,8 +28,9 @@ pub fn fill(order: ByteOrder, b: BuildArgs, images: &[u8], table: &mut [u8])
     let spans = b.spans;
     let pad = pad_word(d.word_bytes as usize, PAD_BYTE);
     fill_by(
+        order,
         wiring(d, a, c),
-        sources(order, d, spans),
+        sources(d, spans),
         pad,
         images,
         1u32 << a.num_addr_pins,

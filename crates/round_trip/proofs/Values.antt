@@ -1,7 +1,7 @@
 -- What each entry of a built table reads as, and that every word has one. Assumes nothing.
 use mathlib.Core.Path.{_≡_, sym, _∙_, ap}
 use mathlib.Core.Bool.{true}
-use mathlib.Core.List.{List, [], append-nil}
+use mathlib.Core.List.{List}
 use Prim.Native.Nat.{ℕ, _-_, _*_, _/_, _%_, _^_, _<_}
 use native.Mathlib.Nat.{mod-eq-of-lt}
 use native.Mathlib.Omega.{arith}
@@ -9,12 +9,10 @@ use lib.ListN.{getD}
 use borrow.Author.Tests.{lt-ltb}
 use Rattle.bits.specs.Bits.{gather, scatter}
 use Rattle.bits.proofs.Gathered.{gather-cong}
-use Rattle.bits.proofs.Scattered.{scatter-lt}
 use Rattle.bits.proofs.Back.{gather-scatter}
 use Rattle.words.specs.Words.{word, chipWord}
 use Rattle.words.specs.declared.ByteOrder.{ByteOrder}
 use Rattle.words.proofs.Chip.{chip-lt}
-use Rattle.words.proofs.Back.{word-of-words}
 use Rattle.slot.specs.declared.description.Description.{Description}
 use Rattle.addr_layout.specs.declared.layout.AddrLayout.{AddrLayout}
 use Rattle.cs_data_layout.specs.declared.layout.CsDataLayout.{CsDataLayout}
@@ -27,6 +25,7 @@ use Rattle.build_args.specs.Faults.{entriesOf}
 use Rattle.build_args.specs.declared.images.ImageSpan.{ImageSpan}
 use Rattle.picks.specs.declared.Picked.the-variants.{Chip}
 use Rattle.rom_image.specs.Build.{padByte}
+use Rattle.rom_image.proofs.Read.{entry-word}
 use Rattle.build_wiring.specs.Counts.{wordCount}
 use Rattle.rom_image.specs.Entry.{chipAddress, chipPicked, scrambled, entryAt, tableOf}
 use Rattle.stored_slot.specs.Stored as stored
@@ -78,16 +77,6 @@ module _ (order : ByteOrder) (d : Description) (a : AddrLayout) (c : CsDataLayou
   unfolding scrambled
   unscrambled-word v h = back (c .«num_data_pins») (8 * d .«word_bytes») (dataPosition c) v (t .data-lines) (t .data-in) (t .data-own) h
 
-  entry-lt : (i : ℕ) → entryAt padByte order (argsOf d a c spans) images i < 2 ^ (8 * d .«word_bytes»)
-  unfolding entryAt scrambled
-  entry-lt i = scatter-lt (c .«num_data_pins») (dataPosition c) (8 * d .«word_bytes») _
-
-  stored-word : (i : ℕ) → i < entriesOf a → word (d .«word_bytes») (tableOf padByte order (argsOf d a c spans) images) i ≡ entryAt padByte order (argsOf d a c spans) images i
-  unfolding tableOf
-  stored-word i h =
-      ap (λ (b : List ℕ). word (d .«word_bytes») b i) (sym (append-nil _))
-      ∙ word-of-words (d .«word_bytes») (entryAt padByte order (argsOf d a c spans) images) (entriesOf a) [] i h (entry-lt i)
-
   pub value-is : (rom n i : ℕ) → rom < d .«num_chips» → i < entriesOf a → read.romPicked s (d .«set_type») i ≡ Chip rom
       → read.addressAt s rom i ≡ n → n < sizes.romWords s rom → read.valueAt s (tableOf padByte order (argsOf d a c spans) images) rom i ≡ wordIn rom n
   unfolding read.valueAt
@@ -95,7 +84,7 @@ module _ (order : ByteOrder) (d : Description) (a : AddrLayout) (c : CsDataLayou
       let held = entry-holds rom n i l (sym (picked-same i) ∙ p) (sym (address-same rom i l) ∙ q) (counted rom n l r) in
       ap (λ (w : ℕ). gather (8 * w) (stored.storedDataPosition s rom) (word w (tableOf padByte order (argsOf d a c spans) images) i)) (f .bytes)
       ∙ gather-cong (8 * d .«word_bytes») _ _ _ (λ k m. f .data-line rom k l (rw (t .data-lines) m))
-      ∙ ap (gather (8 * d .«word_bytes») (dataPosition c)) (stored-word i h ∙ held)
+      ∙ ap (gather (8 * d .«word_bytes») (dataPosition c)) (entry-word padByte order (argsOf d a c spans) images i h ∙ held)
       ∙ unscrambled-word (wordIn rom n) (chip-lt order (d .«word_bytes») (chipBytes images (chipSpan spans rom)) (n * d .«word_bytes») (bytes rom))
 
   -- every word has an entry

@@ -6,6 +6,7 @@ use native.Mathlib.Omega.{arith}
 use lib.Bits.{bitAnd}
 use lib.ListN.{length, getD}
 use Rattle.words.specs.Words.{chipWordFrom}
+use Rattle.words.specs.declared.ByteOrder.{ByteOrder}
 use Rattle.words.proofs.Chip.{chip-lt}
 use Rattle.word_rows.specs.design.Wrote.{Wrote, saidBy}
 use Rattle.word_rows.proofs.Rows.{wrote-same}
@@ -57,24 +58,24 @@ module _ (w : Wiring) (bytes : ℕ) (sources : List Source) (pad : ℕ) (r : Row
       room = i .room;
     }
 
-    pub chip-wrote : (new : List ℕ) → ReadsBy source mask → ((k : ℕ) → getD images k 0 < 256)
-        → Wrote bytes (chipEntry (source .order) bytes chip-row (w .«num_lines») (linePositions w) lows highs images) (r .first) (r .count) old new
-        → Wrote bytes (λ q. entryBy w sources pad images (r .first + q)) (r .first) (r .count) old new
-    chip-wrote new reads small h = wrote-same bytes _ _ (r .first) (r .count) old new (λ q l. sym (same q l)) h
+    pub chip-wrote : (order : ByteOrder) (new : List ℕ) → ReadsBy source mask → ((k : ℕ) → getD images k 0 < 256)
+        → Wrote bytes (chipEntry order bytes chip-row (w .«num_lines») (linePositions w) lows highs images) (r .first) (r .count) old new
+        → Wrote bytes (λ q. entryBy order w sources pad images (r .first + q)) (r .first) (r .count) old new
+    chip-wrote order new reads small h = wrote-same bytes _ _ (r .first) (r .count) old new (λ q l. sym (same q l)) h
       where
-        same : (q : ℕ) → q < r .count → chipEntry (source .order) bytes chip-row (w .«num_lines») (linePositions w) lows highs images q ≡ entryBy w sources pad images (r .first + q)
+        same : (q : ℕ) → q < r .count → chipEntry order bytes chip-row (w .«num_lines») (linePositions w) lows highs images q ≡ entryBy order w sources pad images (r .first + q)
         same q l =
             let n = partOf w (r .first + q) .address in
             let short : n < 2 ^ 24 = address-lt w (r .first + q) (i .wiring-in) in
-            entry-is w moves picking lows highs (i .tables) sources pad images (r .first + q) n (r .part .picks) bytes (chipWordFrom (source .order) bytes images (source .start + bitAnd n mask * bytes)) _ (i .wiring-in) (i .bytes-are) refl (same-picks q l)
-            (sym (reads images bytes pad n (omega arith) (stand n (to-highest q l)))) (chip-lt (source .order) bytes images _ small) refl
+            entry-is w moves picking lows highs (i .tables) order sources pad images (r .first + q) n (r .part .picks) bytes (chipWordFrom order bytes images (source .start + bitAnd n mask * bytes)) _ (i .wiring-in) (i .bytes-are) refl (same-picks q l)
+            (sym (reads order images bytes pad n (omega arith) (stand n (to-highest q l)))) (chip-lt order bytes images _ small) refl
 
   -- no word stands there
-  pub pads-wrote : (x : ℕ) (new : List ℕ) → Pads source (r .part .address) → x ≡ saidBy lows highs pad
-      → Wrote bytes (λ q. x) (r .first) (r .count) old new → Wrote bytes (λ q. entryBy w sources pad images (r .first + q)) (r .first) (r .count) old new
-  pads-wrote x new pads e h = wrote-same bytes _ _ (r .first) (r .count) old new (λ q l. sym (same q l)) h
+  pub pads-wrote : (order : ByteOrder) (x : ℕ) (new : List ℕ) → Pads source (r .part .address) → x ≡ saidBy lows highs pad
+      → Wrote bytes (λ q. x) (r .first) (r .count) old new → Wrote bytes (λ q. entryBy order w sources pad images (r .first + q)) (r .first) (r .count) old new
+  pads-wrote order x new pads e h = wrote-same bytes _ _ (r .first) (r .count) old new (λ q l. sym (same q l)) h
     where
-      same : (q : ℕ) → q < r .count → x ≡ entryBy w sources pad images (r .first + q)
+      same : (q : ℕ) → q < r .count → x ≡ entryBy order w sources pad images (r .first + q)
       same q l =
-          entry-is w moves picking lows highs (i .tables) sources pad images (r .first + q) _ (r .part .picks) bytes pad x (i .wiring-in) (i .bytes-are) refl (same-picks q l)
-          (sym (pads images bytes pad _ (from-lowest q l))) (i .pad-short) e
+          entry-is w moves picking lows highs (i .tables) order sources pad images (r .first + q) _ (r .part .picks) bytes pad x (i .wiring-in) (i .bytes-are) refl (same-picks q l)
+          (sym (pads order images bytes pad _ (from-lowest q l))) (i .pad-short) e

@@ -28,21 +28,21 @@ one-bit count bits l e = e ∙ shifted-one bits 32 (omega arith)
 module _ (s : Source) where
   -- all bits
   pub reads-all : ReadsBy s (2 ^ 32 - 1)
-  reads-all images w pad n l h =
+  reads-all order images w pad n l h =
       let all : bitAnd n (2 ^ 32 - 1) ≡ n = and-mask n 32 ∙ mod-eq-of-lt l in
       let inside : n < s .count = rw all at h in
       rw (lt-ltb n (s .count) inside, all)
 
   -- the low bits, where the words are read again after a power of two of them
   pub reads-low : (k : ℕ) → s .mirrored ≡ true → s .count ≡ 2 ^ k → ReadsBy s (s .count - 1)
-  reads-low k m e images w pad n l h = by (ltb n (s .count)) refl
+  reads-low k m e order images w pad n l h = by (ltb n (s .count)) refl
     where
       low : bitAnd n (s .count - 1) ≡ n % s .count
       low = ap (λ (x : ℕ). bitAnd n (x - 1)) e ∙ and-mask n k ∙ ap (λ (x : ℕ). n % x) (sym e)
 
       by : (t : Bool) → ltb n (s .count) ≡ t
-          → cond t (chipWordFrom (s .order) w images (s .start + n * w)) (cond (s .mirrored) (chipWordFrom (s .order) w images (s .start + n % s .count * w)) pad)
-          ≡ chipWordFrom (s .order) w images (s .start + bitAnd n (s .count - 1) * w)
+          → cond t (chipWordFrom order w images (s .start + n * w)) (cond (s .mirrored) (chipWordFrom order w images (s .start + n % s .count * w)) pad)
+          ≡ chipWordFrom order w images (s .start + bitAnd n (s .count - 1) * w)
       by true q = let same : n % s .count ≡ n = mod-eq-of-lt (ltb-true n (s .count) q) in rw (low, same)
       by false q = rw (low, m)
 
@@ -55,6 +55,6 @@ module _ (s : Source) where
       by false q o = omega (arith, and-le-r n mask, ltb-true mask (s .count) o)
 
   pub none-stand : (lowest : ℕ) → not (s .mirrored) && leb (s .count) lowest ≡ true → Pads s lowest
-  none-stand lowest e images w pad n l =
+  none-stand lowest e order images w pad n l =
       let (plain, past) = both (not (s .mirrored)) (leb (s .count) lowest) e in
       rw (le-ltb n (s .count) (omega (arith, leb-true (s .count) lowest past)), not-true (s .mirrored) plain)

@@ -14,6 +14,7 @@ use Rattle.bits.proofs.Gathered.{gather-lt, row, gather-split}
 use Rattle.bits.proofs.Scattered.{scatter-split, scatter-zero}
 use Rattle.bits.proofs.Back.{gather-or}
 use Rattle.words.specs.Words.{bytesOf}
+use Rattle.words.specs.declared.ByteOrder.{ByteOrder}
 use Rattle.words.proofs.Words.{word-short, words-room}
 use Rattle.word_rows.specs.design.Wrote.{Wrote, saidBy}
 use Rattle.word_rows.proofs.Rows.{wrote-none, wrote-turn}
@@ -91,41 +92,41 @@ module _ (w : Wiring) (moves picking lows highs : List ℕ) (t : TablesOf w move
       rw (low, high-entry (v / 256) (omega arith), mul-one) (scatter-row (w .«num_data») (λ k. getD (w .«data_lines») k 0) (8 * w .«word_bytes») v)
 
   -- the entry at an index, by what the index says and by the word that is there
-  pub entry-is : (sources : List Source) (pad : ℕ) (images : List ℕ) (i address picks bytes v x : ℕ) → WiringIn w → bytes ≡ w .«word_bytes»
-      → address ≡ partOf w i .address → picks ≡ partOf w i .picks → v ≡ rawFrom images bytes (getD sources picks noSource) pad address
-      → v < 2 ^ (8 * bytes) → x ≡ saidBy lows highs v → x ≡ entryBy w sources pad images i
+  pub entry-is : (order : ByteOrder) (sources : List Source) (pad : ℕ) (images : List ℕ) (i address picks bytes v x : ℕ) → WiringIn w → bytes ≡ w .«word_bytes»
+      → address ≡ partOf w i .address → picks ≡ partOf w i .picks → v ≡ rawFrom order images bytes (getD sources picks noSource) pad address
+      → v < 2 ^ (8 * bytes) → x ≡ saidBy lows highs v → x ≡ entryBy order w sources pad images i
   unfolding entryBy
-  entry-is sources pad images i address picks bytes v x h b a k r l e =
+  entry-is order sources pad images i address picks bytes v x h b a k r l e =
       let short : v < 2 ^ 16 = word-short bytes v (rw b (h .bytes)) l in
       e ∙ scrambled-is v short ∙ ap (scrambledBy w) (rw (b, a, k) at r)
 
 -- a row that goes from entry to entry: what its next index says, and the entries that are written
-pub record Reached (w : Wiring) (bytes : ℕ) (sources : List Source) (pad : ℕ) (r : Row) (images old new : List ℕ) (address picks q : ℕ) : Type 0 where
+pub record Reached (order : ByteOrder) (w : Wiring) (bytes : ℕ) (sources : List Source) (pad : ℕ) (r : Row) (images old new : List ℕ) (address picks q : ℕ) : Type 0 where
   pub address-is : address ≡ partOf w (r .first + q) .address
   pub picks-are : picks ≡ partOf w (r .first + q) .picks
-  pub wrote : Wrote bytes (λ j. entryBy w sources pad images (r .first + j)) (r .first) q old new
+  pub wrote : Wrote bytes (λ j. entryBy order w sources pad images (r .first + j)) (r .first) q old new
 
 module _ (w : Wiring) (bytes : ℕ) (sources : List Source) (pad : ℕ) (r : Row) (moves picking lows highs images old : List ℕ)
     (i : RowIn w bytes sources pad r moves picking lows highs images old) where
-  pub reached-none : Reached w bytes sources pad r images old old (r .part .address) (r .part .picks) 0
-  reached-none = record {
+  pub reached-none : (order : ByteOrder) → Reached order w bytes sources pad r images old old (r .part .address) (r .part .picks) 0
+  reached-none order = record {
     address-is = rw add-zero (ap (λ (p : Part). p .address) (i .says));
     picks-are = rw add-zero (ap (λ (p : Part). p .picks) (i .says));
-    wrote = wrote-none bytes (λ j. entryBy w sources pad images (r .first + j)) (r .first) old;
+    wrote = wrote-none bytes (λ j. entryBy order w sources pad images (r .first + j)) (r .first) old;
   }
 
-  pub reached-turn : (now new : List ℕ) (address picks q v x address′ picks′ : ℕ) → Reached w bytes sources pad r images old now address picks q
-      → v ≡ rawFrom images bytes (getD sources picks noSource) pad address → v < 2 ^ (8 * bytes) → x ≡ saidBy lows highs v
+  pub reached-turn : (order : ByteOrder) (now new : List ℕ) (address picks q v x address′ picks′ : ℕ) → Reached order w bytes sources pad r images old now address picks q
+      → v ≡ rawFrom order images bytes (getD sources picks noSource) pad address → v < 2 ^ (8 * bytes) → x ≡ saidBy lows highs v
       → new ≡ take ((r .first + q) * bytes) now ++ bytesOf bytes x ++ drop ((r .first + q) * bytes + bytes) now
       → Next moves address (r .first + q) 1 address′ → Next picking picks (r .first + q) 1 picks′
-      → Reached w bytes sources pad r images old new address′ picks′ (q + 1)
-  reached-turn now new address picks q v x address′ picks′ h raw short said put next next-picks =
-      let entry = entry-is w moves picking lows highs (i .tables) sources pad images (r .first + q) address picks bytes v x (i .wiring-in) (i .bytes-are) (h .address-is) (h .picks-are) raw short said in
+      → Reached order w bytes sources pad r images old new address′ picks′ (q + 1)
+  reached-turn order now new address picks q v x address′ picks′ h raw short said put next next-picks =
+      let entry = entry-is w moves picking lows highs (i .tables) order sources pad images (r .first + q) address picks bytes v x (i .wiring-in) (i .bytes-are) (h .address-is) (h .picks-are) raw short said in
       let on : r .first + q + 1 ≡ r .first + (q + 1) = omega arith in
       record {
         address-is = rw on at (next (w .«num_lines») (linePositions w) (i .tables .moves-are) (h .address-is));
         picks-are = rw on at (next-picks (w .«num_picks») (pickPositions w) (i .tables .picking-are) (h .picks-are));
-        wrote = wrote-turn bytes (λ j. entryBy w sources pad images (r .first + j)) (r .first) q x old now new (h .wrote) entry put;
+        wrote = wrote-turn bytes (λ j. entryBy order w sources pad images (r .first + j)) (r .first) q x old now new (h .wrote) entry put;
       }
 
   -- a chip that is picked has its words in the lent bytes
@@ -150,5 +151,5 @@ module _ (w : Wiring) (bytes : ℕ) (sources : List Source) (pad : ℕ) (r : Row
       → RowIn w bytes sources pad r moves picking lows highs images old
   row-of-width moves picking lows highs i = rw e i
 
-  pub written-of-width : (new : List ℕ) → RowWritten w bytes sources pad r images old new → RowWritten w (w .«word_bytes») sources pad r images old new
-  written-of-width new h = rw e at h
+  pub written-of-width : (order : ByteOrder) (new : List ℕ) → RowWritten order w bytes sources pad r images old new → RowWritten order w (w .«word_bytes») sources pad r images old new
+  written-of-width order new h = rw e at h

@@ -11,6 +11,7 @@ use table_rows::ChipRow;
 use table_rows::scrambled;
 use table_rows::write_pads;
 use table_rows::write_words;
+use words::ByteOrder;
 use words::put_word;
 ghost use Rattle.table_fill.specs.design.Rows.{RowIn, RowWritten};
 
@@ -23,6 +24,7 @@ pub struct Row {
 
 // Each entry asks the source that its index picks. The address and the bits that pick are kept from entry to entry.
 fn each_entry(
+    order: ByteOrder,
     w: Wiring,
     bytes: usize,
     from: Chips,
@@ -35,7 +37,7 @@ fn each_entry(
     table: &mut [u8],
 )
     requires { ⌜ RowIn w bytes (from .sources) (from .pad) row (now moves) (now picking) (now lows) (now highs) (now images) (now table) ⌝ }
-    ensures { λ _. ⌜ RowWritten w bytes (from .sources) (from .pad) row (now (images .entry)) (now (table .entry)) (now (table .exit)) ⌝ }
+    ensures { λ _. ⌜ RowWritten order w bytes (from .sources) (from .pad) row (now (images .entry)) (now (table .entry)) (now (table .exit)) ⌝ }
 {
     let sources = from.sources;
     let mut address = row.part.address;
@@ -43,7 +45,7 @@ fn each_entry(
     let mut q: u32 = 0;
     while q < row.count {
         let source = sources[picks as usize];
-        let word = raw(images, bytes, source, from.pad, address);
+        let word = raw(order, images, bytes, source, from.pad, address);
         let entry = scrambled(bytes, lows, highs, word);
         put_word(table, (row.first + q) as usize * bytes, bytes, entry);
         address = next_address(moves, address, row.first + q);
@@ -54,6 +56,7 @@ fn each_entry(
 
 // Any row, with a loop of its own for each width.
 fn any_row(
+    order: ByteOrder,
     w: Wiring,
     from: Chips,
     row: Row,
@@ -65,20 +68,57 @@ fn any_row(
     table: &mut [u8],
 )
     requires { ⌜ RowIn w (w .«word_bytes») (from .sources) (from .pad) row (now moves) (now picking) (now lows) (now highs) (now images) (now table) ⌝ }
-    ensures { λ _. ⌜ RowWritten w (w .«word_bytes») (from .sources) (from .pad) row (now (images .entry)) (now (table .entry)) (now (table .exit)) ⌝ }
+    ensures { λ _. ⌜ RowWritten order w (w .«word_bytes») (from .sources) (from .pad) row (now (images .entry)) (now (table .entry)) (now (table .exit)) ⌝ }
 {
     if w.word_bytes == 1 {
-        each_entry(w, 1, from, row, moves, picking, lows, highs, images, table);
+        each_entry(
+            order,
+            w,
+            1,
+            from,
+            row,
+            moves,
+            picking,
+            lows,
+            highs,
+            images,
+            table,
+        );
     } else if w.word_bytes == 2 {
-        each_entry(w, 2, from, row, moves, picking, lows, highs, images, table);
+        each_entry(
+            order,
+            w,
+            2,
+            from,
+            row,
+            moves,
+            picking,
+            lows,
+            highs,
+            images,
+            table,
+        );
     } else {
-        each_entry(w, 0, from, row, moves, picking, lows, highs, images, table);
+        each_entry(
+            order,
+            w,
+            0,
+            from,
+            row,
+            moves,
+            picking,
+            lows,
+            highs,
+            images,
+            table,
+        );
     }
 }
 
 // Writes a row: of one chip's words, of pads, or any other. Where no line that picks is at one of the low eight positions, the row picks one
 // chip, and its addresses go from the first index's up to that with all lines of these positions.
 pub fn write_row(
+    order: ByteOrder,
     w: Wiring,
     from: Chips,
     row: Row,
@@ -90,7 +130,7 @@ pub fn write_row(
     table: &mut [u8],
 )
     requires { ⌜ RowIn w (w .«word_bytes») (from .sources) (from .pad) row (now moves) (now picking) (now lows) (now highs) (now images) (now table) ⌝ }
-    ensures { λ _. ⌜ RowWritten w (w .«word_bytes») (from .sources) (from .pad) row (now (images .entry)) (now (table .entry)) (now (table .exit)) ⌝ }
+    ensures { λ _. ⌜ RowWritten order w (w .«word_bytes») (from .sources) (from .pad) row (now (images .entry)) (now (table .entry)) (now (table .exit)) ⌝ }
 {
     let bytes = w.word_bytes as usize;
     let n = w.num_lines as usize;
@@ -107,7 +147,6 @@ pub fn write_row(
             start: source.start,
             mask: mask,
         };
-        let order = source.order;
         write_words(
             order,
             bytes,
@@ -124,6 +163,17 @@ pub fn write_row(
         let entry = scrambled(bytes, lows, highs, from.pad);
         write_pads(bytes, entry, row.first, row.count, table);
     } else {
-        any_row(w, from, row, moves, picking, lows, highs, images, table);
+        any_row(
+            order,
+            w,
+            from,
+            row,
+            moves,
+            picking,
+            lows,
+            highs,
+            images,
+            table,
+        );
     }
 }

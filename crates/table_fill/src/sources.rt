@@ -17,8 +17,6 @@ pub struct Source {
     pub count: u32,
     // Whether addresses past them read them again.
     pub mirrored: bool,
-    // Which byte of a word stands first.
-    pub order: ByteOrder,
 }
 
 // What an address reads: a source for each value of the bits that pick, and the word where none stands.
@@ -28,26 +26,25 @@ pub struct Chips {
 }
 
 // Word n of a source.
-fn word_of(images: &[u8], w: usize, s: Source, n: u32) -> u32
+fn word_of(order: ByteOrder, images: &[u8], w: usize, s: Source, n: u32) -> u32
     requires { ⌜ (w ≤ 2) × (s .start + n * w + w ≤ length (now images)) ⌝ }
-    ensures { λ r. ⌜ r ≡ chipWordFrom (s .order) w (now (images .entry)) (s .start + n * w) ⌝ }
+    ensures { λ r. ⌜ r ≡ chipWordFrom order w (now (images .entry)) (s .start + n * w) ⌝ }
     ensures { λ r. ⌜ r < 2 ^ (8 * w) ⌝ }
 {
-    let order = s.order;
     chip_word_at(order, images, s.start as usize + n as usize * w, w)
 }
 
 // The word at an address of a source, or the pad word.
-pub fn raw(images: &[u8], w: usize, s: Source, pad: u32, n: u32) -> u32
+pub fn raw(order: ByteOrder, images: &[u8], w: usize, s: Source, pad: u32, n: u32) -> u32
     requires { ⌜ RawIn (now images) w s pad ⌝ }
-    ensures { λ r. ⌜ r ≡ rawFrom (now (images .entry)) w s pad n ⌝ }
+    ensures { λ r. ⌜ r ≡ rawFrom order (now (images .entry)) w s pad n ⌝ }
     ensures { λ r. ⌜ r < 2 ^ (8 * w) ⌝ }
 {
     if n < s.count {
-        return word_of(images, w, s, n);
+        return word_of(order, images, w, s, n);
     }
     if s.mirrored {
-        return word_of(images, w, s, n % s.count);
+        return word_of(order, images, w, s, n % s.count);
     }
     pad
 }

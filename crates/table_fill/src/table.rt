@@ -9,11 +9,13 @@ use crate::wiring::Wiring;
 use lists::number::fewer;
 use running_address::moves;
 use running_address::next_row;
+use words::ByteOrder;
 ghost use mathlib.Core.Path.{_≡_};
 ghost use Rattle.table_fill.specs.design.Entries.{Filling, tableBy};
 
 // Writes the first entries to the front of a buffer, row by row. What the first index of a row says is kept from row to row.
 pub fn fill_by(
+    order: ByteOrder,
     w: Wiring,
     sources: [Source; 8],
     pad: u32,
@@ -22,7 +24,7 @@ pub fn fill_by(
     table: &mut [u8],
 )
     requires { ⌜ Filling w sources pad (now images) entries (now table) ⌝ }
-    ensures { λ _. ⌜ now (table .exit) ≡ tableBy w sources pad (now (images .entry)) entries (now (table .entry)) ⌝ }
+    ensures { λ _. ⌜ now (table .exit) ≡ tableBy order w sources pad (now (images .entry)) entries (now (table .entry)) ⌝ }
 {
     let lines = w.address;
     let picks = w.picks;
@@ -46,7 +48,18 @@ pub fn fill_by(
                 picks: picked,
             },
         };
-        write_row(w, from, row, &moved, &picking, &lows, &highs, images, table);
+        write_row(
+            order,
+            w,
+            from,
+            row,
+            &moved,
+            &picking,
+            &lows,
+            &highs,
+            images,
+            table,
+        );
         address = next_row(&moved, address, i);
         picked = next_row(&picking, picked, i);
         i += 256;

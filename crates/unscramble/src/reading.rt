@@ -1,5 +1,5 @@
 // What the entries are read by: positions of all lines, the words of each ROM among all, and the forced bits, found once a slot.
-use dump_lines::in_order;
+use dump_lines::high_first;
 use entry_words::Extent;
 use entry_words::Map;
 use entry_words::Reading;
@@ -76,13 +76,18 @@ fn address_map(s: StoredSlot, k: u8) -> Map
     place_map(s.num_roms, k, gpios, addr_base(s) as u8)
 }
 
+// The data lines of a place, in the order of the dump's bytes.
 fn data_map(order: ByteOrder, s: StoredSlot, k: u8) -> Map
     requires { ⌜ storedDataBase s ≤ 255 ⌝ }
     ensures { λ r. ⌜ r ≡ dataMap order s k ⌝ }
 {
     let rom = rom_at(s, k);
     let gpios = rom.data_lines;
-    in_order(order, place_map(s.num_roms, k, gpios, data_base(s) as u8))
+    let map = place_map(s.num_roms, k, gpios, data_base(s) as u8);
+    match order {
+        ByteOrder::LowFirst => map,
+        ByteOrder::HighFirst => high_first(map),
+    }
 }
 
 fn pick_position(s: StoredSlot, set_type: ChipSetType, k: u8) -> u8

@@ -2,12 +2,11 @@
 use mathlib.Core.Path.{_≡_, refl, sym, _∙_, ap}
 use mathlib.Core.Bool.{Bool, true, false}
 use mathlib.Core.List.{List, [], append-nil}
-use Prim.Native.Nat.{ℕ, zero, suc, _*_, _/_, _%_, _^_, _≤_, _<_}
-use native.Mathlib.Nat.{mod-lt}
+use Prim.Native.Nat.{ℕ, zero, suc, _*_, _/_, _^_, _≤_, _<_}
 use native.Mathlib.Omega.{arith}
 use lib.Dec.{eqb}
-use lib.ListN.{length, getD}
-use borrow.Author.Tests.{eqb-true, eq-eqb}
+use lib.ListN.{getD}
+use borrow.Author.Tests.{eqb-true, eqb-false, eq-eqb, ne-eqb}
 use Rattle.lists.proofs.Tab.{joined-cong}
 use Rattle.words.specs.Words.{wordFrom, bytesOf, wordsBytes, inOrder, chipBytesOf, chipWordsBytes}
 use Rattle.words.specs.declared.ByteOrder.{ByteOrder}
@@ -49,16 +48,13 @@ turned-twice order w v h =
     ap (λ (b : List ℕ). wordFrom w (inOrder order b) 0) (turned-bytes order w v)
     ∙ ap (λ (b : List ℕ). wordFrom w b 0) (in-order-twice order (bytesOf w v)) ∙ word-back w v h
 
-same-if : (a b : Bool) → (a ≡ true → b ≡ true) → (b ≡ true → a ≡ true) → a ≡ b
-same-if true b h g = sym (h refl)
-same-if false true h g = g refl
-same-if false false h g = refl
-
 pub turned-eqb : (order : ByteOrder) (w x y : ℕ) → x < 2 ^ (8 * w) → y < 2 ^ (8 * w) → eqb (turnedWord order w x) (turnedWord order w y) ≡ eqb x y
-turned-eqb order w x y h g =
-    same-if (eqb (turnedWord order w x) (turnedWord order w y)) (eqb x y)
-    (λ e. eq-eqb x y (sym (turned-twice order w x h) ∙ ap (turnedWord order w) (eqb-true _ _ e) ∙ turned-twice order w y g))
-    (λ e. eq-eqb _ _ (ap (turnedWord order w) (eqb-true x y e)))
+turned-eqb order w x y h g = by (eqb x y) refl
+  where
+    by : (t : Bool) → eqb x y ≡ t → eqb (turnedWord order w x) (turnedWord order w y) ≡ t
+    by true e = eq-eqb _ _ (ap (turnedWord order w) (eqb-true x y e))
+    by false e =
+        ne-eqb _ _ (λ q. eqb-false x y e (sym (turned-twice order w x h) ∙ ap (turnedWord order w) q ∙ turned-twice order w y g))
 
 -- no bits have no order
 pub turned-none : (order : ByteOrder) (w : ℕ) → w ≤ 2 → turnedWord order w 0 ≡ 0

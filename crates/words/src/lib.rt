@@ -40,13 +40,13 @@ fn high_word_at(b: &[u8], at: usize, w: usize) -> u32
     ensures { λ r. ⌜ r ≡ chipWordFrom HighFirst w (now (b .entry)) at ⌝ }
     ensures { λ r. ⌜ r < 2 ^ (8 * w) ⌝ }
 {
-    let mut whole: u32 = 0;
+    let mut value: u32 = 0;
     let mut k: usize = 0;
     while k < w {
-        whole = wide(b[at + k]) + 256 * whole;
+        value = wide(b[at + k]) + 256 * value;
         k += 1;
     }
-    whole
+    value
 }
 
 // The word of a chip at a place of its bytes, which are in an order.

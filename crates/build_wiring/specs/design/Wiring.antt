@@ -12,7 +12,6 @@ use Rattle.build_args.specs.declared.images.ImageSpan.{ImageSpan}
 use Rattle.picks.specs.declared.Picked.{Picked}
 use Rattle.picks.specs.declared.Picked.the-variants.{NoChip, Chip}
 use Rattle.build_wiring.specs.Counts.{wordCount, powerOfTwo}
-use Rattle.words.specs.declared.ByteOrder.{ByteOrder}
 use Rattle.table_fill.specs.design.Entries.{noSource}
 use Rattle.table_fill.specs.declared.wiring.Wiring.{Wiring}
 use Rattle.table_fill.specs.declared.sources.Source.{Source}
@@ -30,14 +29,13 @@ wiringOf d a c = record {
 }
 
 -- where the words stand of the chip that is picked
-abbrev pub sourceOf : ByteOrder → Description → List ImageSpan → Picked → Source
-sourceOf order d spans NoChip = noSource
-sourceOf order d spans (Chip k) = record {
+abbrev pub sourceOf : Description → List ImageSpan → Picked → Source
+sourceOf d spans NoChip = noSource
+sourceOf d spans (Chip k) = record {
   start = chipSpan spans k .start;
   count = wordCount d k;
   mirrored = powerOfTwo (wordCount d k);
-  order = order;
 }
 
-abbrev pub sourcesOf : ByteOrder → Description → List ImageSpan → List Source
-sourcesOf order d spans = tab 8 (λ bits. sourceOf order d spans (picked d bits))
+abbrev pub sourcesOf : Description → List ImageSpan → List Source
+sourcesOf d spans = tab 8 (λ bits. sourceOf d spans (picked d bits))

@@ -8,7 +8,7 @@ use lib.Dec.{ltb}
 use lib.ListN.{length, drop, getD}
 use Rattle.bits.specs.Bits.{gather, indexAddress, scatter}
 use Rattle.words.specs.Words.{chipWordFrom, entriesBytes}
-use Rattle.words.specs.declared.ByteOrder.the-variants.{LowFirst}
+use Rattle.words.specs.declared.ByteOrder.{ByteOrder}
 use Rattle.table_fill.specs.declared.wiring.Wiring.{Wiring}
 use Rattle.table_fill.specs.declared.wiring.Part.{Part}
 use Rattle.table_fill.specs.declared.sources.Source.{Source}
@@ -35,7 +35,7 @@ scrambledBy w v = scatter (w .«num_data») (λ k. getD (w .«data_lines») k 0)
 -- where a chip's words stand in the lent bytes
 -- where there is no chip there is no word, so that every address gives the pad
 abbrev pub noSource : Source
-noSource = record { start = 0; count = 0; mirrored = false; order = LowFirst }
+noSource = record { start = 0; count = 0; mirrored = false }
 
 -- its words are in the lent bytes, and there are some to read again where it is mirrored
 pub record SourceIn (images : List ℕ) (w : ℕ) (s : Source) : Type 0 where
@@ -49,10 +49,10 @@ SourcesIn images w sources = (bits : ℕ) → bits < 2 ^ w .«num_picks» → So
 -- the word at an address of a source
 -- an address that is not below the count starts over, modulo the count, where the source is mirrored, and gives
 -- the pad where it is not
-abbrev pub rawFrom : List ℕ → ℕ → Source → ℕ → ℕ → ℕ
-rawFrom images w s pad n =
-    cond (ltb n (s .count)) (chipWordFrom (s .order) w images (s .start + n * w))
-    (cond (s .mirrored) (chipWordFrom (s .order) w images (s .start + n % s .count * w)) pad)
+abbrev pub rawFrom : ByteOrder → List ℕ → ℕ → Source → ℕ → ℕ → ℕ
+rawFrom order images w s pad n =
+    cond (ltb n (s .count)) (chipWordFrom order w images (s .start + n * w))
+    (cond (s .mirrored) (chipWordFrom order w images (s .start + n % s .count * w)) pad)
 
 -- what one word takes: its source, and a pad that is a word
 pub record RawIn (images : List ℕ) (w : ℕ) (s : Source) (pad : ℕ) : Type 0 where
@@ -61,15 +61,15 @@ pub record RawIn (images : List ℕ) (w : ℕ) (s : Source) (pad : ℕ) : Type 0
   pub pad-short : pad < 2 ^ (8 * w)
 
 -- an entry by positions and sources
-unfoldable pub entryBy : Wiring → List Source → ℕ → List ℕ → ℕ → ℕ
-entryBy w sources pad images i =
-    scrambledBy w (rawFrom images (w .«word_bytes») (getD sources (partOf w i .picks) noSource) pad (partOf w i .address))
+unfoldable pub entryBy : ByteOrder → Wiring → List Source → ℕ → List ℕ → ℕ → ℕ
+entryBy order w sources pad images i =
+    scrambledBy w (rawFrom order images (w .«word_bytes») (getD sources (partOf w i .picks) noSource) pad (partOf w i .address))
 
 -- the first entries at the front of a buffer, low byte first
 -- behind the entries the buffer keeps what it held
-abbrev pub tableBy : Wiring → List Source → ℕ → List ℕ → ℕ → List ℕ → List ℕ
-tableBy w sources pad images entries old =
-    entriesBytes (w .«word_bytes») (entryBy w sources pad images) entries ++ drop (entries * w .«word_bytes») old
+abbrev pub tableBy : ByteOrder → Wiring → List Source → ℕ → List ℕ → ℕ → List ℕ → List ℕ
+tableBy order w sources pad images entries old =
+    entriesBytes (w .«word_bytes») (entryBy order w sources pad images) entries ++ drop (entries * w .«word_bytes») old
 
 -- what a table takes: positions, sources and a pad that is a word, and room for its entries
 pub record Filling (w : Wiring) (sources : List Source) (pad : ℕ) (images : List ℕ) (entries : ℕ) (table : List ℕ) : Type 0 where

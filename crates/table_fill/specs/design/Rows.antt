@@ -6,6 +6,7 @@ use lib.Bits.{bitAnd}
 use lib.ListN.{length, getD}
 use Rattle.lists.specs.Tab.{tab}
 use Rattle.words.specs.Words.{chipWordFrom}
+use Rattle.words.specs.declared.ByteOrder.{ByteOrder}
 use Rattle.word_rows.specs.design.Wrote.{Wrote}
 use Rattle.running_address.specs.design.Moves.{Moves}
 use Rattle.table_fill.specs.design.Entries.{WiringIn, SourcesIn, partOf, scrambledBy, rawFrom, entryBy}
@@ -16,12 +17,12 @@ use Rattle.table_fill.specs.declared.row.Row.{Row}
 -- where the bits of an address under a mask name a word of a source, that word is read at the address
 abbrev pub ReadsBy : Source → ℕ → Type 0
 ReadsBy s mask =
-    (images : List ℕ) (w pad n : ℕ) → n < 2 ^ 32 → bitAnd n mask < s .count
-    → rawFrom images w s pad n ≡ chipWordFrom (s .order) w images (s .start + bitAnd n mask * w)
+    (order : ByteOrder) (images : List ℕ) (w pad n : ℕ) → n < 2 ^ 32 → bitAnd n mask < s .count
+    → rawFrom order images w s pad n ≡ chipWordFrom order w images (s .start + bitAnd n mask * w)
 
 -- from an address on a source has no words
 abbrev pub Pads : Source → ℕ → Type 0
-Pads s lowest = (images : List ℕ) (w pad n : ℕ) → lowest ≤ n → rawFrom images w s pad n ≡ pad
+Pads s lowest = (order : ByteOrder) (images : List ℕ) (w pad n : ℕ) → lowest ≤ n → rawFrom order images w s pad n ≡ pad
 
 -- the positions of the address lines, and of those that pick
 abbrev pub linePositions : Wiring → ℕ → ℕ
@@ -51,6 +52,6 @@ pub record RowIn (w : Wiring) (bytes : ℕ) (sources : List Source) (pad : ℕ) 
   pub room : (row .first + row .count) * bytes ≤ length table
 
 -- the entries of a row are written behind those before it
-abbrev pub RowWritten : Wiring → ℕ → List Source → ℕ → Row → List ℕ → List ℕ → List ℕ → Type 0
-RowWritten w bytes sources pad row images old new =
-    Wrote bytes (λ q. entryBy w sources pad images (row .first + q)) (row .first) (row .count) old new
+abbrev pub RowWritten : ByteOrder → Wiring → ℕ → List Source → ℕ → Row → List ℕ → List ℕ → List ℕ → Type 0
+RowWritten order w bytes sources pad row images old new =
+    Wrote bytes (λ q. entryBy order w sources pad images (row .first + q)) (row .first) (row .count) old new

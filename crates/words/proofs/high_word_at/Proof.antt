@@ -1,7 +1,7 @@
 -- `high_word_at` meets its contract. The loop's invariant: the first k bytes are taken. Assumes nothing.
 use mathlib.Core.Path.{_≡_, sym}
 use mathlib.Core.List.{List}
-use Prim.Native.Nat.{ℕ, suc, _+_, _*_, _-_, _^_, _≤_, _<_}
+use Prim.Native.Nat.{ℕ, _+_, _*_, _-_, _^_, _≤_, _<_}
 use native.Mathlib.Numerals.{add-one}
 use native.Mathlib.Omega.{arith}
 use lib.ListN.{length, getD}
@@ -34,23 +34,23 @@ module _ (b : List ℕ) (at w : ℕ) where
   done k v h t = let e : k ≡ w = omega arith in (rw e at (t .is), rw e at (t .fits))
 
 abbrev Inv-loop : tie.InvT-loop
-Inv-loop b at w whole₀ k₀ whole k = Taken b at w k whole
+Inv-loop b at w value₀ k₀ value k = Taken b at w k value
 
 abbrev μ-loop : tie.MeasureT-loop
-μ-loop b at w whole₀ k₀ whole k = w - k
+μ-loop b at w value₀ k₀ value k = w - k
 
 loop-holds : tie.Need-loop-holds Inv-loop μ-loop
 loop-holds c = begin _ _ _
 
 -- what is taken is of two bytes at most, so that one more fits a `u32`
-room : (c : tie.After-wide Inv-loop μ-loop) → c .before .before .before .loop .whole < 2 ^ 16
-room c = let v = c .before .before .before .loop in word-short (v .k) (v .whole) (omega arith) (v .inv .fits)
+room : (c : tie.After-wide Inv-loop μ-loop) → c .before .before .before .loop .value < 2 ^ 16
+room c = let v = c .before .before .before .loop in word-short (v .k) (v .value) (omega arith) (v .inv .fits)
 
-mul-whole : tie.Need-mul-whole Inv-loop μ-loop
-mul-whole c = omega (arith, room c)
+mul-value : tie.Need-mul-value Inv-loop μ-loop
+mul-value c = omega (arith, room c)
 
-add-whole : tie.Need-add-whole Inv-loop μ-loop
-add-whole c = omega (arith, room c)
+add-value : tie.Need-add-value Inv-loop μ-loop
+add-value c = omega (arith, room c)
 
 loop-again : tie.Need-loop-again Inv-loop μ-loop
 loop-again c =
@@ -69,8 +69,8 @@ high-word-at-spec =
     (λ c. search needs)
     (λ c. search needs)
     (λ c κs. search needs)
-    mul-whole
-    add-whole
+    mul-value
+    add-value
     (λ c. search needs)
     (λ c. search needs)
     loop-again

@@ -10,10 +10,10 @@ use Rattle.build_wiring.proofs.sources.sources.Statement.{statement}
 use Rattle.build_wiring.proofs.sources.sources.Tie as tie
 
 abbrev Inv-loop : tie.InvT-loop
-Inv-loop order d spans set-type out₀ bits₀ out bits = Filled 8 (λ b. sourceOf order d spans (pickedBy set-type (d .«num_chips») b)) out bits
+Inv-loop d spans set-type out₀ bits₀ out bits = Filled 8 (λ b. sourceOf d spans (pickedBy set-type (d .«num_chips») b)) out bits
 
 abbrev μ-loop : tie.MeasureT-loop
-μ-loop order d spans set-type out₀ bits₀ out bits = 8 - bits
+μ-loop d spans set-type out₀ bits₀ out bits = 8 - bits
 
 loop-holds : tie.Need-loop-holds Inv-loop μ-loop
 loop-holds c = filled-none refl

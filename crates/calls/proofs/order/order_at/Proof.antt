@@ -1,5 +1,4 @@
 -- `order_at` meets its contract. Assumes nothing.
-use borrow.Author.Needs.{needs}
 use borrow.Author.Tests.{eq-eqb, ne-eqb}
 use Rattle.calls.proofs.order.order_at.Statement.{statement}
 use Rattle.calls.proofs.order.order_at.Tie as tie

@@ -51,21 +51,21 @@ entries : (pins : ℕ) → pins < 32 → (1 * 2 ^ pins) % 2 ^ 32 ≡ 2 ^ pins
 entries pins h = shifted-one pins 32 (omega arith)
 
 -- what is handed on, by what it is
-module _ (order : ByteOrder) (d : Description) (a : AddrLayout) (l : CsDataLayout) (images : List ℕ) (spans : List ImageSpan) (b : Buildable d a l images spans)
-    (w : Wiring) (ss : List Source) (pad n : ℕ) (ew : w ≡ wiringOf d a l) (es : ss ≡ sourcesOf order d spans) (ep : pad ≡ padOf padByte d) (en : n ≡ entriesOf a) where
+module _ (d : Description) (a : AddrLayout) (l : CsDataLayout) (images : List ℕ) (spans : List ImageSpan) (b : Buildable d a l images spans)
+    (w : Wiring) (ss : List Source) (pad n : ℕ) (ew : w ≡ wiringOf d a l) (es : ss ≡ sourcesOf d spans) (ep : pad ≡ padOf padByte d) (en : n ≡ entriesOf a) where
   ready : (table : List ℕ) → entriesOf a ≤ 2 ^ 20 → tableSize d a ≤ length table → Filling w ss pad images n table
   unfolding wiringOf
   ready table f r =
       rw (ew, es, ep, en)
-      (record { wiring-in = wiring-in order d a l images spans b; sources-in = sources-in order d a l images spans b; pad-short = pad-lt (d .«word_bytes») padByte (omega arith); few = f; room = r })
+      (record { wiring-in = wiring-in d a l images spans b; sources-in = sources-in d a l images spans b; pad-short = pad-lt (d .«word_bytes») padByte (omega arith); few = f; room = r })
 
-  done : (old new : List ℕ) → new ≡ tableBy w ss pad images n old → new ≡ tableOf padByte order (argsOf d a l spans) images ++ drop (tableSize d a) old
-  done old new e = rw (ew, es, ep, en, table-is order d a l images spans b padByte old) at e
+  done : (order : ByteOrder) (old new : List ℕ) → new ≡ tableBy order w ss pad images n old → new ≡ tableOf padByte order (argsOf d a l spans) images ++ drop (tableSize d a) old
+  done order old new e = rw (ew, es, ep, en, table-is d a l images spans b order padByte old) at e
 
 fill-by-requires : tie.Need-fill-by-requires
 fill-by-requires c κs =
     let s = c .before .before .before .before .before .before .before .before .before .before .before .before in
-    ready (s .args .order) (s .args .b .description) (s .args .b .addr) (s .args .b .«cs_data») (s .args .images .now) (s .args .b .spans) (can s) _ _ _ _ (c .before .before .before .wiring .ensures) (c .before .before .sources .ensures) (c .before .before .before .before .pad-word .ensures .0)
+    ready (s .args .b .description) (s .args .b .addr) (s .args .b .«cs_data») (s .args .images .now) (s .args .b .spans) (can s) _ _ _ _ (c .before .before .before .wiring .ensures) (c .before .before .sources .ensures) (c .before .before .before .before .pad-word .ensures .0)
     (entries (s .args .b .addr .«num_addr_pins») (few-pins s)) _
     (entries-few (s .args .b .description) (s .args .b .addr) (s .args .b .«cs_data») (s .args .images .now) (s .args .b .spans) _ (s .pre))
     (table-fits (s .args .b .description) (s .args .b .addr) (s .args .b .«cs_data») (s .args .images .now) (s .args .b .spans) _ (s .pre))
@@ -73,8 +73,8 @@ fill-by-requires c κs =
 returns : tie.Need-returns
 returns c =
     let s = c .before .before .before .before .before .before .before .before .before .before .before .before .before .before .before in
-    done (s .args .order) (s .args .b .description) (s .args .b .addr) (s .args .b .«cs_data») (s .args .images .now) (s .args .b .spans) (can s) _ _ _ _ (c .before .before .before .before .before .before .wiring .ensures) (c .before .before .before .before .before .sources .ensures) (c .before .before .before .before .before .before .before .pad-word .ensures .0)
-    (entries (s .args .b .addr .«num_addr_pins») (few-pins s)) _ _ (c .before .before .fill-by .ensures)
+    done (s .args .b .description) (s .args .b .addr) (s .args .b .«cs_data») (s .args .images .now) (s .args .b .spans) (can s) _ _ _ _ (c .before .before .before .before .before .before .wiring .ensures) (c .before .before .before .before .before .sources .ensures) (c .before .before .before .before .before .before .before .pad-word .ensures .0)
+    (entries (s .args .b .addr .«num_addr_pins») (few-pins s)) (s .args .order) _ _ (c .before .before .fill-by .ensures)
 
 pub fill-spec : {M : Type 1} → statement M
 fill-spec =

@@ -12,24 +12,24 @@ use Rattle.table_fill.proofs.row.each_entry.Statement.{statement}
 use Rattle.table_fill.proofs.row.each_entry.Tie as tie
 
 abbrev Inv-loop : tie.InvT-loop
-Inv-loop bytes from row moves picking lows highs images table₀ sources address₀ picks₀ q₀ table address picks q =
+Inv-loop order bytes from row moves picking lows highs images table₀ sources address₀ picks₀ q₀ table address picks q =
     (q ≤ row .count)
     × (length table ≡ length table₀)
-    × ((w : Wiring) → RowIn w bytes (from .sources) (from .pad) row moves picking lows highs images table₀ → Reached w bytes (from .sources) (from .pad) row images table₀ table address picks q)
+    × ((w : Wiring) → RowIn w bytes (from .sources) (from .pad) row moves picking lows highs images table₀ → Reached order w bytes (from .sources) (from .pad) row images table₀ table address picks q)
 
 abbrev μ-loop : tie.MeasureT-loop
-μ-loop bytes from row moves picking lows highs images table₀ sources address₀ picks₀ q₀ table address picks q =
+μ-loop order bytes from row moves picking lows highs images table₀ sources address₀ picks₀ q₀ table address picks q =
     row .count - q
 
 loop-holds : tie.Need-loop-holds Inv-loop μ-loop
-loop-holds c = (omega arith, refl, λ w h. reached-none w _ _ _ _ _ _ _ _ _ _ h)
+loop-holds c = (omega arith, refl, λ w h. reached-none w _ _ _ _ _ _ _ _ _ _ h _)
 
 -- what is known in a turn: the function's start, what the index says, and its entry's room in the table
 module _ (c : tie.Then1 Inv-loop μ-loop) where
   abbrev start : tie.Start Inv-loop μ-loop
   start = c .before .before .before .before .before .before .before .before .before .before
 
-  reached : Reached (start .args .w) (start .args .bytes) (start .args .from .sources) (start .args .from .pad) (start .args .row) (start .args .images .now) (start .args .table .now) (c .before .before .loop .table) (c .before .before .loop .address) (c .before .before .loop .picks) (c .before .before .loop .q)
+  reached : Reached (start .args .order) (start .args .w) (start .args .bytes) (start .args .from .sources) (start .args .from .pad) (start .args .row) (start .args .images .now) (start .args .table .now) (c .before .before .loop .table) (c .before .before .loop .address) (c .before .before .loop .picks) (c .before .before .loop .q)
   reached = c .before .before .loop .inv .2 (start .args .w) (start .pre)
 
   bytes : start .args .bytes ≤ 2
@@ -103,7 +103,7 @@ loop-again c =
       omega (arith, past-picks c .if1 .taken),
       put .kept .0 ∙ v .inv .1,
       λ w h.
-          reached-turn w _ _ _ _ _ _ _ _ _ _ h _ _ _ _ (v .q) _ _ _ _ (v .inv .2 w h) (raw .ensures .0) (raw .ensures .1) (c .before .before .before .before .before .before .before .before .before .scrambled .ensures) (put .ensures) (c .before .before .next-address .ensures) (c .next-address2 .ensures),
+          reached-turn w _ _ _ _ _ _ _ _ _ _ h _ _ _ _ _ (v .q) _ _ _ _ (v .inv .2 w h) (raw .ensures .0) (raw .ensures .1) (c .before .before .before .before .before .before .before .before .before .scrambled .ensures) (put .ensures) (c .before .before .next-address .ensures) (c .next-address2 .ensures),
     )
 
 returns : tie.Need-returns Inv-loop μ-loop

@@ -48,14 +48,14 @@ scrambled-requires c κs = let s = c .before .before .before .before .before .be
 returns : tie.Need-returns
 returns c =
     let t = c .before .before .before .before .before in
-    chip-wrote _ _ _ _ _ _ _ _ _ _ _ (start t .pre) (one-chip t) _ (stand t) _ (t .before .before .before .before .before .before .mask-of .ensures)
+    chip-wrote _ _ _ _ _ _ _ _ _ _ _ (start t .pre) (one-chip t) _ (stand t) _ _ (t .before .before .before .before .before .before .mask-of .ensures)
     (λ k. omega (arith, t .before .before .before .before .before .before .before .before .before .before .before .before .before .shared-slice-known5 .given k)) (c .before .before .write-words .ensures)
 
 returns-2 : tie.Need-returns-2
 returns-2 c =
     let t = c .before .before .before .before .before in
     let (one, none) = both _ _ (t .if2 .taken) in
-    pads-wrote _ _ _ _ _ _ _ _ _ _ _ (t .before .before .before .before .before .before .before .before .before .before .before .before .before .before .before .before .before .before .before .before .pre) (eqb-true _ _ one) _ _ (t .before .none-stand .ensures none) (c .before .before .before .before .scrambled .ensures) (c .before .before .write-pads .ensures)
+    pads-wrote _ _ _ _ _ _ _ _ _ _ _ (t .before .before .before .before .before .before .before .before .before .before .before .before .before .before .before .before .before .before .before .before .pre) (eqb-true _ _ one) _ _ _ (t .before .none-stand .ensures none) (c .before .before .before .before .scrambled .ensures) (c .before .before .write-pads .ensures)
 
 pub write-row-spec : {M : Type 1} → statement M
 write-row-spec =

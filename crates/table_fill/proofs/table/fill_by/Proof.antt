@@ -12,20 +12,20 @@ use Rattle.table_fill.proofs.table.fill_by.Statement.{statement}
 use Rattle.table_fill.proofs.table.fill_by.Tie as tie
 
 abbrev Inv-loop : tie.InvT-loop
-Inv-loop w pad images entries table₀ moved picking lows highs from address₀ picked₀ i₀ table address picked i =
+Inv-loop order w pad images entries table₀ moved picking lows highs from address₀ picked₀ i₀ table address picked i =
     (i % 256 ≡ 0)
     × (i < entries + 256)
     × (length table ≡ length table₀)
     × (address ≡ partOf w i .address)
     × (picked ≡ partOf w i .picks)
-    × (table ≡ tableBy w (from .sources) (from .pad) images (min i entries) table₀)
+    × (table ≡ tableBy order w (from .sources) (from .pad) images (min i entries) table₀)
 
 abbrev μ-loop : tie.MeasureT-loop
-μ-loop w pad images entries table₀ moved picking lows highs from address₀ picked₀ i₀ table address picked i =
+μ-loop order w pad images entries table₀ moved picking lows highs from address₀ picked₀ i₀ table address picked i =
     entries - i
 
 loop-holds : tie.Need-loop-holds Inv-loop μ-loop
-loop-holds c = (refl, omega arith, refl, sym (gather-zero _ _), sym (gather-zero _ _), rows-none _ _ _ _ _ _)
+loop-holds c = (refl, omega arith, refl, sym (gather-zero _ _), sym (gather-zero _ _), rows-none _ _ _ _ _ _ _)
 
 -- what is known in a turn: the function's start, the tables, and that the index stays small
 module _ (c : tie.In-loop Inv-loop μ-loop) where
@@ -73,14 +73,14 @@ loop-again c =
     let w = start t .args .w in (
       omega (arith, v .inv .0),
       omega (arith, t .loop-test .taken),
-      c .before .before .before .before .before .before .write-row .kept .1 .1 .1 .1 .1 .1 .1 .1 .0 ∙ v .inv .2,
+      c .before .before .before .before .before .before .write-row .kept .1 .1 .1 .1 .1 .1 .1 .1 .1 .0 ∙ v .inv .2,
       c .before .before .next-row .ensures (w .«num_lines») (linePositions w) (tables t .moves-are) (v .inv .3),
       c .next-row2 .ensures (w .«num_picks») (pickPositions w) (tables t .picking-are) (v .inv .4),
-      rows-turn _ _ _ _ _ _ _ _ _ _ (t .loop-test .taken) (c .before .before .before .before .before .before .before .before .before .before .before .before .fewer .ensures) (v .inv .5) (c .before .before .before .before .before .before .write-row .ensures),
+      rows-turn _ _ _ _ _ _ _ _ _ _ _ (t .loop-test .taken) (c .before .before .before .before .before .before .before .before .before .before .before .before .fewer .ensures) (v .inv .5) (c .before .before .before .before .before .before .write-row .ensures),
     )
 
 returns : tie.Need-returns Inv-loop μ-loop
-returns c = rows-done _ _ _ _ _ _ _ _ (c .loop-test .left) (c .before .loop .inv .5)
+returns c = rows-done _ _ _ _ _ _ _ _ _ (c .loop-test .left) (c .before .loop .inv .5)
 
 pub fill-by-spec : {M : Type 1} → statement M
 fill-by-spec =
