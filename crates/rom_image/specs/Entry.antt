@@ -59,6 +59,6 @@ entryAt pad order b images i =
 -- the table, over the pad byte and the byte order
 -- 01 rom_image 1: the table is its 2^pins entries in index order
 -- 01 rom_image 9: an entry's lowest byte is written first
--- 02 Slip 5 2: under either byte order
+-- 02 Slip 5 2: entries stay low byte first under either byte order
 unfoldable pub tableOf : ℕ → ByteOrder → BuildArgs → List ℕ → List ℕ
 tableOf pad order b images = entriesBytes (b .description .«word_bytes») (entryAt pad order b images) (entriesOf (b .addr))

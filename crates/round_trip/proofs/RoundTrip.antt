@@ -5,10 +5,10 @@ use mathlib.Core.List.{List, _++_}
 use Prim.Native.Nat.{ℕ, zero, suc, _+_, _-_, _*_, _/_, _^_, _≤_, _<_}
 use native.Mathlib.Nat.{div-mul-le-self, mul-le-mul-right, le-trans}
 use native.Mathlib.Omega.{arith}
-use lib.Dec.{leb, ltb}
-use lib.ListN.{length, take, drop, replicate, getD, length-take, List·getD-eq-default}
-use lib.Seq.{take-at, getD-take, getD-drop}
-use borrow.Author.Tests.{le-leb, eq-eqb, ltb-true, ltb-false}
+use lib.Dec.{leb}
+use lib.ListN.{length, take, drop, replicate, getD}
+use lib.Seq.{take-at}
+use borrow.Author.Tests.{le-leb, eq-eqb}
 use Rattle.gpio.specs.Candidates.{candidatesIn}
 use Rattle.lists.specs.Each.{each}
 use Rattle.lists.specs.Tab.{joined}
@@ -19,6 +19,7 @@ use Rattle.gpio.proofs.Fits.{fits-within}
 use Rattle.words.specs.Words.{chipWord, chipWordsBytes}
 use Rattle.words.specs.declared.ByteOrder.{ByteOrder}
 use Rattle.words.proofs.Words.{words-length}
+use Rattle.words.proofs.Chip.{part-lt}
 use Rattle.slot.specs.Description.{isMulti, noChip}
 use Rattle.slot.specs.declared.description.Description.{Description}
 use Rattle.refusal.specs.declared.Refusal.{Refusal}
@@ -93,12 +94,6 @@ module _ (order : ByteOrder) (d : Description) (a : AddrLayout) (c : CsDataLayou
   unfolding buildOf
   build-past e = by-domain (buildIn (argsOf d a c spans)) refl refl e
 
--- bytes of a part are bytes
-part-byte : (l : List ℕ) (start size k : ℕ) (t : Bool) → ltb k size ≡ t → ((j : ℕ) → getD l j 0 < 256) → getD (take size (drop start l)) k 0 < 256
-part-byte l start size k true e h = rw (getD-take size (drop start l) k 0 (ltb-true k size e), getD-drop start l k 0) (h (start + k))
-part-byte l start size k false e h =
-    rw (List·getD-eq-default (take size (drop start l)) 0 {n = k} (simp length-take (let g = ltb-false k size e in omega arith))) (omega arith)
-
 -- the slot as it is stored is in read-back's domain
 stored-in : (d : Description) (a : AddrLayout) (c : CsDataLayout) (s : StoredSlot) → descriptionIn d ≡ true → StoredAs d a c s → stored.storedIn s ≡ true
 unfolding stored.storedIn
@@ -156,7 +151,7 @@ module _ (order : ByteOrder) (d : Description) (a : AddrLayout) (c : CsDataLayou
 
   chip-byte : (rom k : ℕ) → getD (chipBytes images (chipSpan spans rom)) k 0 < 256
   unfolding chipBytes
-  chip-byte rom k = part-byte images (chipSpan spans rom .start) (chipSpan spans rom .length) k (ltb k (chipSpan spans rom .length)) refl bytes
+  chip-byte rom k = part-lt images (chipSpan spans rom .start) (chipSpan spans rom .length) bytes k
 
   -- the table that is read
   table-long : length (tableOf padByte order (argsOf d a c spans) images) ≡ tableSize d a

@@ -56,7 +56,7 @@ abbrev pub unserved : StoredSlot → ChipSetType → FirstFault
 unserved s set = firstOf (s .«num_roms») (λ rom. firstOf (romWords s rom) (unservedIn s set rom))
 
 -- the bytes of a ROM's words
--- 02 Slip 5 2: in the byte order of the call
+-- 02 Slip 5 2: the bytes of each word that is read back are in the byte order of the call
 abbrev pub romBytes : ByteOrder → StoredSlot → ChipSetType → List ℕ → ℕ → List ℕ
 romBytes order s set stored rom = chipWordsBytes order (wordBytes s) (keptValue s set stored rom) (romWords s rom)
 

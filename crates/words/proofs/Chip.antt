@@ -50,11 +50,15 @@ turned-lt (x ∷ l) r m h g k = turned-lt l (x ∷ r) m (λ j. h (suc j)) next k
     next zero = h 0
     next (suc j) = g j
 
-part-lt : (n : ℕ) (l : List ℕ) (m : ℕ) → 0 < m → ((k : ℕ) → getD l k 0 < m) → (k : ℕ) → getD (take n l) k 0 < m
-part-lt zero l m z h k = z
-part-lt (suc n) [] m z h k = z
-part-lt (suc n) (x ∷ l) m z h zero = h 0
-part-lt (suc n) (x ∷ l) m z h (suc k) = part-lt n l m z (λ j. h (suc j)) k
+front-lt : (n : ℕ) (l : List ℕ) → ((k : ℕ) → getD l k 0 < 256) → (k : ℕ) → getD (take n l) k 0 < 256
+front-lt zero l h k = omega arith
+front-lt (suc n) [] h k = omega arith
+front-lt (suc n) (x ∷ l) h zero = h 0
+front-lt (suc n) (x ∷ l) h (suc k) = front-lt n l (λ j. h (suc j)) k
+
+-- bytes of a part are bytes
+pub part-lt : (b : List ℕ) (start size : ℕ) → ((k : ℕ) → getD b k 0 < 256) → (k : ℕ) → getD (take size (drop start b)) k 0 < 256
+part-lt b start size h = front-lt size (drop start b) (λ k. rw (getD-drop start b k 0) (h (start + k)))
 
 pub in-order-lt : (order : ByteOrder) (l : List ℕ) → ((k : ℕ) → getD l k 0 < 256) → (k : ℕ) → getD (inOrder order l) k 0 < 256
 in-order-lt LowFirst l h k = h k
@@ -63,7 +67,7 @@ in-order-lt HighFirst l h k = turned-lt l [] 256 h (λ j. omega arith) k
 pub chip-lt : (order : ByteOrder) (w : ℕ) (b : List ℕ) (at : ℕ) → ((k : ℕ) → getD b k 0 < 256) → chipWordFrom order w b at < 2 ^ (8 * w)
 unfolding chipWordFrom
 chip-lt order w b at h =
-    word-lt w _ 0 (in-order-lt order (take w (drop at b)) (part-lt w (drop at b) 256 (omega arith) (λ k. rw (getD-drop at b k 0) (h (at + k)))))
+    word-lt w _ 0 (in-order-lt order (take w (drop at b)) (part-lt b at w h))
 
 -- a word of a part of the bytes
 part-of : (at w size : ℕ) (l : List ℕ) → at + w ≤ size → take w (drop at (take size l)) ≡ take w (drop at l)
@@ -102,7 +106,7 @@ pub chip-bytes : (order : ByteOrder) (w : ℕ) (b : List ℕ) (at : ℕ) → ((k
 unfolding chipWordFrom chipBytesOf
 chip-bytes order w b at h l =
     let long : length (take w (drop at b)) ≡ w = length-take-le w (drop at b) (simp length-drop (omega arith)) in
-    let bytes = in-order-lt order (take w (drop at b)) (part-lt w (drop at b) 256 (omega arith) (λ k. rw (getD-drop at b k 0) (h (at + k)))) in
+    let bytes = in-order-lt order (take w (drop at b)) (part-lt b at w h) in
     ap (inOrder order) (bytes-back w (inOrder order (take w (drop at b))) (in-order-length order (take w (drop at b)) ∙ long) bytes)
     ∙ in-order-twice order (take w (drop at b))
 

@@ -21,7 +21,7 @@ abbrev pub entryWord : ℕ → List ℕ → ℕ → ℕ
 entryWord w b i = word w b i
 
 -- the bytes of a word, lowest first, as they stand in a dump; and those of a dump's word, lowest first
--- 02 Slip 5 2: they stand as they are where the low byte comes first, and the other way round where the high byte does
+-- 02 Slip 5 2: a word's bytes stand as they are where the low byte comes first, and the other way round where the high byte does
 abbrev pub inOrder : ByteOrder → List ℕ → List ℕ
 inOrder LowFirst bytes = bytes
 inOrder HighFirst bytes = reverse bytes
