@@ -108,8 +108,9 @@ def respell_pages(new, spelt, names):
 def rename_folders():
     for folder in sorted(os.listdir("crates")):
         old = os.path.join("crates", folder, "specs", "design")
-        if os.path.isdir(old):
-            os.rename(old, os.path.join("crates", folder, "specs", "Design"))
+        for end in ("", ".antt"):
+            if os.path.exists(old + end):
+                os.rename(old + end, os.path.join("crates", folder, "specs", "Design" + end))
 
 
 def main():

@@ -1,4 +1,6 @@
 // The address search's choices of candidates: the GPIOs that one spans, its score, and which choice is the best.
+#![tactic(auto)]
+
 ghost use Rattle.std.specs.Prelude.{◌≡◌, true, cond, ◌+◌, ◌^◌, ◌≤◌, get_or, take};
 ghost use Rattle.lists.specs.Tab.{tab};
 ghost use Rattle.gpio.specs.Span.{widened};
@@ -20,7 +22,7 @@ use select_span::fixed_span;
 use slot::description::Description;
 
 // What no choice changes: of `lines` lines the first `in_range` are spanned, and some GPIOs by every choice.
-#[derive(Drop)]
+#[derive(Clone, Copy)]
 pub struct Spanning {
     pub in_range: usize,
     pub lines: usize,

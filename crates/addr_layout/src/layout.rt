@@ -10,7 +10,7 @@ use lists::array::all_between;
 use refusal::Refusal;
 
 // Which GPIOs the address PIO reads, and which line each serves.
-#[derive(Drop)]
+#[derive(Clone, Copy)]
 pub struct AddrLayout {
     pub gpio_base: u8,
     pub num_addr_pins: u8,
@@ -25,14 +25,14 @@ pub struct AddrLayout {
 }
 
 // Whether there is a layout, and if not why.
-#[derive(Drop)]
+#[derive(Clone, Copy)]
 pub enum AddrOutcome {
     LaidOut,
     Refused(Refusal),
 }
 
 // The answer; of a refused call the layout is all 0.
-#[derive(Drop)]
+#[derive(Clone, Copy)]
 pub struct AddrAnswer {
     pub outcome: AddrOutcome,
     pub layout: AddrLayout,

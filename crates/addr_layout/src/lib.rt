@@ -1,5 +1,7 @@
 // The address search: which GPIOs the address lines of a slot take, so that one PIO window holds them and the table that
 // they index is the smallest.
+#![tactic(auto)]
+
 pub mod layout; // the layout, and the search's answer
 mod layouts; // the layout that a choice makes
 

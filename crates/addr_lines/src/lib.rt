@@ -1,5 +1,7 @@
 // The pins that the address search lists: chip 0's address lines in order, those past the table's reach too, then X1 and
 // X2 where they pick a bank or a chip. An address line that overhangs the socket is fly-leaded to an X pin.
+#![tactic(auto)]
+
 pub mod range; // the lines that the table has an index for
 
 ghost use Rattle.std.specs.Prelude.{◌≡◌, ◌≤◌};

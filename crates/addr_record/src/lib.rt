@@ -1,13 +1,15 @@
 // The address layout record: written where a search answers, read where a layout is handed in.
 // docs/INTERFACE.md gives the place of each number.
+#![tactic(auto)]
+
 ghost use Rattle.std.specs.Prelude.{◌≡◌, true, [], ◌++◌, ◌≤◌, length, drop};
 ghost use Rattle.addr_record.specs.AddrRecord.{addr_size, x_byte, x_of, addr_head, layout_bytes, layout_at, layout_formed, given_at, given_formed};
 
 use addr_layout::layout::AddrLayout;
-use bytes::copy;
 use cs_data_layout::layout::GivenLayout;
 use fields::{four_at, whole};
 use gpio::line::LineGpio;
+use laid_bytes::copy;
 use lists::array::entry;
 
 // Bytes of a record.

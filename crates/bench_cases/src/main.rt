@@ -1,4 +1,6 @@
 // Document 01's bench cases for the leaf modules, with some of its sentences besides: each is run and its answer written.
+#![tactic(auto)]
+
 use control::alg_preference::cs_alg_preference;
 use control::cs_config::control_line_logic;
 use gpio::window::Window;

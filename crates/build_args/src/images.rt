@@ -6,7 +6,7 @@ ghost use Rattle.build_args.specs.Images.{chip_bytes, chip_span};
 use slot::description::Description;
 
 // Where a chip's bytes stand in the lent ones; those past the end are not there.
-#[derive(Drop)]
+#[derive(Clone, Copy)]
 pub struct ImageSpan {
     // Whether the chip has bytes at all.
     pub present: bool,

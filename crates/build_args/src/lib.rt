@@ -1,4 +1,6 @@
 // What a build is asked for: the slot, its layouts, the chips' bytes and the lent table; and which of it is in the domain.
+#![tactic(auto)]
+
 pub mod images; // the bytes that are lent for the chips
 pub mod positions; // where the data lines are counted from
 pub mod lines; // the lines that pick a chip
@@ -10,7 +12,7 @@ use images::ImageSpan;
 use slot::description::Description;
 
 // What a build is asked for, the chips' bytes aside.
-#[derive(Drop)]
+#[derive(Clone, Copy)]
 pub struct BuildArgs {
     pub description: Description,
     pub addr: AddrLayout,

@@ -1,4 +1,6 @@
 // What a build is refused for, in its order.
+#![tactic(auto)]
+
 ghost use Rattle.std.specs.Prelude.{◌≡◌, true, false, ◌≤◌, ◌<◌, ◌^◌, get_or};
 ghost use Rattle.slot.specs.Description.{no_chip};
 ghost use Rattle.build_args.specs.Positions.{data_base};

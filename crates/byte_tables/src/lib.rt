@@ -1,5 +1,7 @@
 // What each value of a byte comes to, by positions. The tables are made by doubling: what one bit more comes to is found once, and
 // joined to all that stands already.
+#![tactic(auto)]
+
 ghost use Rattle.std.specs.Prelude.{◌≡◌, ◌+◌, ◌*◌, ◌^◌, ◌≤◌, length, get_or};
 ghost use Rattle.lists.specs.Tab.{tab};
 ghost use Rattle.bits.specs.Bits.{gather, scatter};

@@ -1,5 +1,7 @@
 // The first fault of the pins that the select and data search needs: of the data pins, then of the select pins in the order in
 // which theirs answer.
+#![tactic(auto)]
+
 ghost use Rattle.std.specs.Prelude.{◌≡◌, false, ◌++◌, ◌≤◌};
 ghost use Rattle.slot.specs.Description.{is_multi};
 ghost use Rattle.listing.specs.Design.Packed.{list_of};

@@ -17,14 +17,14 @@ use listing::choice::{in_part, pick};
 use search::{Found, Trial, better, row_bits};
 
 // The GPIOs of a choice, or of a part of its number.
-#[derive(Drop)]
+#[derive(Clone, Copy)]
 pub struct Sets {
     pub data_gpios: u64,
     pub select_gpios: u64,
 }
 
 // What no choice changes.
-#[derive(Drop)]
+#[derive(Clone, Copy)]
 pub struct Fixed {
     pub multi: bool,
     pub num_data: usize,

@@ -17,7 +17,7 @@ use search::row_bits;
 
 // What the choices passed show: the ignored GPIOs of the first refused gap that has some, and the last refused set, 0 where
 // there is none. Numbers, since copying the answer's enums at each choice takes longer than judging it.
-#[derive(Drop)]
+#[derive(Clone, Copy)]
 struct Seen {
     interior: u64,
     refused: u64,

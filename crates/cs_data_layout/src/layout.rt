@@ -7,28 +7,28 @@ use addr_layout::layout::AddrLayout;
 use refusal::Refusal;
 
 // The original's `Option<&AddrLayout>`: a layout that is not given counts for nothing.
-#[derive(Drop)]
+#[derive(Clone, Copy)]
 pub struct GivenLayout {
     pub given: bool,
     pub layout: AddrLayout,
 }
 
 // Position of the one GPIO among the selects that is none of them.
-#[derive(Drop)]
+#[derive(Clone, Copy)]
 pub enum IgnoreIndex {
     None,
     At(u8),
 }
 
 // A select or commoned line. Roles: 0 ce, 1 oe, 2 to 5 cs1 to cs4, 6 X1, 7 X2, 8 half select.
-#[derive(Drop)]
+#[derive(Clone, Copy)]
 pub struct SelectLine {
     pub role: u8,
     pub gpio: u8,
 }
 
 // Address lines in use whose all being high deselects the chip.
-#[derive(Drop)]
+#[derive(Clone, Copy)]
 pub enum Qualifiers {
     Absent,
     Present {
@@ -39,7 +39,7 @@ pub enum Qualifiers {
 }
 
 // Which GPIOs select the chip and carry its data, and which line each serves; base pins are counted from the base.
-#[derive(Drop)]
+#[derive(Clone, Copy)]
 pub struct CsDataLayout {
     // 0 or 16.
     pub gpio_base: u8,
@@ -59,14 +59,14 @@ pub struct CsDataLayout {
 }
 
 // Whether there is a layout, and if not why.
-#[derive(Drop)]
+#[derive(Clone, Copy)]
 pub enum CsDataOutcome {
     LaidOut,
     Refused(Refusal),
 }
 
 // The answer; of a refused call the layout is all 0.
-#[derive(Drop)]
+#[derive(Clone, Copy)]
 pub struct CsDataAnswer {
     pub outcome: CsDataOutcome,
     pub layout: CsDataLayout,

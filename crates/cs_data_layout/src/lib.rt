@@ -1,5 +1,7 @@
 // The select and data search: which GPIOs the data lines and the select lines of a slot take, so that one PIO reads the
 // selects and drives the data.
+#![tactic(auto)]
+
 pub mod layout; // the layout, and the search's answer
 mod sets; // the GPIOs that no choice changes
 mod layouts; // the layout that a choice makes

@@ -1,10 +1,12 @@
 // The select and data layout record: written where the search answers, read where a build is handed one.
 // docs/INTERFACE.md gives the place of each number.
+#![tactic(auto)]
+
 ghost use Rattle.std.specs.Prelude.{◌≡◌, ◌++◌, ◌+◌, ◌≤◌, length, drop};
 ghost use Rattle.cs_data_record.specs.CsDataRecord.{cs_data_size, ignore_byte, qualifier_bytes, cs_data_head, cs_data_bytes, ignore_of, line_from, lines_from, qualifiers_at, cs_data_at, cs_data_formed};
 ghost use Rattle.cs_data_record.specs.Design.Pairs.{pairs_of};
 
-use bytes::copy;
+use laid_bytes::copy;
 use cs_data_layout::layout::{CsDataLayout, IgnoreIndex, Qualifiers, SelectLine};
 use fields::sixteen_at;
 use lists::array::entry;

@@ -1,5 +1,7 @@
 // The pins that the select and data search numbers: chip 0's data pins, then its select lines with X1 and X2, then the commoned
 // lines of a Multi set.
+#![tactic(auto)]
+
 ghost use Rattle.std.specs.Prelude.{◌≡◌, ◌++◌, ◌+◌, ◌≤◌, get_or};
 ghost use Rattle.slot.specs.Description.{chip0};
 ghost use Rattle.listing.specs.Design.Packed.{listed_by, list_of};
@@ -143,7 +145,7 @@ fn list(d: Description) -> Listing
 
 // Whether the select search takes the description, the layout handed in aside; if so the pins that it numbers, and how many
 // bits their choice number has.
-#[derive(Drop)]
+#[derive(Clone, Copy)]
 pub struct Numbering {
     pub in_domain: bool,
     pub list: Listing,

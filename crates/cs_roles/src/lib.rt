@@ -1,4 +1,6 @@
 // What each select line of the select and data search is for, in the order of their pins.
+#![tactic(auto)]
+
 ghost use Rattle.std.specs.Prelude.{◌≡◌, [], ◌∷◌, ◌++◌, ◌+◌, ◌≤◌, ◌<◌};
 ghost use Rattle.slot.specs.Description.{chip0};
 ghost use Rattle.cs_roles.specs.Roles.{roles_of, if_active_kind, active_kinds, x_roles, select_roles};
@@ -15,7 +17,7 @@ pub const X2_ROLE: u8 = 7;
 pub const HALF_ROLE: u8 = 8;
 
 // The roles of the select lines.
-#[derive(Drop)]
+#[derive(Clone, Copy)]
 pub struct Roles {
     pub roles: [u8; 8],
     pub count: usize,

@@ -1,5 +1,7 @@
 // The verdict on one choice of the select and data search: its data GPIOs, then its select GPIOs, then the window of all, and the
 // score if it passes.
+#![tactic(auto)]
+
 ghost use Rattle.std.specs.Prelude.{◌≡◌, ◌-◌, ◌≤◌};
 ghost use Rattle.cs_verdict.specs.Verdict.{selectable, base_of, in_one_window, score_of, verdict_of};
 
@@ -8,7 +10,7 @@ use gpio::set::{end, gapless, lowest, size, width};
 use gpio::window::Window;
 
 // What a choice fails on first, or that it fits.
-#[derive(Drop)]
+#[derive(Clone, Copy)]
 pub enum Verdict {
     DataGap,
     // The refused set.

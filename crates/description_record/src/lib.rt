@@ -1,4 +1,6 @@
 // The description record: docs/INTERFACE.md gives the place of each number.
+#![tactic(auto)]
+
 mod shape; // which records are refused
 mod parts; // board, chips and settings at their places
 
@@ -11,7 +13,7 @@ use refusal::{Answer, Refusal};
 use slot::description::Description;
 
 // The answer, and what the record describes; of a refused record, what is left of it to read.
-#[derive(Drop)]
+#[derive(Clone, Copy)]
 pub struct Decoded {
     pub answer: Answer,
     pub description: Description,

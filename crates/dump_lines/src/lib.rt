@@ -1,5 +1,7 @@
 // The order of a dump's bytes as an order of data lines: a word of two bytes whose high byte comes first is the word of the same lines with
 // those of its two bytes exchanged, low byte first. So the order is looked at once a ROM, and no word costs more for it.
+#![tactic(auto)]
+
 ghost use Rattle.std.specs.Prelude.{◌≡◌, ◌<◌};
 ghost use Rattle.words.specs.declared.ByteOrder.TheVariants.{HighFirst};
 ghost use Rattle.dump_lines.specs.Design.Lines.{other_byte, turned_map, ordered_map};

@@ -1,5 +1,7 @@
 // The entries of a row: those whose index has the same bits above the low eight. Each is for a word and says a value, and the first
 // value of a word is kept. What the bits of an index and of an entry come to stands in tables, for each eight of them.
+#![tactic(auto)]
+
 mod word; // which word an entry is for
 
 ghost use Rattle.std.specs.Prelude.{◌≡◌, ◌+◌, ◌*◌, ◌/◌, ◌%◌, ◌<◌, ◌^◌, length, get_or};
@@ -11,7 +13,7 @@ use lent_buffers::keep;
 use words::word_at;
 
 // A row: what the bits above the low eight say of its indices, the first of them, and how many there are.
-#[derive(Drop)]
+#[derive(Clone, Copy)]
 pub struct Row {
     pub high: [u32; 5],
     pub start: u32,
@@ -19,7 +21,7 @@ pub struct Row {
 }
 
 // Whether a row is read to its end, or stops at a word.
-#[derive(Drop)]
+#[derive(Clone, Copy)]
 pub enum Walked {
     Through,
     // The word that an entry says another value of than the one kept.

@@ -1,4 +1,6 @@
 // Entries of a table back into words, entry by entry: row by row up to the first that disagrees, then what the marks say.
+#![tactic(auto)]
+
 mod maps; // what a number's bits at the positions of all maps come to
 mod walk; // the entries in order
 

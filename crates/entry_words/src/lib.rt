@@ -1,4 +1,6 @@
 // What the entries of a table are read by: positions of all lines, the words of each ROM among all, and the forced bits.
+#![tactic(auto)]
+
 ghost use Rattle.std.specs.Prelude.{◌≡◌, ◌*◌, ◌^◌, ◌≤◌};
 ghost use Rattle.lists.specs.Tab.{tab};
 ghost use Rattle.entry_words.specs.Design.Reading.{gathered};
@@ -6,21 +8,21 @@ ghost use Rattle.entry_words.specs.Design.Reading.{gathered};
 use byte_tables::gather_table;
 
 // The positions of so many lines, lowest line first.
-#[derive(Drop)]
+#[derive(Clone, Copy)]
 pub struct Map {
     pub positions: [u8; 32],
     pub lines: u8,
 }
 
 // The words of a ROM, counted through all.
-#[derive(Drop)]
+#[derive(Clone, Copy)]
 pub struct Extent {
     pub start: u32,
     pub words: u32,
 }
 
 // At four places the ROMs; at the fifth no ROM, which has no words.
-#[derive(Drop)]
+#[derive(Clone, Copy)]
 pub struct Reading {
     // The address lines' positions in the index; at the fifth place those of the lines that pick.
     pub address: [Map; 5],
@@ -38,7 +40,7 @@ pub struct Reading {
 }
 
 // What all entries come to; the word that one is at fault for is counted through all ROMs.
-#[derive(Drop)]
+#[derive(Clone, Copy)]
 pub enum Outcome {
     Whole,
     Disagrees(u32),

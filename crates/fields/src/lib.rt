@@ -1,5 +1,7 @@
 // Numbers at a place of a byte record. A place past the record's end reads 0, so that each function here answers for any length; a
 // record of another length is refused by whoever reads it. A place is below 2^32, which no record comes near.
+#![tactic(auto)]
+
 pub mod candidates; // the candidates of a pin, two bytes
 pub mod whole; // the same of a record that reaches so far
 

@@ -1,4 +1,6 @@
 // The bits that overrides force, as two masks: an index goes through just if it has the forced bits as they are forced.
+#![tactic(auto)]
+
 ghost use Rattle.std.specs.Prelude.{◌≡◌, cond, ◌&&◌, ◌||◌, ◌%◌, ◌/◌, ◌^◌, ◌<◌, eqb};
 ghost use Rattle.stored_slot.specs.Stored.{names, stored_pins};
 ghost use Rattle.forced_bits.specs.Design.Forced.{mask_of, forced_at, high_at};

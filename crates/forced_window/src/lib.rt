@@ -1,4 +1,6 @@
 // Whether an override forces a GPIO of the address window.
+#![tactic(auto)]
+
 ghost use Rattle.std.specs.Prelude.{◌≡◌};
 ghost use Rattle.premises.specs.Given.{forces, nothing_forced};
 

@@ -1,5 +1,7 @@
 // The four calls in turn on lent buffers: both searches, the build and read-back. That a well wired slot which they accept reads back as
 // what its chips hold is their contract, by the law of round_trip, so that a bench can check itself by it.
+#![tactic(auto)]
+
 mod stored; // what read-back is given of a found layout
 
 ghost use Rattle.std.specs.Prelude.{◌≡◌, true, ◌≤◌, length};

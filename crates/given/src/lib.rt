@@ -1,5 +1,7 @@
 // Whether the slot that read-back is given is one of which the round trip's theorem speaks: it agrees with a description and its
 // layouts. The tests stand in premises, with the law that they pass just what the theorem asks for.
+#![tactic(auto)]
+
 ghost use Rattle.std.specs.Prelude.{◌≡◌, eqb};
 ghost use Rattle.lists.specs.Each.{each};
 ghost use Rattle.build_args.specs.Faults.{table_size};

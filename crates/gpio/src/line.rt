@@ -5,7 +5,7 @@ ghost use Rattle.gpio.specs.Line.{line_gpio_in};
 use crate::LAST_GPIO;
 
 // An X pin that picks a bank or a chip, or a select line: its GPIO, or that there is none.
-#[derive(Drop)]
+#[derive(Clone, Copy)]
 pub enum LineGpio {
     Unused,
     At(u8),

@@ -1,4 +1,6 @@
 // What reading and writing Intel HEX share: the largest chip, and the checksum.
+#![tactic(auto)]
+
 ghost use Rattle.std.specs.Prelude.{◌≡◌, ◌%◌};
 ghost use Rattle.hex_base.specs.Size.{too_long};
 ghost use Rattle.hex_base.specs.Sum.{bytes_total, checksum_of};

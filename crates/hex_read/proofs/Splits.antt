@@ -13,9 +13,8 @@ use lib.Seq.{take-length, drop-length}
 use borrow.Author.Tests.{eq-eqb, ne_eqb}
 use Rattle.lists.proofs.Bools.{both}
 use Rattle.lists.proofs.First.{never_both}
-use Rattle.bytes.specs.Bytes.{index_of, index_after, slice}
 use Rattle.hex_read.specs.Lines.{onto, lines_of}
-use Rattle.hex_read.specs.Design.Places.{bare_end, FirstLine}
+use Rattle.hex_read.specs.Design.Places.{index_of, bare_end, FirstLine}
 
 -- a character that is no line end, and a CR that is part of one
 plain_character : (c : ℕ) (s : List ℕ) → eqb c 10 ≡ false → eqb c 13 && eqb (get_or s 0 0) 10 ≡ false → lines_of (c ∷ s) ≡ onto c (lines_of s)
@@ -32,11 +31,11 @@ line-feed c s e = rw e refl
 
 -- where the LF stands
 here : (c : ℕ) (s : List ℕ) → eqb c 10 ≡ true → index_of 10 (c ∷ s) ≡ 0
-unfolding index_of index_after
+unfolding index_of
 here c s e = rw e refl
 
 further : (c : ℕ) (s : List ℕ) → eqb c 10 ≡ false → index_of 10 (c ∷ s) ≡ suc (index_of 10 s)
-unfolding index_of index_after
+unfolding index_of
 further c s e = rw e refl
 
 no_feed : (c : ℕ) (s : List ℕ) → 0 < index_of 10 (c ∷ s) → eqb c 10 ≡ false
@@ -131,18 +130,17 @@ end-first text zero h = refl
 end-first text (suc at) h = absurd (omega arith)
 
 -- the first line, without and with an LF
-pub last_line : (text : List ℕ) (at : ℕ) → 0 < length text → at ≡ 0 + index_of 10 (slice 0 (length text) text) → at ≡ length text → FirstLine text at at
-unfolding slice lines_of
+pub last_line : (text : List ℕ) (at : ℕ) → 0 < length text → at ≡ index_of 10 text → at ≡ length text → FirstLine text at at
+unfolding lines_of
 last_line text at h e f =
-    let whole : at ≡ index_of 10 text = e ∙ zero-add _ ∙ ap (index_of 10) (take-length text) in
+    let whole : at ≡ index_of 10 text = e in
     let alone : lines_of text ≡ text ∷ [] = one_line text h (sym whole ∙ f) in
     record { ends = omega arith; forward = omega arith; inside = omega arith; lines = alone ∙ rw (f, take-length text, drop-length text) refl }
 
-pub line-ahead : (text : List ℕ) (at end : ℕ) → at ≡ 0 + index_of 10 (slice 0 (length text) text) → at ≤ length text → at ≢ length text → end ≤ at
+pub line-ahead : (text : List ℕ) (at end : ℕ) → at ≡ index_of 10 text → at ≤ length text → at ≢ length text → end ≤ at
     → end ≡ bare_end text at → FirstLine text end (at + 1)
-unfolding slice
 line-ahead text at end e h g l f =
-    let whole : at ≡ index_of 10 text = e ∙ zero-add _ ∙ ap (index_of 10) (take-length text) in
+    let whole : at ≡ index_of 10 text = e in
     let inside : at < length text = omega arith in
     let first : lines_of text ≡ split text (index_of 10 text) = first_of text (omega arith) in
     record { ends = omega arith; forward = omega arith; inside = omega arith; lines = first ∙ rw (f, add-one, whole) refl }

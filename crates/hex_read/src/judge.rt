@@ -9,7 +9,7 @@ use refusal::Refusal;
 use refusal::first::FirstFault;
 
 // What a text comes to: it is sound, or its first fault and the line that has it, from 1.
-#[derive(Drop)]
+#[derive(Clone, Copy)]
 pub enum Verdict {
     Sound,
     Fault { line: usize, why: Refusal },

@@ -1,4 +1,6 @@
 // An Intel HEX text read into a chip's bytes. The text is judged to its end before anything is stored: a refusal writes nothing.
+#![tactic(auto)]
+
 mod judge; // the first fault
 mod lines; // where lines begin and end
 mod store; // what a sound text says

@@ -1,14 +1,25 @@
 // Where a text's first line ends, and where the next begins.
 ghost use Rattle.std.specs.Prelude.{◌≡◌, ◌≤◌, ◌<◌, length};
-ghost use Rattle.hex_read.specs.Design.Places.{bare_end, FirstLine};
-
-use bytes::scan::find;
+ghost use Rattle.hex_read.specs.Design.Places.{bare_end, index_of, FirstLine};
 
 // A text's first line: where it ends, without its line end, and where the next one begins.
-#[derive(Drop)]
+#[derive(Clone, Copy)]
 pub struct Line {
     pub end: usize,
     pub next: usize,
+}
+
+// Where a byte first stands in a text; the text's length where it stands nowhere.
+fn find(text: &[u8], b: u8) -> usize
+    ensures value { result ≡ index_of b text.now }
+    ensures upper_bound { result ≤ length text.now }
+{
+    for (i, x) in text.iter().enumerate() {
+        if *x == b {
+            return i;
+        }
+    }
+    text.len()
 }
 
 // Where a line ends whose LF stands at a place: ahead of a CR that is part of the line end.
@@ -30,7 +41,7 @@ pub fn first_line(text: &[u8]) -> Line
     requires { 0 < length text.now }
     ensures { FirstLine text.now result.end result.next }
 {
-    let at = find(text, 0, text.len(), 10);
+    let at = find(text, 10);
     if at == text.len() {
         return Line { end: at, next: at };
     }

@@ -1,4 +1,6 @@
 // A line of an Intel HEX text: what it says if it is a record, and what it is refused for.
+#![tactic(auto)]
+
 pub mod digits; // a record's bytes, out of its digits
 
 ghost use Rattle.std.specs.Prelude.{◌≡◌, ◌+◌, ◌*◌, ◌^◌, ◌<◌, ◌≤◌, ◌&&◌, ◌==◌, nat_lt};

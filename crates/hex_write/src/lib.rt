@@ -1,4 +1,6 @@
 // A chip's bytes written as an Intel HEX text.
+#![tactic(auto)]
+
 mod record; // a record's text
 
 ghost use Rattle.std.specs.Prelude.{◌≡◌, ◌+◌, ◌-◌, ◌≤◌, ◌^◌, min, length};

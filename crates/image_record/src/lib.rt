@@ -1,5 +1,7 @@
 // The image spans record: where in the lent bytes each chip's stand.
 // docs/INTERFACE.md gives the place of each number.
+#![tactic(auto)]
+
 ghost use Rattle.std.specs.Prelude.{◌≡◌, ◌+◌, ◌≤◌};
 ghost use Rattle.image_record.specs.ImageRecord.{spans_size, span_from, spans_at, spans_formed};
 

@@ -1,5 +1,7 @@
 // The bits of an index in another order: first those that a ROM's address lines have, then those of the lines that pick, then those
 // that are left. A word's entries are then those whose first bits are its address.
+#![tactic(auto)]
+
 ghost use Rattle.std.specs.Prelude.{◌≡◌, true, ◌≤◌, ◌<◌, get_or};
 ghost use Rattle.index_order.specs.Design.Order.{Apart, Extends, Fits, Ordered, Pushed, at, mask_of};
 

@@ -1,5 +1,7 @@
 // Bytes laid over those of a lent buffer: how a text or a file is written piece by piece.
-ghost use Rattle.std.specs.Prelude.{◌≡◌, ◌+◌, ◌≤◌, length};
+#![tactic(auto)]
+
+ghost use Rattle.std.specs.Prelude.{◌≡◌, ◌+◌, ◌++◌, ◌≤◌, length, drop};
 ghost use Rattle.laid_bytes.specs.Laid.{laid};
 
 // Lays bytes over a buffer's from a place on, and says where they end.
@@ -14,4 +16,13 @@ pub fn put(buffer: &mut [u8], at: usize, bytes: &[u8]) -> usize
         k += 1;
     }
     at + bytes.len()
+}
+
+// Lays bytes over the front of a buffer.
+pub fn copy(bytes: &[u8], buffer: &mut [u8])
+    requires { length bytes.now ≤ length buffer.old }
+    ensures len { length buffer.new ≡ length buffer.old }
+    ensures buffer_after { buffer.new ≡ bytes.now ++ drop (length bytes.now) buffer.old }
+{
+    buffer[..bytes.len()].copy_from_slice(bytes);
 }

@@ -1,4 +1,6 @@
 // The lent output and marks: filled, a word kept in them, and the first word without a mark.
+#![tactic(auto)]
+
 ghost use Rattle.std.specs.Prelude.{◌≡◌, ◌++◌, ◌≤◌, eqb, length, get_or, drop, replicate};
 ghost use Rattle.lists.specs.First.{first_where};
 ghost use Rattle.lent_buffers.specs.Design.Buffers.{WordIn, kept, keep_word};

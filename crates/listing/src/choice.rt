@@ -10,7 +10,7 @@ use crate::Listing;
 use gpio::candidates::Candidates;
 
 // A pin's GPIO under a choice, and what is left of the choice for the pins after it.
-#[derive(Drop)]
+#[derive(Clone, Copy)]
 pub struct Picked {
     pub gpio: u8,
     pub rest: u32,

@@ -1,4 +1,6 @@
 // The pins that a search lists, in order: each with its candidate GPIOs and the refusal that answers where it has none.
+#![tactic(auto)]
+
 pub mod choice; // what a choice number makes of them
 pub mod lines; // a chip's pins in the socket, and its control lines by kind
 pub mod packed; // a listed pin in numbers
@@ -14,14 +16,14 @@ use refusal::first::FirstFault;
 use slot::description::Board;
 
 // A listed pin.
-#[derive(Drop)]
+#[derive(Clone, Copy)]
 pub struct Listed {
     pub gpios: Candidates,
     pub fault: Refusal,
 }
 
 // The listed pins: at most 26 of an address search, 30 of a select search.
-#[derive(Drop)]
+#[derive(Clone, Copy)]
 pub struct Listing {
     pub pins: [Packed; 30],
     pub count: usize,

@@ -17,7 +17,7 @@ pub const MISSING_X_PIN: u8 = 4;
 pub const NO_VALID_LAYOUT: u8 = 9;
 
 // How many candidates the pin has, and which; the number of the refusal that answers where it has none, and its place.
-#[derive(Drop)]
+#[derive(Clone, Copy)]
 pub struct Packed {
     pub candidates: u8,
     pub first: u8,

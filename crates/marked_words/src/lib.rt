@@ -1,4 +1,6 @@
 // The lent words and their marks: cleared, and what the marks say once all entries are read.
+#![tactic(auto)]
+
 ghost use Rattle.std.specs.Prelude.{◌≡◌, ◌++◌, ◌*◌, eqb, get_or, drop, replicate};
 ghost use Rattle.lists.specs.First.{first_where};
 ghost use Rattle.lent_buffers.specs.Design.Buffers.{kept};

@@ -1,5 +1,7 @@
 // Which control line tells the chips of a Multi set apart, which lines they share and which count for nothing, from chip
 // 0's lines and settings and those of the other chips.
+#![tactic(auto)]
+
 ghost use Rattle.std.specs.Prelude.{◌≡◌, cond, ◌≤◌, ◌<◌};
 ghost use Rattle.multi_select.specs.MultiCsConfig.{named, named_count, nothing, multi_refused, multi_answer};
 ghost use Rattle.multi_select.specs.Design.Sorted.{line_part, sorted_with, sorted};
@@ -11,7 +13,7 @@ use slot::description::{ControlLines, CsConfig, MultiCsConfig};
 use slot::kinds::CS4;
 
 // The part that a control line has in a Multi set.
-#[derive(Drop)]
+#[derive(Clone, Copy)]
 pub enum Part {
     Dropped,
     Select,
@@ -20,21 +22,21 @@ pub enum Part {
 }
 
 // The lines passed so far by their parts, and whether one of them was a select.
-#[derive(Drop)]
+#[derive(Clone, Copy)]
 pub struct Sorted {
     pub config: MultiCsConfig,
     pub found: bool,
 }
 
 // Whether a configuration is derived, and if not why.
-#[derive(Drop)]
+#[derive(Clone, Copy)]
 pub enum MultiOutcome {
     Derived,
     Refused(Refusal),
 }
 
 // The answer, and the configuration; of a refused call the configuration is all 0.
-#[derive(Drop)]
+#[derive(Clone, Copy)]
 pub struct MultiAnswer {
     pub outcome: MultiOutcome,
     pub config: MultiCsConfig,

@@ -1,5 +1,7 @@
 // The C interface: calls on numbers and byte slices. docs/INTERFACE.md has the records byte by byte and each call's answers;
 // include/onerom.h declares the calls for C.
+#![tactic(auto)]
+
 mod page; // the pin page
 mod trip; // the round trip's answer, handed over
 mod wiring; // the wiring's test

@@ -1,4 +1,6 @@
 // The rows of the pin page: a GPIO in two digits, and the text of a role.
+#![tactic(auto)]
+
 ghost use Rattle.std.specs.Prelude.{◌≡◌, ◌*◌, ◌≤◌, ◌<◌, length, get_or};
 ghost use Rattle.lists.specs.Tab.{tab, joined};
 ghost use Rattle.laid_bytes.specs.Laid.{laid};

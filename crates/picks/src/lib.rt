@@ -1,4 +1,6 @@
 // Which chip a set's lines pick: how many lines pick, and the chip that their bits name. The build and read-back go by the same rules.
+#![tactic(auto)]
+
 pub mod positions; // where a line stands in an index or in an entry
 
 ghost use Rattle.std.specs.Prelude.{◌≡◌, ◌≤◌};
@@ -8,7 +10,7 @@ ghost use Rattle.picks.specs.Picks.{x_lines, picks_of, picked_by, chips_fit};
 use slot::description::ChipSetType;
 
 // The chip whose word an entry holds.
-#[derive(Drop)]
+#[derive(Clone, Copy)]
 pub enum Picked {
     NoChip,
     Chip(u8),

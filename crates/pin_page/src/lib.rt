@@ -1,4 +1,6 @@
 // The pin page: a row for each GPIO, with the role that both layouts give it.
+#![tactic(auto)]
+
 mod roles; // the role of each GPIO
 
 ghost use Rattle.std.specs.Prelude.{◌≡◌};

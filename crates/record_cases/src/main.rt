@@ -1,6 +1,8 @@
 // Cases through the record. The edges of the domain: for each number the smallest and the largest that is in, and one past
 // each; a line of output is what was written where, and whether the description was taken. Then document 01's bench cases
 // of both searches and of the build.
+#![tactic(auto)]
+
 ghost use Rattle.std.specs.Prelude.{◌≤◌};
 
 use addr_layout::derive_addr_layout;

@@ -5,7 +5,7 @@ ghost use Rattle.refusal.specs.First.{or_else, fault_if, answered};
 use crate::{Answer, Refusal};
 
 // What the tests so far come to.
-#[derive(Drop)]
+#[derive(Clone, Copy)]
 pub enum FirstFault {
     None,
     Of(Refusal),

@@ -1,5 +1,7 @@
 // What a call is refused for: a case for each number a caller can get, with the place that goes
 // with it. The names are the original's where it has one.
+#![tactic(auto)]
+
 pub mod first; // the first fault of several
 
 ghost use Rattle.std.specs.Prelude.{◌≡◌};
@@ -8,7 +10,7 @@ ghost use Rattle.refusal.specs.Refusal.{number_of, place_of};
 use gpio::set::GpioSet;
 
 // The refusals in the order of their numbers, from 1; a field is the place.
-#[derive(Drop)]
+#[derive(Clone, Copy)]
 pub enum Refusal {
     OutOfDomain,
     NoSelectLine,
@@ -41,14 +43,14 @@ pub enum Refusal {
 }
 
 // What a call that returns nothing else answers: it is done, or refused.
-#[derive(Drop)]
+#[derive(Clone, Copy)]
 pub enum Answer {
     Done,
     Refused(Refusal),
 }
 
 // What a call that writes a text or a file answers: how many bytes it wrote, or that it is refused.
-#[derive(Drop)]
+#[derive(Clone, Copy)]
 pub enum WriteAnswer {
     Written(usize),
     Refused(Refusal),

@@ -1,5 +1,7 @@
 // The oracle's fixed list, replayed: each case on standard input is run through this repository's functions, and every
 // number of their answer is held against the answer that stands beside the case. docs/CASES.md has the language.
+#![tactic(auto)]
+
 mod line; // a line of the list, from bytes to numbers
 mod verdict; // a line judged, by its kind
 mod tally; // the verdicts, counted and written
@@ -20,7 +22,7 @@ use libc::STDIN_FILENO;
 use say::say;
 
 // What a read leaves: the line that has not ended yet, and whether more may come.
-#[derive(Drop)]
+#[derive(Clone, Copy)]
 struct Step {
     line: Line,
     more: bool,

@@ -5,7 +5,7 @@ use case_numbers::answer;
 use case_numbers::case::number_at;
 
 // The kind goes with the verdict. A line that holds no case of a known kind is unread.
-#[derive(Drop)]
+#[derive(Clone, Copy)]
 pub enum Verdict {
     Same(u64),
     Differs(u64),

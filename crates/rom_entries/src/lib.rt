@@ -1,4 +1,6 @@
 // Whether a ROM's words have entries of their own.
+#![tactic(auto)]
+
 ghost use Rattle.std.specs.Prelude.{◌≡◌, true, ◌+◌, ◌≤◌, ◌<◌, ◌^◌, eqb, get_or};
 ghost use Rattle.lists.specs.First.{first_where};
 ghost use Rattle.rom_entries.specs.Design.Suits.{Only, Suits, rom_of};

@@ -1,4 +1,6 @@
 // The table: for each index the word of the chip that it picks, its bits at the data lines' positions.
+#![tactic(auto)]
+
 mod table; // the entries by the positions of all lines and by where the words of the chips stand
 
 ghost use Rattle.std.specs.Prelude.{◌≡◌};

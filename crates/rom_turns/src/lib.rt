@@ -1,4 +1,6 @@
 // A ROM's words, by turns: a turn has one entry for each word. The first is written, the others are held against it.
+#![tactic(auto)]
+
 ghost use Rattle.std.specs.Prelude.{◌≡◌, true, ℕ, ◌+◌, ◌≤◌, ◌<◌};
 ghost use Rattle.word_rows.specs.Design.Wrote.{Wrote};
 ghost use Rattle.rom_turns.specs.Design.Rom.{SameTurn, Turn, rom_index, says, turn_start};
@@ -8,7 +10,7 @@ use lists::number::fewer;
 use word_rows::{same_row, write_row};
 
 // The numbers of a ROM.
-#[derive(Drop)]
+#[derive(Clone, Copy)]
 pub struct Rom {
     // So many lines are in order, of an index of so many bits.
     pub lines: u8,

@@ -1,4 +1,6 @@
 // How many words of the ROMs are served.
+#![tactic(auto)]
+
 ghost use Rattle.std.specs.Prelude.{◌≡◌, ◌*◌, ◌^◌, ◌≤◌, min};
 ghost use Rattle.stored_slot.specs.Words.{rom_words, words_before};
 

@@ -1,4 +1,6 @@
 // Whether the lent buffers have the room that read-back needs. The test stands in premises, with its law.
+#![tactic(auto)]
+
 ghost use Rattle.std.specs.Prelude.{◌≡◌, ◌*◌, ◌^◌, ◌≤◌, ◌<◌, min};
 ghost use Rattle.build_wiring.specs.Counts.{word_count};
 ghost use Rattle.premises.specs.Room.{chip_words, words};

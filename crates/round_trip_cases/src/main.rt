@@ -3,6 +3,8 @@
 // `has_room`: their laws give the premises of demand 3.
 // Each pin has one GPIO and no GPIO two pins; what stands past a board's pins shares the GPIO of one of them. The lent buffers hold
 // JUNK before.
+#![tactic(auto)]
+
 ghost use Rattle.std.specs.Prelude.{◌≤◌};
 
 use addr_layout::derive_addr_layout;
@@ -24,7 +26,7 @@ use words::ByteOrder;
 const JUNK: u8 = 195;
 
 // A slot whose chips have `lines` address lines, an even number, of which the first 8 are in use; chip 0 of `size` bytes.
-#[derive(Drop)]
+#[derive(Clone, Copy)]
 struct Case {
     set_type: ChipSetType,
     chips: u8,

@@ -1,6 +1,8 @@
 // A chip address that is kept while the index rises by one. From i to i + 1 the ones at the end of i become zeros, and the zero above
 // them a one: bits 0 to t move, t being the zeros at the end of i + 1. So the lines at these positions change and no others, and what
 // changes with t stands in a table. The bits that pick a chip go the same way.
+#![tactic(auto)]
+
 ghost use Rattle.std.specs.Prelude.{◌≡◌, ◌+◌, ◌%◌, ◌≤◌, ◌<◌, ◌^◌, min, length, get_or};
 ghost use Rattle.running_address.specs.Design.Moves.{LinesAt, Moves, Next};
 

@@ -1,4 +1,6 @@
 // Whether two values are the same: candidates, set kinds, GPIOs; and whether the X pins of a slot and of a board are.
+#![tactic(auto)]
+
 ghost use Rattle.std.specs.Prelude.{◌≡◌};
 ghost use Rattle.premises.specs.Given.{x_pins_as};
 ghost use Rattle.premises.specs.Same.{is_absent, is_one, is_both, same_candidates, same_set, is_roms, is_at, same_to};

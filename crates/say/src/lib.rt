@@ -1,5 +1,7 @@
 // What the programs write to standard output. A refusal's line is made in a buffer first, under a contract; that bytes handed to
 // `write_all` are written no contract can say, so that what a program writes is compared with its file `stdout`.
+#![tactic(auto)]
+
 ghost use Rattle.std.specs.Prelude.{◌≡◌, ◌++◌, ◌+◌, ◌≤◌, length, take};
 ghost use Rattle.refusal.specs.Refusal.{number_of, place_of};
 ghost use Rattle.io.specs.Counts.{IsPrefixLen};

@@ -1,16 +1,18 @@
 // A search over choices by number: the lowest score wins, and the earliest among equals.
+#![tactic(auto)]
+
 ghost use Rattle.std.specs.Prelude.{◌≡◌, ◌≤◌, min};
 ghost use Rattle.search.specs.Search.{better_of};
 
 // What a choice comes to.
-#[derive(Drop)]
+#[derive(Clone, Copy)]
 pub enum Trial {
     Misfit,
     Score(u32),
 }
 
 // The best choice so far, with its score.
-#[derive(Drop)]
+#[derive(Clone, Copy)]
 pub enum Found {
     Nothing,
     At(u32, u32),

@@ -1,4 +1,6 @@
 // The GPIOs that every choice of the address search spans: those of a Multi set's select and commoned lines.
+#![tactic(auto)]
+
 ghost use Rattle.std.specs.Prelude.{◌≡◌};
 ghost use Rattle.select_span.specs.Selects.{widened_first, kind_candidates, select_span, fixed_span};
 

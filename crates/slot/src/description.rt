@@ -6,7 +6,7 @@ ghost use Rattle.slot.specs.Description.{is_a, is_single, is_multi, chip0};
 use gpio::candidates::{Candidates, Pin};
 
 // The board's socket and its two X pins.
-#[derive(Drop)]
+#[derive(Clone, Copy)]
 pub struct Board {
     // Socket pin n at place n - 1.
     pub socket: [Pin; 40],
@@ -16,7 +16,7 @@ pub struct Board {
 }
 
 // The package of the board's RP2350, which tells how many GPIOs are bonded out: 30 on A, 48 on B.
-#[derive(Drop)]
+#[derive(Clone, Copy)]
 pub enum Package {
     A,
     B,
@@ -35,21 +35,21 @@ impl Package {
 }
 
 // A control line of a chip. Kinds: 0 ce, 1 oe, 2 to 5 cs1 to cs4, 6 any other line.
-#[derive(Drop)]
+#[derive(Clone, Copy)]
 pub struct ControlLine {
     pub kind: u8,
     pub pin: u8,
 }
 
 // A chip's control lines: the first `count` of the places.
-#[derive(Drop)]
+#[derive(Clone, Copy)]
 pub struct ControlLines {
     pub lines: [ControlLine; 8],
     pub count: u8,
 }
 
 // A chip: its pin numbers, lowest line first, and its size in bytes.
-#[derive(Drop)]
+#[derive(Clone, Copy)]
 pub struct Chip {
     pub address_pins: [u8; 24],
     pub num_address_pins: u8,
@@ -60,7 +60,7 @@ pub struct Chip {
 }
 
 // How many chips share the socket, and what picks one: none, the X pins as a bank's bits, or select lines.
-#[derive(Drop)]
+#[derive(Clone, Copy)]
 pub enum ChipSetType {
     Single,
     Banked,
@@ -92,7 +92,7 @@ impl ChipSetType {
 }
 
 // How a control line is read.
-#[derive(Drop)]
+#[derive(Clone, Copy)]
 pub enum CsLogic {
     ActiveLow,
     ActiveHigh,
@@ -100,14 +100,14 @@ pub enum CsLogic {
 }
 
 // The original's `Option<CsLogic>`: a line that nobody set is not a line that is ignored.
-#[derive(Drop)]
+#[derive(Clone, Copy)]
 pub enum Setting {
     NotGiven,
     Given(CsLogic),
 }
 
 // The select settings of a chip, in the original's three forms.
-#[derive(Drop)]
+#[derive(Clone, Copy)]
 pub enum CsConfig {
     ChipSelect {
         cs1: CsLogic,
@@ -124,7 +124,7 @@ pub enum CsConfig {
 
 // The original's `MultiChipCsConfig`: which line tells the chips of a Multi set apart, which lines
 // they share, and which count for nothing. Lines by kind.
-#[derive(Drop)]
+#[derive(Clone, Copy)]
 pub struct MultiCsConfig {
     pub select: u8,
     pub commoned: [u8; 8],
@@ -134,7 +134,7 @@ pub struct MultiCsConfig {
 }
 
 // A slot as every call takes it: the board, the chips on it and how they are selected.
-#[derive(Drop)]
+#[derive(Clone, Copy)]
 pub struct Description {
     pub board: Board,
     pub package: Package,

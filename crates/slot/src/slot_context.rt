@@ -6,7 +6,7 @@ ghost use Rattle.slot.specs.SlotContext.{is_for, known_pairs, offset_from, offse
 use refusal::Refusal;
 
 // A pair of pin counts that goes together, and what is added to a chip pin to give the socket pin.
-#[derive(Drop)]
+#[derive(Clone, Copy)]
 pub struct KnownPair {
     pub chip_pins: u8,
     pub board_pins: u8,
@@ -67,7 +67,7 @@ const KNOWN_PAIRS: [KnownPair; 10] = [
 ];
 
 // The offset, socket pin less chip pin, or why there is none.
-#[derive(Drop)]
+#[derive(Clone, Copy)]
 pub enum OffsetAnswer {
     Offset(i8),
     Refused(Refusal),
@@ -123,7 +123,7 @@ pub fn raised(offset: i8) -> u8
 }
 
 // The socket pin under a chip pin, or that the chip pin overhangs the socket.
-#[derive(Drop)]
+#[derive(Clone, Copy)]
 pub enum Socket {
     On(u8),
     Off,

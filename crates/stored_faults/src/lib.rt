@@ -1,4 +1,6 @@
 // What a slot of ROMs is refused for before any entry is read, in its order.
+#![tactic(auto)]
+
 ghost use Rattle.std.specs.Prelude.{◌≡◌};
 ghost use Rattle.stored_slot.specs.Faults.{room_fault, roms_fault};
 

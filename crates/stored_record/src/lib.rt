@@ -1,4 +1,6 @@
 // The stored slot record: docs/INTERFACE.md gives the place of each number.
+#![tactic(auto)]
+
 mod parts; // algorithms, overrides and ROMs at their places
 
 ghost use Rattle.std.specs.Prelude.{◌≡◌};

@@ -4,7 +4,7 @@ use gpio::candidates::Candidates;
 use slot::description::ChipSetType;
 
 // What the slot holds. Single RAM is read as Single ROM.
-#[derive(Drop)]
+#[derive(Clone, Copy)]
 pub enum SlotType {
     Unknown,
     Plugin,
@@ -12,7 +12,7 @@ pub enum SlotType {
 }
 
 // The address PIO reads `num_addr_pins` GPIOs from `gpio_base + base_addr_pin`. Algorithm 0 is known.
-#[derive(Drop)]
+#[derive(Clone, Copy)]
 pub struct AlgAddr {
     pub alg: u8,
     pub gpio_base: u8,
@@ -21,7 +21,7 @@ pub struct AlgAddr {
 }
 
 // The data PIO drives from `gpio_base + base_data_pin`. Algorithms 0 and 1 are known.
-#[derive(Drop)]
+#[derive(Clone, Copy)]
 pub struct AlgData {
     pub alg: u8,
     pub gpio_base: u8,
@@ -29,14 +29,14 @@ pub struct AlgData {
 }
 
 // Algorithm 0 is known; bit mode 0 is 8 bits, 1 is 16.
-#[derive(Drop)]
+#[derive(Clone, Copy)]
 pub struct AlgDma {
     pub alg: u8,
     pub bit_mode: u8,
 }
 
 // The first ROM's select, in a Multi slot, is `gpio_base + first_rom_cs_base`. Algorithm 0 is AlgCs0.
-#[derive(Drop)]
+#[derive(Clone, Copy)]
 pub struct AlgCs {
     pub alg: u8,
     pub gpio_base: u8,
@@ -44,7 +44,7 @@ pub struct AlgCs {
 }
 
 // A ROM's size in bytes and its pin map: GPIOs of its lines, lowest first, ended by 255.
-#[derive(Drop)]
+#[derive(Clone, Copy)]
 pub struct Rom {
     pub has_map: bool,
     pub chip_size: u32,
@@ -58,7 +58,7 @@ pub const FORCE_LOW: u8 = 2;
 pub const FORCE_HIGH: u8 = 3;
 
 // A slot as read-back takes it; counts say how many overrides and ROMs there are.
-#[derive(Drop)]
+#[derive(Clone, Copy)]
 pub struct StoredSlot {
     // Declared size in bytes.
     pub size: u32,

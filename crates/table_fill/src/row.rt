@@ -8,7 +8,7 @@ use table_rows::{ChipRow, scrambled, write_pads, write_words};
 use words::{ByteOrder, put_word};
 
 // A row: its first index, how many there are, and what the first one says.
-#[derive(Drop)]
+#[derive(Clone, Copy)]
 pub struct Row {
     pub first: u32,
     pub count: u32,

@@ -8,7 +8,7 @@ ghost use Rattle.table_fill.specs.Design.Rows.{ReadsBy, Pads};
 use words::{ByteOrder, chip_word_at};
 
 // A chip's words: where the first stands, how many there are, and what is read past them.
-#[derive(Drop)]
+#[derive(Clone, Copy)]
 pub struct Source {
     pub start: u32,
     // Words of the chip.
@@ -18,7 +18,7 @@ pub struct Source {
 }
 
 // What an address reads: a source for each value of the bits that pick, and the word where none stands.
-#[derive(Drop)]
+#[derive(Clone, Copy)]
 pub struct Chips {
     pub sources: [Source; 8],
     pub pad: u32,

@@ -1,7 +1,7 @@
 // The positions of the lines, and what an index says by them.
 
 // All that an entry takes of the layouts.
-#[derive(Drop)]
+#[derive(Clone, Copy)]
 pub struct Wiring {
     // Address lines in use: positions in the index.
     pub address: [u8; 24],
@@ -16,7 +16,7 @@ pub struct Wiring {
 }
 
 // What an index says: the chip address, and the bits of the lines that pick. Both are kept from entry to entry.
-#[derive(Drop)]
+#[derive(Clone, Copy)]
 pub struct Part {
     pub address: u32,
     pub picks: u32,

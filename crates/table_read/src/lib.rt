@@ -1,4 +1,6 @@
 // Entries of a table back into words: each entry is for a word and says a value, and the first value of a word is kept.
+#![tactic(auto)]
+
 ghost use Rattle.std.specs.Prelude.{◌≡◌};
 ghost use Rattle.entry_words.specs.Design.Reading.{word_by, value_by};
 ghost use Rattle.lent_buffers.specs.Design.Buffers.{kept};

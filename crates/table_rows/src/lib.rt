@@ -1,5 +1,7 @@
 // Rows of a table: entries one behind the other, of words that stand in one chip, or of pads. A width that is written out in a call is
 // known to the compiler, which then makes a loop of its own for it.
+#![tactic(auto)]
+
 ghost use Rattle.std.specs.Prelude.{◌≡◌, ◌+◌, ◌*◌, ◌≤◌, ◌<◌, ◌^◌, length, get_or};
 ghost use Rattle.word_rows.specs.Design.Wrote.{Wrote, said_by};
 ghost use Rattle.table_rows.specs.Design.Rows.{ByteTables, ChipRowIn, chip_entry};
@@ -9,7 +11,7 @@ use word_rows::said;
 use words::{ByteOrder, chip_word_at, put_word};
 
 // A row of words that stand in one chip.
-#[derive(Drop)]
+#[derive(Clone, Copy)]
 pub struct ChipRow {
     // The first index, how many there are, and the first one's address.
     pub first: u32,

@@ -1,5 +1,7 @@
 // Read-back: the chips' bytes from a stored table, so that a fitted board can be held against the ROMs that it stands for. A word is
 // what the entries for it say; where they disagree, or there is none, the slot is refused.
+#![tactic(auto)]
+
 mod reading; // what the entries are read by
 mod place; // a word's ROM and address
 
@@ -12,7 +14,7 @@ ghost use Rattle.unscramble.specs.Design.Past.{PastTests};
 
 use crate::place::fault_of;
 use crate::reading::reading;
-use bytes::copy;
+use laid_bytes::copy;
 use refusal::first::{FirstFault, answered};
 use refusal::{Answer, Refusal};
 use slot::description::ChipSetType;

@@ -1,5 +1,7 @@
 // Whether a description and its found address layout are well wired, so that the round trip's theorem applies. The test stands in
 // premises, with the law that a slot passes just if it is well wired.
+#![tactic(auto)]
+
 mod board; // the pins of the board
 mod apart; // lines on different pins
 

@@ -1,5 +1,7 @@
 // Entries of a table back into words, word by word: where each word has entries of its own, the first of them gives it, and the
 // others are held against it.
+#![tactic(auto)]
+
 ghost use Rattle.std.specs.Prelude.{◌≡◌, true, ℕ, ◌+◌, ◌*◌, ◌^◌, ◌≤◌, ◌<◌, get_or, drop};
 ghost use Rattle.word_rows.specs.Design.Wrote.{Wrote};
 ghost use Rattle.entry_words.specs.Design.Reading.{no_map};

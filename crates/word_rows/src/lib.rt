@@ -1,5 +1,7 @@
 // Rows of words: the entries of a row differ in the low eight bits of their order alone, so that a table tells the indices apart. Words
 // of one byte and of two have loops of their own: a width that is known costs no loop.
+#![tactic(auto)]
+
 ghost use Rattle.std.specs.Prelude.{◌≡◌, true, ◌⊎◌, ◌<◌, ◌^◌, length};
 ghost use Rattle.word_rows.specs.Design.Wrote.{RowIn, SameRow, Wrote, row_says, said_by};
 

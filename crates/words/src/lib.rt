@@ -1,10 +1,12 @@
 // Words of w bytes, read from bytes and written there, low byte first; and those of a chip, whose bytes are in the order of its dump.
+#![tactic(auto)]
+
 ghost use Rattle.std.specs.Prelude.{◌≡◌, ◌++◌, ◌+◌, ◌*◌, ◌%◌, ◌^◌, ◌≤◌, ◌<◌, length, take, drop};
 ghost use Rattle.words.specs.declared.ByteOrder.TheVariants.{HighFirst};
 ghost use Rattle.words.specs.Words.{word_from, bytes_of, pad_word, chip_word_from};
 
 // Which byte of a word a dump has first.
-#[derive(Drop)]
+#[derive(Clone, Copy)]
 pub enum ByteOrder {
     LowFirst,
     HighFirst,

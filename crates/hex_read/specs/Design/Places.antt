@@ -5,6 +5,11 @@ use Rattle.hex_record.specs.Record.{line_fault, upper_after}
 use Rattle.hex_record.specs.Design.There.{ByteThere}
 use Rattle.hex_read.specs.Lines.{lines_of}
 
+-- where a byte first stands in a text; the text's length where it stands nowhere
+unfoldable pub index_of : ℕ → List ℕ → ℕ
+index_of b [] = 0
+index_of b (x ∷ xs) = cond (eqb x b) 0 (suc (index_of b xs))
+
 -- of a line whose LF stands at a place: its own end, ahead of a CR that is part of the line end
 unfoldable pub bare_end : List ℕ → ℕ → ℕ
 bare_end text zero = 0
