@@ -8,51 +8,52 @@ use multi_select::{MultiAnswer, MultiOutcome, derive_multi_cs_config};
 use say::{say, say_number, say_refusal};
 use slot::description::{ControlLine, ControlLines, CsConfig, CsLogic, Setting};
 use slot::slot_context::{OffsetAnswer, raised, socket_pin_offset};
+use std::io;
 
-fn window(base: u8, span: u8) {
-    say(b"window ");
-    say_number(base as u64);
-    say(b"/");
-    say_number(span as u64);
+fn window(rt: &impl Print, base: u8, span: u8) -> io::Result<()> {
+    say(rt, b"window ")?;
+    say_number(rt, base as u64)?;
+    say(rt, b"/")?;
+    say_number(rt, span as u64)?;
     if Window::fits(base, span) {
-        say(b": fits\n");
+        say(rt, b": fits\n")
     } else {
-        say(b": does not fit\n");
+        say(rt, b": does not fit\n")
     }
 }
 
 // An offset is written as four more than it is, so that it is at least 0.
-fn offset(chip_pins: u8, board_pins: u8) {
-    say(b"pins ");
-    say_number(chip_pins as u64);
-    say(b" in ");
-    say_number(board_pins as u64);
-    say(b": ");
+fn offset(rt: &impl Print, chip_pins: u8, board_pins: u8) -> io::Result<()> {
+    say(rt, b"pins ")?;
+    say_number(rt, chip_pins as u64)?;
+    say(rt, b" in ")?;
+    say_number(rt, board_pins as u64)?;
+    say(rt, b": ")?;
     match socket_pin_offset(chip_pins, board_pins) {
         OffsetAnswer::Offset(by) => {
-            say(b"4 + offset = ");
-            say_number(raised(by) as u64);
-            say(b"\n");
+            say(rt, b"4 + offset = ")?;
+            say_number(rt, raised(by) as u64)?;
+            say(rt, b"\n")
         }
-        OffsetAnswer::Refused(r) => say_refusal(r),
+        OffsetAnswer::Refused(r) => say_refusal(rt, r),
     }
 }
 
-fn preference(qualifiers: bool, ignore_index: bool) {
-    say(b"preference ");
-    say_number(cs_alg_preference(qualifiers, ignore_index) as u64);
-    say(b"\n");
+fn preference(rt: &impl Print, qualifiers: bool, ignore_index: bool) -> io::Result<()> {
+    say(rt, b"preference ")?;
+    say_number(rt, cs_alg_preference(qualifiers, ignore_index) as u64)?;
+    say(rt, b"\n")
 }
 
 // How the six named lines are read under a chip's settings.
-fn settings(config: CsConfig) {
-    say(b"ce oe cs1 cs2 cs3 cs4:");
+fn settings(rt: &impl Print, config: CsConfig) -> io::Result<()> {
+    say(rt, b"ce oe cs1 cs2 cs3 cs4:")?;
     let mut kind: u8 = 0;
     while kind < 6 {
-        say_logic(control_line_logic(kind, config));
+        say_logic(rt, control_line_logic(kind, config))?;
         kind += 1;
     }
-    say(b"\n");
+    say(rt, b"\n")
 }
 
 fn line(kind: u8, pin: u8) -> ControlLine {
@@ -63,42 +64,42 @@ fn first(kinds: [u8; 8]) -> u8 {
     kinds[0]
 }
 
-fn say_logic(logic: CsLogic) {
+fn say_logic(rt: &impl Print, logic: CsLogic) -> io::Result<()> {
     match logic {
-        CsLogic::ActiveLow => say(b" low"),
-        CsLogic::ActiveHigh => say(b" high"),
-        CsLogic::Ignore => say(b" ignored"),
+        CsLogic::ActiveLow => say(rt, b" low"),
+        CsLogic::ActiveHigh => say(rt, b" high"),
+        CsLogic::Ignore => say(rt, b" ignored"),
     }
 }
 
-fn say_multi(answer: MultiAnswer) {
+fn say_multi(rt: &impl Print, answer: MultiAnswer) -> io::Result<()> {
     let outcome = answer.outcome;
     match outcome {
         MultiOutcome::Derived => {
             let config = answer.config;
             let commoned = config.commoned;
             let ignored = config.ignored;
-            say(b"multi: select ");
-            say_number(config.select as u64);
-            say(b", commoned ");
-            say_number(config.num_commoned as u64);
-            say(b" from ");
-            say_number(first(commoned) as u64);
-            say(b", ignored ");
-            say_number(config.num_ignored as u64);
-            say(b" from ");
-            say_number(first(ignored) as u64);
-            say(b"\n");
+            say(rt, b"multi: select ")?;
+            say_number(rt, config.select as u64)?;
+            say(rt, b", commoned ")?;
+            say_number(rt, config.num_commoned as u64)?;
+            say(rt, b" from ")?;
+            say_number(rt, first(commoned) as u64)?;
+            say(rt, b", ignored ")?;
+            say_number(rt, config.num_ignored as u64)?;
+            say(rt, b" from ")?;
+            say_number(rt, first(ignored) as u64)?;
+            say(rt, b"\n")
         }
         MultiOutcome::Refused(r) => {
-            say(b"multi: ");
-            say_refusal(r);
+            say(rt, b"multi: ")?;
+            say_refusal(rt, r)
         }
     }
 }
 
 // A chip with ce and oe, and one with cs1 to cs3 and a line of no name.
-fn multi() {
+fn multi(rt: &impl Print) -> io::Result<()> {
     let ce = CsConfig::CeOeExplicit {
         ce: CsLogic::ActiveLow,
         oe: CsLogic::Ignore,
@@ -121,9 +122,9 @@ fn multi() {
         ],
         count: 2,
     };
-    say_multi(derive_multi_cs_config(two, CsConfig::CeOe, ce));
-    say_multi(derive_multi_cs_config(two, none, ce));
-    say_multi(derive_multi_cs_config(two, ce, none));
+    say_multi(rt, derive_multi_cs_config(two, CsConfig::CeOe, ce))?;
+    say_multi(rt, derive_multi_cs_config(two, none, ce))?;
+    say_multi(rt, derive_multi_cs_config(two, ce, none))?;
     let one = ControlLines {
         lines: [
             unused,
@@ -137,7 +138,7 @@ fn multi() {
         ],
         count: 3,
     };
-    say_multi(derive_multi_cs_config(one, none, none));
+    say_multi(rt, derive_multi_cs_config(one, none, none))?;
     let twice = ControlLines {
         lines: [
             line(2, 20),
@@ -151,39 +152,48 @@ fn multi() {
         ],
         count: 2,
     };
-    say_multi(derive_multi_cs_config(twice, ce, ce));
+    say_multi(rt, derive_multi_cs_config(twice, ce, ce))
 }
 
-fn main() {
-    window(0, 32);
-    window(1, 32);
-    window(16, 32);
-    window(41, 8);
-    window(40, 8);
-    window(255, 255);
-    offset(24, 32);
-    offset(32, 24);
-    offset(40, 32);
-    offset(255, 40);
-    offset(24, 25);
-    preference(true, true);
-    preference(true, false);
-    preference(false, true);
-    preference(false, false);
-    settings(CsConfig::CeOe);
-    settings(CsConfig::CeOeExplicit {
-        ce: CsLogic::Ignore,
-        oe: CsLogic::ActiveHigh,
-    });
-    settings(CsConfig::CeOeExplicit {
-        ce: CsLogic::ActiveHigh,
-        oe: CsLogic::Ignore,
-    });
-    settings(CsConfig::ChipSelect {
-        cs1: CsLogic::Ignore,
-        cs2: Setting::NotGiven,
-        cs3: Setting::Given(CsLogic::Ignore),
-        cs4: Setting::Given(CsLogic::ActiveHigh),
-    });
-    multi();
+fn main(rt: HostRuntime) -> io::Result<()> {
+    window(&rt, 0, 32)?;
+    window(&rt, 1, 32)?;
+    window(&rt, 16, 32)?;
+    window(&rt, 41, 8)?;
+    window(&rt, 40, 8)?;
+    window(&rt, 255, 255)?;
+    offset(&rt, 24, 32)?;
+    offset(&rt, 32, 24)?;
+    offset(&rt, 40, 32)?;
+    offset(&rt, 255, 40)?;
+    offset(&rt, 24, 25)?;
+    preference(&rt, true, true)?;
+    preference(&rt, true, false)?;
+    preference(&rt, false, true)?;
+    preference(&rt, false, false)?;
+    settings(&rt, CsConfig::CeOe)?;
+    settings(
+        &rt,
+        CsConfig::CeOeExplicit {
+            ce: CsLogic::Ignore,
+            oe: CsLogic::ActiveHigh,
+        },
+    )?;
+    settings(
+        &rt,
+        CsConfig::CeOeExplicit {
+            ce: CsLogic::ActiveHigh,
+            oe: CsLogic::Ignore,
+        },
+    )?;
+    settings(
+        &rt,
+        CsConfig::ChipSelect {
+            cs1: CsLogic::Ignore,
+            cs2: Setting::NotGiven,
+            cs3: Setting::Given(CsLogic::Ignore),
+            cs4: Setting::Given(CsLogic::ActiveHigh),
+        },
+    )?;
+    multi(&rt)
 }

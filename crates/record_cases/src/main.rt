@@ -15,6 +15,7 @@ use refusal::{Answer, Refusal};
 use rom_image::build_rom_image;
 use say::{say, say_number, say_refusal};
 use slot::description::Description;
+use std::io;
 use std::num::wrapping_add_u8;
 use words::ByteOrder;
 
@@ -88,11 +89,11 @@ fn sample() -> [u8; 424] {
     with_chip(with_chip(chips, 280), 352)
 }
 
-fn say_verdict(ok: bool) {
+fn say_verdict(rt: &impl Print, ok: bool) -> io::Result<()> {
     if ok {
-        say(b" in\n");
+        say(rt, b" in\n")
     } else {
-        say(b" 1\n");
+        say(rt, b" 1\n")
     }
 }
 
@@ -105,58 +106,65 @@ fn taken(b: [u8; 424]) -> bool {
     }
 }
 
-fn say_place(place: usize, value: u8) {
-    say_number(place as u64);
-    say(b"=");
-    say_number(value as u64);
+fn say_place(rt: &impl Print, place: usize, value: u8) -> io::Result<()> {
+    say_number(rt, place as u64)?;
+    say(rt, b"=")?;
+    say_number(rt, value as u64)
 }
 
 // One number of the sample changed.
-fn one(place: usize, value: u8) {
-    say_place(place, value);
-    say_verdict(taken(with(sample(), place, value)));
+fn one(rt: &impl Print, place: usize, value: u8) -> io::Result<()> {
+    say_place(rt, place, value)?;
+    say_verdict(rt, taken(with(sample(), place, value)))
 }
 
-fn two(place: usize, value: u8, place_2: usize, value_2: u8) {
-    say_place(place, value);
-    say(b" ");
-    say_place(place_2, value_2);
-    say_verdict(taken(with(with(sample(), place, value), place_2, value_2)));
+fn two(rt: &impl Print, place: usize, value: u8, place_2: usize, value_2: u8) -> io::Result<()> {
+    say_place(rt, place, value)?;
+    say(rt, b" ")?;
+    say_place(rt, place_2, value_2)?;
+    say_verdict(
+        rt,
+        taken(with(with(sample(), place, value), place_2, value_2)),
+    )
 }
 
 // A number of four bytes.
-fn four(place: usize, b0: u8, b1: u8, b2: u8, b3: u8) {
-    say_number(place as u64);
-    say(b"=");
-    say_number(b3 as u64 * 0x100_0000 + b2 as u64 * 0x1_0000 + b1 as u64 * 0x100 + b0 as u64);
+fn four(rt: &impl Print, place: usize, b0: u8, b1: u8, b2: u8, b3: u8) -> io::Result<()> {
+    say_number(rt, place as u64)?;
+    say(rt, b"=")?;
+    say_number(
+        rt,
+        b3 as u64 * 0x100_0000 + b2 as u64 * 0x1_0000 + b1 as u64 * 0x100 + b0 as u64,
+    )?;
     if place < 420 {
         let low = with(with(sample(), place, b0), place + 1, b1);
-        say_verdict(taken(with(with(low, place + 2, b2), place + 3, b3)));
+        say_verdict(rt, taken(with(with(low, place + 2, b2), place + 3, b3)))?;
     }
+    Ok(())
 }
 
-fn board() {
-    say(b"board\n");
-    one(0, 23);
-    one(0, 24);
-    one(0, 28);
-    one(0, 32);
-    one(0, 40);
-    one(0, 41);
-    one(1, 1);
-    one(52, 47);
-    one(52, 48);
-    one(53, 0);
-    one(53, 1);
-    one(53, 47);
-    one(53, 48);
-    one(130, 255);
-    two(130, 255, 131, 3);
-    one(132, 47);
-    one(132, 48);
-    one(133, 5);
-    two(134, 0, 135, 0);
-    two(134, 0, 135, 1);
+fn board(rt: &impl Print) -> io::Result<()> {
+    say(rt, b"board\n")?;
+    one(rt, 0, 23)?;
+    one(rt, 0, 24)?;
+    one(rt, 0, 28)?;
+    one(rt, 0, 32)?;
+    one(rt, 0, 40)?;
+    one(rt, 0, 41)?;
+    one(rt, 1, 1)?;
+    one(rt, 52, 47)?;
+    one(rt, 52, 48)?;
+    one(rt, 53, 0)?;
+    one(rt, 53, 1)?;
+    one(rt, 53, 47)?;
+    one(rt, 53, 48)?;
+    one(rt, 130, 255)?;
+    two(rt, 130, 255, 131, 3)?;
+    one(rt, 132, 47)?;
+    one(rt, 132, 48)?;
+    one(rt, 133, 5)?;
+    two(rt, 134, 0, 135, 0)?;
+    two(rt, 134, 0, 135, 1)
 }
 
 // The sample on A and on a socket of 24 pins, with candidates at the first 29 places alone.
@@ -165,116 +173,120 @@ fn sample_on_a() -> [u8; 424] {
 }
 
 // Two numbers of it changed, which are the candidates of a pin.
-fn pair(place: usize, first: u8, second: u8) {
+fn pair(rt: &impl Print, place: usize, first: u8, second: u8) -> io::Result<()> {
     if place < 423 {
-        say_place(place, first);
-        say(b" ");
-        say_place(place + 1, second);
-        say_verdict(taken(with(with(sample_on_a(), place, first), place + 1, second)));
+        say_place(rt, place, first)?;
+        say(rt, b" ")?;
+        say_place(rt, place + 1, second)?;
+        say_verdict(
+            rt,
+            taken(with(with(sample_on_a(), place, first), place + 1, second)),
+        )?;
     }
+    Ok(())
 }
 
 // The edge of A: at the first place, at the last, which is past the board's pins, and at both X pins.
-fn package() {
-    say(b"package\n");
-    one(1, 2);
-    pair(52, 29, 255);
-    pair(52, 30, 255);
-    pair(52, 0, 29);
-    pair(52, 0, 30);
-    pair(52, 0, 47);
-    pair(130, 29, 255);
-    pair(130, 30, 255);
-    pair(132, 29, 255);
-    pair(132, 30, 255);
-    pair(134, 28, 29);
-    pair(134, 29, 30);
+fn package(rt: &impl Print) -> io::Result<()> {
+    say(rt, b"package\n")?;
+    one(rt, 1, 2)?;
+    pair(rt, 52, 29, 255)?;
+    pair(rt, 52, 30, 255)?;
+    pair(rt, 52, 0, 29)?;
+    pair(rt, 52, 0, 30)?;
+    pair(rt, 52, 0, 47)?;
+    pair(rt, 130, 29, 255)?;
+    pair(rt, 130, 30, 255)?;
+    pair(rt, 132, 29, 255)?;
+    pair(rt, 132, 30, 255)?;
+    pair(rt, 134, 28, 29)?;
+    pair(rt, 134, 29, 30)
 }
 
-fn numbers() {
-    say(b"numbers\n");
-    one(2, 1);
-    one(2, 2);
-    two(2, 2, 7, 1);
-    one(2, 3);
-    one(3, 0);
-    one(3, 2);
-    one(3, 3);
-    one(4, 4);
-    one(4, 5);
-    one(4, 251);
-    one(4, 252);
-    one(4, 255);
-    one(5, 0);
-    one(5, 4);
-    one(5, 5);
-    one(6, 255);
-    one(7, 2);
-    four(8, 255, 0, 0, 0);
-    four(8, 0, 1, 0, 0);
-    four(8, 0, 0, 16, 0);
-    four(8, 1, 0, 16, 0);
-    one(12, 1);
-    one(15, 1);
-    one(26, 1);
-    one(27, 1);
+fn numbers(rt: &impl Print) -> io::Result<()> {
+    say(rt, b"numbers\n")?;
+    one(rt, 2, 1)?;
+    one(rt, 2, 2)?;
+    two(rt, 2, 2, 7, 1)?;
+    one(rt, 2, 3)?;
+    one(rt, 3, 0)?;
+    one(rt, 3, 2)?;
+    one(rt, 3, 3)?;
+    one(rt, 4, 4)?;
+    one(rt, 4, 5)?;
+    one(rt, 4, 251)?;
+    one(rt, 4, 252)?;
+    one(rt, 4, 255)?;
+    one(rt, 5, 0)?;
+    one(rt, 5, 4)?;
+    one(rt, 5, 5)?;
+    one(rt, 6, 255)?;
+    one(rt, 7, 2)?;
+    four(rt, 8, 255, 0, 0, 0)?;
+    four(rt, 8, 0, 1, 0, 0)?;
+    four(rt, 8, 0, 0, 16, 0)?;
+    four(rt, 8, 1, 0, 16, 0)?;
+    one(rt, 12, 1)?;
+    one(rt, 15, 1)?;
+    one(rt, 26, 1)?;
+    one(rt, 27, 1)
 }
 
-fn settings() {
-    say(b"settings\n");
-    one(16, 0);
-    two(16, 0, 19, 2);
-    two(16, 0, 19, 3);
-    two(16, 0, 17, 0);
-    one(16, 2);
-    one(16, 3);
-    one(17, 0);
-    one(20, 0);
+fn settings(rt: &impl Print) -> io::Result<()> {
+    say(rt, b"settings\n")?;
+    one(rt, 16, 0)?;
+    two(rt, 16, 0, 19, 2)?;
+    two(rt, 16, 0, 19, 3)?;
+    two(rt, 16, 0, 17, 0)?;
+    one(rt, 16, 2)?;
+    one(rt, 16, 3)?;
+    one(rt, 17, 0)?;
+    one(rt, 20, 0)
 }
 
-fn multi() {
-    say(b"multi\n");
-    two(7, 1, 23, 5);
-    two(7, 1, 23, 6);
-    two(7, 0, 23, 6);
-    two(7, 1, 24, 6);
-    two(7, 1, 24, 7);
-    two(7, 1, 25, 6);
-    two(7, 1, 25, 7);
+fn multi(rt: &impl Print) -> io::Result<()> {
+    say(rt, b"multi\n")?;
+    two(rt, 7, 1, 23, 5)?;
+    two(rt, 7, 1, 23, 6)?;
+    two(rt, 7, 0, 23, 6)?;
+    two(rt, 7, 1, 24, 6)?;
+    two(rt, 7, 1, 24, 7)?;
+    two(rt, 7, 1, 25, 6)?;
+    two(rt, 7, 1, 25, 7)
 }
 
-fn chips() {
-    say(b"chips\n");
-    four(136, 0, 0, 0, 0);
-    four(136, 0, 0, 0, 1);
-    four(136, 1, 0, 0, 1);
-    one(140, 0);
-    one(140, 1);
-    two(140, 1, 3, 2);
-    two(140, 2, 3, 2);
-    one(140, 24);
-    one(140, 25);
-    one(141, 0);
-    one(141, 1);
-    one(141, 17);
-    one(142, 0);
-    one(142, 8);
-    one(142, 9);
-    one(143, 1);
-    one(144, 0);
-    one(144, 40);
-    one(144, 41);
-    one(168, 0);
-    one(168, 41);
-    one(184, 6);
-    one(184, 7);
-    one(184, 1);
-    two(184, 6, 187, 6);
-    one(185, 0);
-    one(185, 41);
-    one(186, 1);
-    two(5, 2, 212, 0);
-    one(212, 0);
+fn chips(rt: &impl Print) -> io::Result<()> {
+    say(rt, b"chips\n")?;
+    four(rt, 136, 0, 0, 0, 0)?;
+    four(rt, 136, 0, 0, 0, 1)?;
+    four(rt, 136, 1, 0, 0, 1)?;
+    one(rt, 140, 0)?;
+    one(rt, 140, 1)?;
+    two(rt, 140, 1, 3, 2)?;
+    two(rt, 140, 2, 3, 2)?;
+    one(rt, 140, 24)?;
+    one(rt, 140, 25)?;
+    one(rt, 141, 0)?;
+    one(rt, 141, 1)?;
+    one(rt, 141, 17)?;
+    one(rt, 142, 0)?;
+    one(rt, 142, 8)?;
+    one(rt, 142, 9)?;
+    one(rt, 143, 1)?;
+    one(rt, 144, 0)?;
+    one(rt, 144, 40)?;
+    one(rt, 144, 41)?;
+    one(rt, 168, 0)?;
+    one(rt, 168, 41)?;
+    one(rt, 184, 6)?;
+    one(rt, 184, 7)?;
+    one(rt, 184, 1)?;
+    two(rt, 184, 6, 187, 6)?;
+    one(rt, 185, 0)?;
+    one(rt, 185, 41)?;
+    one(rt, 186, 1)?;
+    two(rt, 5, 2, 212, 0)?;
+    one(rt, 212, 0)
 }
 
 // Whether the address search refuses the description by number 1.
@@ -288,12 +300,19 @@ fn address_taken(d: Description) -> bool {
 }
 
 // The searches' own counts: `lines` two-candidate pins from socket pin `first` on.
-fn searches(set_type: u8, chips: u8, first: usize, lines: usize, x1: u8) {
+fn searches(
+    rt: &impl Print,
+    set_type: u8,
+    chips: u8,
+    first: usize,
+    lines: usize,
+    x1: u8,
+) -> io::Result<()> {
     if 40 < first {
-        return;
+        return Ok(());
     }
     if 40 < lines {
-        return;
+        return Ok(());
     }
     let slot = with(
         with(with(with(sample(), 2, set_type), 5, chips), 7, 1),
@@ -308,47 +327,50 @@ fn searches(set_type: u8, chips: u8, first: usize, lines: usize, x1: u8) {
         0,
     );
     let decoded = description_record::decode(&bonded);
-    say(b"address search");
-    say_verdict(address_taken(decoded.description));
-    say(b"select search");
-    say_verdict(cs_pins::in_domain(decoded.description));
+    say(rt, b"address search")?;
+    say_verdict(rt, address_taken(decoded.description))?;
+    say(rt, b"select search")?;
+    say_verdict(rt, cs_pins::in_domain(decoded.description))
 }
 
-fn say_layout(layout: AddrLayout) {
+fn say_layout(rt: &impl Print, layout: AddrLayout) -> io::Result<()> {
     let gpios = layout.gpios;
-    say(b"third line at ");
-    say_number(gpios[2] as u64);
-    say(b", score ");
-    say_number(layout.num_addr_pins as u64 * 1000 + layout.gpio_base as u64);
-    say(b"\n");
+    say(rt, b"third line at ")?;
+    say_number(rt, gpios[2] as u64)?;
+    say(rt, b", score ")?;
+    say_number(
+        rt,
+        layout.num_addr_pins as u64 * 1000 + layout.gpio_base as u64,
+    )?;
+    say(rt, b"\n")
 }
 
 // The sample with three address lines, the third with a second candidate.
-fn three_lines(first: u8, second: u8, third: u8, or: u8) {
+fn three_lines(rt: &impl Print, first: u8, second: u8, third: u8, or: u8) -> io::Result<()> {
     let few = with(with(with(sample(), 140, 3), 52, first), 54, second);
     let decoded = description_record::decode(&with(with(few, 56, third), 57, or));
     let answer = derive_addr_layout(decoded.description);
     let outcome = answer.outcome;
     match outcome {
-        AddrOutcome::LaidOut => say_layout(answer.layout),
-        AddrOutcome::Refused(r) => say_refusal(r),
+        AddrOutcome::LaidOut => say_layout(rt, answer.layout),
+        AddrOutcome::Refused(r) => say_refusal(rt, r),
     }
 }
 
-fn say_ignore_index(layout: CsDataLayout) {
+fn say_ignore_index(rt: &impl Print, layout: CsDataLayout) -> io::Result<()> {
     let index = layout.cs_ignore_index;
     match index {
-        IgnoreIndex::None => say(b"no ignore index\n"),
+        IgnoreIndex::None => say(rt, b"no ignore index\n"),
         IgnoreIndex::At(k) => {
-            say(b"ignore index ");
-            say_number(k as u64);
-            say(b"\n");
+            say(rt, b"ignore index ")?;
+            say_number(rt, k as u64)?;
+            say(rt, b"\n")
         }
     }
 }
 
 // The sample with ce and oe at two GPIOs, changed further by the caller.
-fn two_selects(b: [u8; 424], ce: u8, oe: u8) {
+fn two_selects(rt: &impl Print, b: [u8; 424], ce: u8, oe: u8) -> io::Result<()> {
     let decoded = description_record::decode(&with(with(b, 124, ce), 126, oe));
     let none = GivenLayout {
         given: false,
@@ -357,8 +379,8 @@ fn two_selects(b: [u8; 424], ce: u8, oe: u8) {
     let answer = derive_cs_data_layout(decoded.description, none);
     let outcome = answer.outcome;
     match outcome {
-        CsDataOutcome::LaidOut => say_ignore_index(answer.layout),
-        CsDataOutcome::Refused(r) => say_refusal(r),
+        CsDataOutcome::LaidOut => say_ignore_index(rt, answer.layout),
+        CsDataOutcome::Refused(r) => say_refusal(rt, r),
     }
 }
 
@@ -388,22 +410,29 @@ fn data_lines(gpios: [u8; 16]) -> CsDataLayout {
     c
 }
 
-fn say_byte(byte: u8) {
-    say_number(byte as u64);
+fn say_byte(rt: &impl Print, byte: u8) -> io::Result<()> {
+    say_number(rt, byte as u64)
 }
 
-fn say_entry(table: &[u8], index: usize) {
+fn say_entry(rt: &impl Print, table: &[u8], index: usize) -> io::Result<()> {
     if index < table.len() {
-        say(b"entry ");
-        say_number(index as u64);
-        say(b": ");
-        say_byte(table[index]);
-        say(b"\n");
+        say(rt, b"entry ")?;
+        say_number(rt, index as u64)?;
+        say(rt, b": ")?;
+        say_byte(rt, table[index])?;
+        say(rt, b"\n")?;
     }
+    Ok(())
 }
 
 // The sample with a chip of `size` bytes.
-fn one_entry(size: u8, gpios: [u8; 16], bytes: &[u8], index: usize) {
+fn one_entry(
+    rt: &impl Print,
+    size: u8,
+    gpios: [u8; 16],
+    bytes: &[u8],
+    index: usize,
+) -> io::Result<()> {
     let decoded = description_record::decode(&with(with(sample(), 136, size), 138, 0));
     let chip = ImageSpan {
         present: true,
@@ -419,39 +448,39 @@ fn one_entry(size: u8, gpios: [u8; 16], bytes: &[u8], index: usize) {
         spans: [chip; 4],
     };
     match build_rom_image(ByteOrder::LowFirst, args, bytes, &mut table) {
-        Answer::Done => say_entry(&table, index),
-        Answer::Refused(r) => say_refusal(r),
+        Answer::Done => say_entry(rt, &table, index),
+        Answer::Refused(r) => say_refusal(rt, r),
     }
 }
 
-fn main() {
-    board();
-    package();
-    numbers();
-    settings();
-    multi();
-    chips();
-    say(b"two-candidate pins\n");
-    searches(0, 1, 1, 16, 4);
-    searches(0, 1, 1, 17, 255);
-    searches(1, 2, 1, 16, 255);
-    searches(1, 2, 1, 16, 4);
-    searches(0, 1, 21, 16, 4);
-    searches(0, 1, 21, 17, 255);
-    searches(2, 2, 22, 15, 4);
-    searches(2, 2, 21, 16, 4);
-    searches(2, 1, 21, 16, 4);
-    say(b"address search\n");
-    three_lines(45, 46, 47, 255);
-    three_lines(8, 15, 9, 10);
-    say(b"select search\n");
-    two_selects(sample(), 18, 20);
-    two_selects(sample(), 18, 21);
-    two_selects(multi_sample(), 18, 20);
-    say(b"build\n");
+fn main(rt: HostRuntime) -> io::Result<()> {
+    board(&rt)?;
+    package(&rt)?;
+    numbers(&rt)?;
+    settings(&rt)?;
+    multi(&rt)?;
+    chips(&rt)?;
+    say(&rt, b"two-candidate pins\n")?;
+    searches(&rt, 0, 1, 1, 16, 4)?;
+    searches(&rt, 0, 1, 1, 17, 255)?;
+    searches(&rt, 1, 2, 1, 16, 255)?;
+    searches(&rt, 1, 2, 1, 16, 4)?;
+    searches(&rt, 0, 1, 21, 16, 4)?;
+    searches(&rt, 0, 1, 21, 17, 255)?;
+    searches(&rt, 2, 2, 22, 15, 4)?;
+    searches(&rt, 2, 2, 21, 16, 4)?;
+    searches(&rt, 2, 1, 21, 16, 4)?;
+    say(&rt, b"address search\n")?;
+    three_lines(&rt, 45, 46, 47, 255)?;
+    three_lines(&rt, 8, 15, 9, 10)?;
+    say(&rt, b"select search\n")?;
+    two_selects(&rt, sample(), 18, 20)?;
+    two_selects(&rt, sample(), 18, 21)?;
+    two_selects(&rt, multi_sample(), 18, 20)?;
+    say(&rt, b"build\n")?;
     let reversed = [7u8, 6, 5, 4, 3, 2, 1, 0, 0, 0, 0, 0, 0, 0, 0, 0];
     let in_order = [0u8, 1, 2, 3, 4, 5, 6, 7, 0, 0, 0, 0, 0, 0, 0, 0];
-    one_entry(1, reversed, b"\xAA", 0);
-    one_entry(3, in_order, b"\x10\x11\x12", 3);
-    one_entry(2, in_order, b"\x10\x11\x12", 3);
+    one_entry(&rt, 1, reversed, b"\xAA", 0)?;
+    one_entry(&rt, 3, in_order, b"\x10\x11\x12", 3)?;
+    one_entry(&rt, 2, in_order, b"\x10\x11\x12", 3)
 }

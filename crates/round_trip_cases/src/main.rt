@@ -19,6 +19,7 @@ use slot::description::{
     Board, Chip, ChipSetType, ControlLine, ControlLines, CsConfig, CsLogic, Description,
     MultiCsConfig, Package, Setting,
 };
+use std::io;
 use std::num::wrapping_add_u8;
 use wired::well_wired;
 use words::ByteOrder;
@@ -293,36 +294,36 @@ fn marked(case: Case, marks: &[u8]) -> bool {
     each(marks, 0, n, 1) & each(marks, n, 1024, JUNK)
 }
 
-fn say_verdict(case: Case, ok: bool) {
+fn say_verdict(rt: &impl Print, case: Case, ok: bool) -> io::Result<()> {
     if ok {
-        say(b", reads back, ");
-        say_number(all_words(case) as u64);
-        say(b" words\n");
+        say(rt, b", reads back, ")?;
+        say_number(rt, all_words(case) as u64)?;
+        say(rt, b" words\n")
     } else {
-        say(b", DIFFERS\n");
+        say(rt, b", DIFFERS\n")
     }
 }
 
-fn say_refusal(why: Refusal) {
-    say(b", REFUSED ");
-    say_number(why.number() as u64);
-    say(b"\n");
+fn say_refusal(rt: &impl Print, why: Refusal) -> io::Result<()> {
+    say(rt, b", REFUSED ")?;
+    say_number(rt, why.number() as u64)?;
+    say(rt, b"\n")
 }
 
 // Whether demand 3's premises hold of the slot, of its address layout and of the buffers.
-fn say_wiring(d: Description) {
+fn say_wiring(rt: &impl Print, d: Description) -> io::Result<()> {
     let found = derive_addr_layout(d);
     if well_wired(d, found.layout) & has_room(d, found.layout, 2048, 1024) {
-        say(b": well wired");
+        say(rt, b": well wired")
     } else {
-        say(b": NOT WELL WIRED");
+        say(rt, b": NOT WELL WIRED")
     }
 }
 
-fn run(name: &[u8], case: Case) {
+fn run(rt: &impl Print, name: &[u8], case: Case) -> io::Result<()> {
     let slot = description(case);
-    say(name);
-    say_wiring(slot);
+    say(rt, name)?;
+    say_wiring(rt, slot)?;
     let mut images = [0u8; 2048];
     fill(&mut images);
     let mut table = [JUNK; 4096];
@@ -337,18 +338,27 @@ fn run(name: &[u8], case: Case) {
         &mut output,
         &mut marks,
     ) {
-        Answer::Refused(why) => say_refusal(why),
+        Answer::Refused(why) => say_refusal(rt, why),
         Answer::Done => {
             say_verdict(
+                rt,
                 case,
                 chips_read(case, &images, &output) & marked(case, &marks),
-            );
+            )
         }
     }
 }
 
-fn single(name: &[u8], word_bytes: u8, lines: u8, size: u16, limit: u32) {
+fn single(
+    rt: &impl Print,
+    name: &[u8],
+    word_bytes: u8,
+    lines: u8,
+    size: u16,
+    limit: u32,
+) -> io::Result<()> {
     run(
+        rt,
         name,
         Case {
             set_type: ChipSetType::Single,
@@ -359,12 +369,20 @@ fn single(name: &[u8], word_bytes: u8, lines: u8, size: u16, limit: u32) {
             limit,
             pins: 40,
         },
-    );
+    )
 }
 
 // Chip 0 of 256 words.
-fn set(name: &[u8], set_type: ChipSetType, chips: u8, word_bytes: u8, pins: u8) {
+fn set(
+    rt: &impl Print,
+    name: &[u8],
+    set_type: ChipSetType,
+    chips: u8,
+    word_bytes: u8,
+    pins: u8,
+) -> io::Result<()> {
     run(
+        rt,
         name,
         Case {
             set_type,
@@ -375,26 +393,33 @@ fn set(name: &[u8], set_type: ChipSetType, chips: u8, word_bytes: u8, pins: u8) 
             limit: 8192,
             pins,
         },
-    );
+    )
 }
 
-fn main() {
-    single(b"Single, w 1", 1, 8, 256, 8192);
-    single(b"Single, w 1, 201 bytes", 1, 8, 201, 8192);
-    single(b"Single, w 1, 2 excess lines", 1, 10, 1024, 256);
-    single(b"Single, w 2", 2, 8, 512, 8192);
-    single(b"Single, w 2, 401 bytes", 2, 8, 401, 8192);
-    single(b"Single, w 2, 2 excess lines", 2, 10, 2048, 512);
-    set(b"Banked of 2, w 1", ChipSetType::Banked, 2, 1, 40);
-    set(b"Banked of 3, w 1", ChipSetType::Banked, 3, 1, 40);
-    set(b"Banked of 4, w 1", ChipSetType::Banked, 4, 1, 40);
-    set(b"Banked of 2, w 2", ChipSetType::Banked, 2, 2, 40);
-    set(b"Banked of 3, w 2", ChipSetType::Banked, 3, 2, 40);
-    set(b"Banked of 4, w 2", ChipSetType::Banked, 4, 2, 40);
-    set(b"Multi of 2, w 1", ChipSetType::Multi, 2, 1, 40);
-    set(b"Multi of 3, w 1", ChipSetType::Multi, 3, 1, 40);
-    set(b"Multi of 2, w 2", ChipSetType::Multi, 2, 2, 40);
-    set(b"Multi of 3, w 2", ChipSetType::Multi, 3, 2, 40);
-    set(b"Single, w 1, 28 pins", ChipSetType::Single, 1, 1, 28);
-    set(b"Multi of 3, w 2, 28 pins", ChipSetType::Multi, 3, 2, 28);
+fn main(rt: HostRuntime) -> io::Result<()> {
+    single(&rt, b"Single, w 1", 1, 8, 256, 8192)?;
+    single(&rt, b"Single, w 1, 201 bytes", 1, 8, 201, 8192)?;
+    single(&rt, b"Single, w 1, 2 excess lines", 1, 10, 1024, 256)?;
+    single(&rt, b"Single, w 2", 2, 8, 512, 8192)?;
+    single(&rt, b"Single, w 2, 401 bytes", 2, 8, 401, 8192)?;
+    single(&rt, b"Single, w 2, 2 excess lines", 2, 10, 2048, 512)?;
+    set(&rt, b"Banked of 2, w 1", ChipSetType::Banked, 2, 1, 40)?;
+    set(&rt, b"Banked of 3, w 1", ChipSetType::Banked, 3, 1, 40)?;
+    set(&rt, b"Banked of 4, w 1", ChipSetType::Banked, 4, 1, 40)?;
+    set(&rt, b"Banked of 2, w 2", ChipSetType::Banked, 2, 2, 40)?;
+    set(&rt, b"Banked of 3, w 2", ChipSetType::Banked, 3, 2, 40)?;
+    set(&rt, b"Banked of 4, w 2", ChipSetType::Banked, 4, 2, 40)?;
+    set(&rt, b"Multi of 2, w 1", ChipSetType::Multi, 2, 1, 40)?;
+    set(&rt, b"Multi of 3, w 1", ChipSetType::Multi, 3, 1, 40)?;
+    set(&rt, b"Multi of 2, w 2", ChipSetType::Multi, 2, 2, 40)?;
+    set(&rt, b"Multi of 3, w 2", ChipSetType::Multi, 3, 2, 40)?;
+    set(&rt, b"Single, w 1, 28 pins", ChipSetType::Single, 1, 1, 28)?;
+    set(
+        &rt,
+        b"Multi of 3, w 2, 28 pins",
+        ChipSetType::Multi,
+        3,
+        2,
+        28,
+    )
 }

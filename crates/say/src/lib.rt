@@ -9,23 +9,23 @@ ghost use Rattle.say.specs.Line.{RefusalLine};
 ghost use Rattle.say.specs.Design.Grown.{Grown};
 
 use io::decimal;
-use libc::STDOUT_FILENO;
 use refusal::Refusal;
+use std::io::Error;
 
-pub fn say(text: &[u8]) {
-    io::write_all(STDOUT_FILENO, text);
+pub fn say(rt: &impl Print, text: &[u8]) -> Result<(), Error> {
+    rt.write_all(text)
 }
 
 // A number in decimal.
-pub fn say_number(n: u64) {
-    io::print_decimal(STDOUT_FILENO, n);
+pub fn say_number(rt: &impl Print, n: u64) -> Result<(), Error> {
+    rt.print(n)
 }
 
 // A refusal's number and place, as a line.
-pub fn say_refusal(r: Refusal) {
+pub fn say_refusal(rt: &impl Print, r: Refusal) -> Result<(), Error> {
     let mut line = [0u8; 64];
     let n = refusal_line(r, &mut line);
-    say(&line[..n]);
+    say(rt, &line[..n])
 }
 
 // Makes that line at the front of a buffer, and answers how long it is.
