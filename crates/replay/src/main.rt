@@ -18,8 +18,9 @@ mod layouts; // the numbers of both layouts
 ghost use Rattle.std.specs.Prelude.{◌<◌};
 
 use crate::line::Line;
-use libc::STDIN_FILENO;
 use say::say;
+use std::io;
+use std::io::Read;
 
 // What a read leaves: the line that has not ended yet, and whether more may come.
 #[derive(Clone, Copy)]
@@ -29,56 +30,82 @@ struct Step {
 }
 
 // A line has ended: its verdict is counted, and the next line begins.
-fn ended(line: Line, numbers: &mut [u64], cases: &mut [u64], differ: &mut [u64]) -> Line {
+fn ended(
+    rt: &impl Print,
+    line: Line,
+    numbers: &mut [u64],
+    cases: &mut [u64],
+    differ: &mut [u64],
+) -> io::Result<Line> {
     let whole = line.closed(numbers);
     let verdict = verdict::of(whole, numbers);
-    tally::add(verdict, whole.place, cases, differ);
-    whole.next()
+    tally::add(rt, verdict, whole.place, cases, differ)?;
+    Ok(whole.next())
 }
 
 // The end of the list. A last line without a line end counts too.
-fn finish(line: Line, numbers: &mut [u64], cases: &mut [u64], differ: &mut [u64]) {
+fn finish(
+    rt: &impl Print,
+    line: Line,
+    numbers: &mut [u64],
+    cases: &mut [u64],
+    differ: &mut [u64],
+) -> io::Result<()> {
     if line.begun() {
-        ended(line, numbers, cases, differ);
+        ended(rt, line, numbers, cases, differ)?;
     }
+    Ok(())
 }
 
 // One byte of the list.
-fn byte(line: Line, b: u8, numbers: &mut [u64], cases: &mut [u64], differ: &mut [u64]) -> Line {
+fn byte(
+    rt: &impl Print,
+    line: Line,
+    b: u8,
+    numbers: &mut [u64],
+    cases: &mut [u64],
+    differ: &mut [u64],
+) -> io::Result<Line> {
     if b == b'\n' {
-        return ended(line, numbers, cases, differ);
+        return ended(rt, line, numbers, cases, differ);
     }
-    line.taken(b, numbers)
+    Ok(line.taken(b, numbers))
 }
 
 // The bytes of one read.
 fn bytes(
+    rt: &impl Print,
     line: Line,
     some: &[u8],
     numbers: &mut [u64],
     cases: &mut [u64],
     differ: &mut [u64],
-) -> Line {
+) -> io::Result<Line> {
     let mut l = line;
     let mut k: usize = 0;
     while k < some.len() {
-        l = byte(l, some[k], numbers, cases, differ);
+        l = byte(rt, l, some[k], numbers, cases, differ)?;
         k += 1;
     }
-    l
+    Ok(l)
 }
 
-fn read_some(line: Line, numbers: &mut [u64], cases: &mut [u64], differ: &mut [u64]) -> Step {
-    let mut buf = io::large_buffer();
-    let got = libc::read(STDIN_FILENO, &mut buf);
-    if got < 0 {
-        say(b"the list cannot be read\n");
+// Where a read fails the list ends.
+fn read_some(
+    rt: &(impl Input + Print),
+    line: Line,
+    numbers: &mut [u64],
+    cases: &mut [u64],
+    differ: &mut [u64],
+) -> io::Result<Step> {
+    let mut buf = [0u8; 65536];
+    let mut n = 0;
+    match rt.reader().read(&mut buf) {
+        Ok(got) => n = got,
+        Err(_) => say(rt, b"the list cannot be read\n")?,
     }
-    let n = io::count(got, &buf);
-    Step {
-        line: bytes(line, &buf[..n], numbers, cases, differ),
-        more: 0 < n,
-    }
+    let line = bytes(rt, line, &buf[..n], numbers, cases, differ)?;
+    Ok(Step { line, more: 0 < n })
 }
 
 // One turn fewer, and none once the input has ended.
@@ -91,21 +118,26 @@ fn left(turns: u64, more: bool) -> u64
 
 // Reads to the end. A proved loop has to end, and nothing says that the input does: so it counts its turns down, from a
 // number that no run uses up.
-fn replay(numbers: &mut [u64], cases: &mut [u64], differ: &mut [u64]) {
+fn replay(
+    rt: &(impl Input + Print),
+    numbers: &mut [u64],
+    cases: &mut [u64],
+    differ: &mut [u64],
+) -> io::Result<()> {
     let mut line = Line::first();
     let mut turns = u64::MAX;
     while 0 < turns {
-        let step = read_some(line, numbers, cases, differ);
+        let step = read_some(rt, line, numbers, cases, differ)?;
         line = step.line;
         turns = left(turns, step.more);
     }
-    finish(line, numbers, cases, differ);
+    finish(rt, line, numbers, cases, differ)
 }
 
-fn main() {
+fn main(rt: HostRuntime) -> io::Result<()> {
     let mut numbers = [0u64; 1024];
     let mut cases = [0u64; 10];
     let mut differ = [0u64; 10];
-    replay(&mut numbers, &mut cases, &mut differ);
-    tally::report(&cases, &differ);
+    replay(&rt, &mut numbers, &mut cases, &mut differ)?;
+    tally::report(&rt, &cases, &differ)
 }

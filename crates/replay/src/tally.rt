@@ -3,6 +3,7 @@
 use crate::verdict::Verdict;
 use case_numbers::case::number_at;
 use say::{say, say_number};
+use std::io;
 use std::num::wrapping_add_u64;
 
 const LAST_KIND: usize = 7;
@@ -16,13 +17,19 @@ fn count(counts: &mut [u64], kind: usize) {
     }
 }
 
-fn name(place: u64) {
-    say(b"line ");
-    say_number(place);
-    say(b" differs\n");
+fn name(rt: &impl Print, place: u64) -> io::Result<()> {
+    say(rt, b"line ")?;
+    say_number(rt, place)?;
+    say(rt, b" differs\n")
 }
 
-pub(crate) fn add(verdict: Verdict, place: u64, cases: &mut [u64], differ: &mut [u64]) {
+pub(crate) fn add(
+    rt: &impl Print,
+    verdict: Verdict,
+    place: u64,
+    cases: &mut [u64],
+    differ: &mut [u64],
+) -> io::Result<()> {
     match verdict {
         Verdict::Same(kind) => count(cases, kind as usize),
         Verdict::Differs(kind) => {
@@ -30,30 +37,31 @@ pub(crate) fn add(verdict: Verdict, place: u64, cases: &mut [u64], differ: &mut 
             count(differ, kind as usize);
             count(differ, 0);
             if number_at(differ, 0) <= SHOWN {
-                name(place);
+                return name(rt, place);
             }
         }
         Verdict::Unread => count(cases, 0),
     }
+    Ok(())
 }
 
-fn report_kind(cases: &[u64], differ: &[u64], kind: usize) {
-    say(b"kind ");
-    say_number(kind as u64);
-    say(b": ");
-    say_number(number_at(cases, kind));
-    say(b" cases, ");
-    say_number(number_at(differ, kind));
-    say(b" differ\n");
+fn report_kind(rt: &impl Print, cases: &[u64], differ: &[u64], kind: usize) -> io::Result<()> {
+    say(rt, b"kind ")?;
+    say_number(rt, kind as u64)?;
+    say(rt, b": ")?;
+    say_number(rt, number_at(cases, kind))?;
+    say(rt, b" cases, ")?;
+    say_number(rt, number_at(differ, kind))?;
+    say(rt, b" differ\n")
 }
 
-pub(crate) fn report(cases: &[u64], differ: &[u64]) {
+pub(crate) fn report(rt: &impl Print, cases: &[u64], differ: &[u64]) -> io::Result<()> {
     let mut kind: usize = 1;
     while kind <= LAST_KIND {
-        report_kind(cases, differ, kind);
+        report_kind(rt, cases, differ, kind)?;
         kind += 1;
     }
-    say(b"unread: ");
-    say_number(number_at(cases, 0));
-    say(b"\n");
+    say(rt, b"unread: ")?;
+    say_number(rt, number_at(cases, 0))?;
+    say(rt, b"\n")
 }
