@@ -1,2 +1,0 @@
--- Proof laws of this crate.
-pub mod Kept
