@@ -33,7 +33,7 @@ FirstOf Absent g = ⊥
 FirstOf (One a) g = g ≡ a
 FirstOf (Two a b) g = g ≡ a
 
--- 01 addr_layout 8: a GPIO that is spanned: the one picked for an in_range_lem line or for an X pin behind the lines; in Multi, also
+-- 01 addr_layout 8: a GPIO that is spanned: the one picked for an in-range line or for an X pin behind the lines; in Multi, also
 -- the one that comes first among the candidates of the select line or of a commoned line
 pub data Spanned (d : Description) (pick : ℕ → ℕ) (g : ℕ) : Type 0 where
   of_pin : (k : ℕ) → k < length (addr_listed d) → spanned (spanning_of d) k ≡ true → g ≡ pick k → Spanned d pick g

@@ -120,7 +120,7 @@ description_in d = slot_in d && package_in d.«package» d.board
 abbrev pub qualifier_gpio : List ℕ → List ℕ → ℕ → ℕ
 qualifier_gpio qualifiers gpios k = get_or gpios (get_or qualifiers k 0) 0
 
--- 01 Domain 10: the index of qualifier k is one of an in_range_lem line, and its GPIO is at most 7 above that of any other
+-- 01 Domain 10: the index of qualifier k is one of an in-range line, and its GPIO is at most 7 above that of any other
 unfoldable pub qualifier_in : List ℕ → ℕ → List ℕ → ℕ → ℕ → Bool
 qualifier_in qualifiers n gpios lines k =
     ltb (get_or qualifiers k 0) lines && each n (λ j. leb (qualifier_gpio qualifiers gpios k) (qualifier_gpio qualifiers gpios j + 7))
