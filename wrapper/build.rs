@@ -9,6 +9,9 @@ use std::thread;
 
 const LIBRARY: &str = "onerom";
 
+/// The crate whose functions are the library's.
+const EXPORTS: &str = "onerom_c";
+
 fn main() {
     println!("cargo:rerun-if-changed=build.rs");
     for name in ["ONEROM_ARCHIVE", "ONEROM_ROOT"] {
@@ -60,45 +63,30 @@ fn ready(place: PathBuf) -> PathBuf {
     place
 }
 
-/// The archive of the library, proved and built from the sources below `root`. What it stands on is
-/// proved first, some crates at a time; `rt` proves none again that has not changed.
+/// The archive of the library, proved and built from the sources below `root`. `rt` proves what it
+/// stands on first, and none again that has not changed.
 fn built(root: &Path) -> PathBuf {
     for sources in ["crates.txt", "crates"] {
         println!("cargo:rerun-if-changed={}", root.join(sources).display());
     }
-    let below = stands_on(root);
-    if !below.is_empty() {
-        run(root, "check", &below);
-    }
-    run(root, "staticlib", &[LIBRARY.to_string()]);
-    root.join("target/staticlib").join(archive_name())
+    let folder = root.join("crates").join(EXPORTS);
+    prove(&folder);
+    folder.join("out").join(format!("lib{EXPORTS}.a"))
 }
 
-/// The crates that the library's line in crates.txt names.
-fn stands_on(root: &Path) -> Vec<String> {
-    let list = root.join("crates.txt");
-    let text =
-        fs::read_to_string(&list).unwrap_or_else(|why| stop(&format!("{}: {why}", list.display())));
-    let mut lines = text.lines().filter_map(|line| line.split_once(':'));
-    let own = lines.find(|(name, _)| name.trim() == LIBRARY);
-    let named = own.map_or("", |(_, named)| named);
-    named.split_whitespace().map(String::from).collect()
-}
-
-/// Has `rt` do something, and shows what it proves.
-fn run(root: &Path, what: &str, names: &[String]) {
+/// Has `rt` build the static library in this folder, and shows what it proves.
+fn prove(folder: &Path) {
     let started = Command::new("rt")
-        .arg(what)
-        .args(names)
-        .current_dir(root)
+        .arg("lib")
+        .current_dir(folder)
         .stdin(Stdio::null())
         .stdout(Stdio::piped())
         .stderr(Stdio::piped())
         .spawn();
     let mut running = started.unwrap_or_else(|why| {
         stop(&match why.kind() {
-            ErrorKind::NotFound if root.is_dir() => NO_RT.into(),
-            _ => format!("`rt` in {}: {why}", root.display()),
+            ErrorKind::NotFound if folder.is_dir() => NO_RT.into(),
+            _ => format!("`rt` in {}: {why}", folder.display()),
         })
     });
     let errors = running
@@ -108,9 +96,9 @@ fn run(root: &Path, what: &str, names: &[String]) {
     let said = running.stdout.take().map_or(String::new(), shown);
     let wrong = errors.map_or(String::new(), |errors| errors.join().unwrap_or_default());
     if !running.wait().is_ok_and(|status| status.success()) {
-        let (place, names) = (root.display(), names.join(" "));
+        let place = folder.display();
         stop(&format!(
-            "`rt {what} {names}` in {place} did not succeed:\n{said}{wrong}"
+            "`rt lib` in {place} did not succeed:\n{said}{wrong}"
         ));
     }
 }
@@ -118,7 +106,7 @@ fn run(root: &Path, what: &str, names: &[String]) {
 const NO_RT: &str = "`rt` is not on the path. Rattle's toolchain proves the library and builds it; \
     put its bin folder on the path and build again, or name a ready archive in ONEROM_ARCHIVE";
 
-/// What is said, read to its end. Lines that name a crate which is proved just now go to the
+/// What is said, read to its end. The name of each crate that was checked just now goes to the
 /// terminal meanwhile, if there is one: cargo shows a build script's output only when it fails, and
 /// proofs take minutes.
 fn shown(said: impl Read) -> String {
@@ -126,10 +114,12 @@ fn shown(said: impl Read) -> String {
     let mut text = String::new();
     for line in BufReader::new(said).split(b'\n').map_while(Result::ok) {
         let line = String::from_utf8_lossy(&line);
-        let is_news = line.starts_with("rt: ") && !line.contains("unchanged");
-        if let Some(terminal) = terminal.as_mut().filter(|_| is_news) {
+        let checked = line
+            .strip_prefix("crate ")
+            .and_then(|line| line.split_once(':'));
+        if let (Some(terminal), Some((name, _))) = (terminal.as_mut(), checked) {
             // A terminal that is gone keeps nobody from building.
-            let _ = writeln!(terminal, "\r\x1b[K{line}");
+            let _ = writeln!(terminal, "\r\x1b[Kchecked {name}");
         }
         text += &line;
         text.push('\n');
@@ -141,7 +131,8 @@ fn archive_name() -> String {
     format!("lib{LIBRARY}.a")
 }
 
-/// Takes a copy of the archive: the gate clears the folder in which `rt` leaves it.
+/// Takes a copy of the archive, under the library's name: the gate clears the folder in which `rt`
+/// leaves it.
 fn keep(archive: &Path, out: &Path) {
     if let Err(why) = fs::copy(archive, out.join(archive_name())) {
         stop(&format!("{}: {why}", archive.display()));

@@ -1,5 +1,5 @@
-// The C interface: calls on numbers and byte slices. docs/INTERFACE.md has the records byte by byte and each call's answers;
-// include/onerom.h declares the calls for C.
+// The calls of the C interface, on numbers and byte slices: onerom_c hands each on to C. docs/INTERFACE.md has the records byte by byte
+// and each call's answers; include/onerom.h declares the calls for C.
 #![tactic(auto)]
 
 mod page; // the pin page
@@ -27,8 +27,7 @@ use search_calls::{addr, cs_data};
 use table_calls::{build, read_back};
 
 // Finds the address layout of the slot that the record describes, and writes it as a record.
-#[unsafe(no_mangle)]
-pub extern "C" fn onerom_derive_addr_layout(description: &[u8], layout: &mut [u8]) -> u64
+pub fn onerom_derive_addr_layout(description: &[u8], layout: &mut [u8]) -> u64
     ensures { returned result layout.new ≡ search_result (addr_call description.now layout.old) }
 {
     if !description_record::formed(description) {
@@ -40,8 +39,7 @@ pub extern "C" fn onerom_derive_addr_layout(description: &[u8], layout: &mut [u8
 
 // Finds the select and data layout of the slot that the record describes, with an address layout or, by no bytes, without
 // one, and writes it as a record.
-#[unsafe(no_mangle)]
-pub extern "C" fn onerom_derive_cs_data_layout(
+pub fn onerom_derive_cs_data_layout(
     description: &[u8],
     addr_layout: &[u8],
     layout: &mut [u8],
@@ -61,8 +59,7 @@ pub extern "C" fn onerom_derive_cs_data_layout(
 
 // Builds the table of the slot that the record describes, from its layouts and the chips' bytes: `images` has them all, `spans` says
 // where in it each chip's stand, and `order` which byte of their words comes first.
-#[unsafe(no_mangle)]
-pub extern "C" fn onerom_build_rom_image(
+pub fn onerom_build_rom_image(
     description: &[u8],
     addr_layout: &[u8],
     cs_data_layout: &[u8],
@@ -98,8 +95,7 @@ pub extern "C" fn onerom_build_rom_image(
 
 // Reads back the slot that the record stores, from its table: each ROM's words, chip after chip, their bytes in the order asked for, and
 // a mark for each word.
-#[unsafe(no_mangle)]
-pub extern "C" fn onerom_unscramble_slot(
+pub fn onerom_unscramble_slot(
     slot: &[u8],
     stored: &[u8],
     order: u64,
@@ -117,8 +113,7 @@ pub extern "C" fn onerom_unscramble_slot(
 
 // Makes both layouts, the table and its read-back in turn. `images` has the chips' bytes in one order, and `spans` says where in it each
 // chip's stand.
-#[unsafe(no_mangle)]
-pub extern "C" fn onerom_round_trip(
+pub fn onerom_round_trip(
     description: &[u8],
     spans: &[u8],
     images: &[u8],
@@ -155,8 +150,7 @@ pub extern "C" fn onerom_round_trip(
 }
 
 // Tests whether the slot that the record describes is well wired, with the address layout that was found: 0 if it is, 1 if not.
-#[unsafe(no_mangle)]
-pub extern "C" fn onerom_well_wired(description: &[u8], addr_layout: &[u8]) -> u64
+pub fn onerom_well_wired(description: &[u8], addr_layout: &[u8]) -> u64
     ensures { result ≡ wired_call description.now addr_layout.now }
 {
     if !addr_record::formed(addr_layout) {
@@ -171,36 +165,28 @@ pub extern "C" fn onerom_well_wired(description: &[u8], addr_layout: &[u8]) -> u
 }
 
 // Reads an Intel HEX text into a chip, which is the whole lent slice.
-#[unsafe(no_mangle)]
-pub extern "C" fn onerom_read_hex(text: &[u8], chip: &mut [u8]) -> u64
+pub fn onerom_read_hex(text: &[u8], chip: &mut [u8]) -> u64
     ensures { returned result chip.new ≡ read_hex_call text.now chip.old }
 {
     result(read_hex(text, chip))
 }
 
 // Writes a chip's bytes as an Intel HEX text, and returns its length.
-#[unsafe(no_mangle)]
-pub extern "C" fn onerom_write_hex(chip: &[u8], text: &mut [u8]) -> u64
+pub fn onerom_write_hex(chip: &[u8], text: &mut [u8]) -> u64
     ensures { returned result text.new ≡ write_hex_call chip.now text.old }
 {
     write_result(write_hex(chip, text))
 }
 
 // The line, from 1, of the first record at fault where a text is read into a chip of `chip_size` bytes; 0 where none is.
-#[unsafe(no_mangle)]
-pub extern "C" fn onerom_hex_fault_line(text: &[u8], chip_size: u64) -> u64
+pub fn onerom_hex_fault_line(text: &[u8], chip_size: u64) -> u64
     ensures { result ≡ fault_line text.now chip_size }
 {
     fault_line(text, chip_size as usize) as u64
 }
 
 // Writes the pin page of the layouts that the records give: the role of each GPIO, a row each. Returns its length.
-#[unsafe(no_mangle)]
-pub extern "C" fn onerom_write_page(
-    addr_layout: &[u8],
-    cs_data_layout: &[u8],
-    page: &mut [u8],
-) -> u64
+pub fn onerom_write_page(addr_layout: &[u8], cs_data_layout: &[u8], page: &mut [u8]) -> u64
     ensures { returned result page.new
         ≡ hex_write_result (page_call addr_layout.now cs_data_layout.now page.old) }
 {
