@@ -1,0 +1,26 @@
+-- `chip_select_logic` meets its contract: each arm is a row of the rule. Assumes nothing.
+use borrow.Author.Tests.{ne_eqb}
+use Rattle.control.specs.CsConfig.{chip_select_logic}
+use Rattle.control.proofs.cs_config.chip_select_logic.Goals as goal
+
+pub returns-in-2 : goal.returns-in-2
+unfolding chip_select_logic
+returns-in-2 c = rw c.in-2.keys1
+
+pub returns-in-3 : goal.returns-in-3
+unfolding chip_select_logic
+returns-in-3 c = rw c.in-3.keys2 c.given_or_low.ensures
+
+pub returns-in-4 : goal.returns-in-4
+unfolding chip_select_logic
+returns-in-4 c = rw c.in-4.keys3 c.given_or_low-in-4.ensures
+
+pub returns-in-5 : goal.returns-in-5
+unfolding chip_select_logic
+returns-in-5 c = rw c.in-5.keys4 c.given_or_low-in-5.ensures
+
+pub returns-in_default : goal.returns-in_default
+unfolding chip_select_logic
+returns-in_default c =
+    let r = c.in_default.rest in
+    rw (ne_eqb _ _ r.0.0.0.1, ne_eqb _ _ r.0.0.1, ne_eqb _ _ r.0.1, ne_eqb _ _ r.1)

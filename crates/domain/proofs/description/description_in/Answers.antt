@@ -1,0 +1,35 @@
+-- `description_in` meets its contract. Assumes nothing.
+use mathlib.Core.Path.{◌≡◌, sym, ◌∙◌, ap}
+use borrow.Author.Tests.{not-true, not-false}
+use mir.Syntax.{w8}
+use mir.Val.{to_z, of_z}
+use Rattle.slot.specs.SlotContext.{raised_of}
+use Rattle.domain.specs.Domain.{slot_in, description_in}
+use borrow.Author.Rules.{rules}
+use Rattle.domain.proofs.description.description_in.Goals.{Start}
+use Rattle.domain.proofs.description.description_in.Goals as goal
+
+
+-- the offset is a signed byte
+back : (s : Start) → to_z w8 (of_z w8 s.args.d.pin_offset) ≡ s.args.d.pin_offset
+back s = search rules
+
+pub returns-then-not-board_in : goal.returns-then-not-board_in
+unfolding description_in slot_in
+returns-then-not-board_in c = rw (sym c.board_in.ensures ∙ not-true _ c.if-not-board_in.true)
+
+pub returns : goal.returns
+unfolding description_in slot_in
+returns-then-not-board_in c =
+    let raised = c.before.before.before.before.before.before in
+    let left = raised.before.before.before.before.before.before in
+    let s = left.before.before.before in
+    let e : c.raised-offset_in.result ≡ raised_of left.args.d.pin_offset = c.raised-offset_in.ensures ∙ ap raised_of (back s) in
+    rw (
+      sym left.board_in.ensures ∙ not-false _ raised.if-not-board_in.false,
+      c.package_in.ensures,
+      c.chips_in.ensures,
+      e,
+      c.is_multi.ensures,
+      c.multi_in.ensures,
+    )
