@@ -26,6 +26,6 @@ returns-then-fits c =
 
 pub returns : goal.returns
 unfolding span_trial
-returns-then-n-gt48 c =
+returns c =
     let e = c.pins-n.ensures in
     rw (← e, sym c.fits2.ensures ∙ c.if-fits.false)

@@ -9,4 +9,4 @@ pub returns-then-before-eq1 : goal.returns-then-before-eq1
 returns-then-before-eq1 c = rw (ne_eqb _ _ c.if-before-eq0.false, eq-eqb _ _ c.if-before-eq1.true) c.x_listed-then-before-eq1.ensures
 
 pub returns : goal.returns
-returns-then-before-eq0 c = rw (ne_eqb _ _ c.if-before-eq0.false, ne_eqb _ _ c.if-before-eq1.false) c.pack.ensures
+returns c = rw (ne_eqb _ _ c.if-before-eq0.false, ne_eqb _ _ c.if-before-eq1.false) c.pack.ensures

@@ -6,4 +6,4 @@ pub returns-then-n-first : goal.returns-then-n-first
 returns-then-n-first c = rw (← c.chip0-chip.ensures, ← c.first_pin-first.ensures.value) (omega arith)
 
 pub returns : goal.returns
-returns-then-n-first c = rw (← c.chip0-chip.ensures, ← c.first_pin-first.ensures.value)
+returns c = rw (← c.chip0-chip.ensures, ← c.first_pin-first.ensures.value)

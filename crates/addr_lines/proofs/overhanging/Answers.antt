@@ -6,4 +6,4 @@ pub returns-then-is_single : goal.returns-then-is_single
 returns-then-is_single c = rw (sym c.is_single.ensures ∙ c.if-is_single.true, ← c.off_before.ensures) c.fly_lead.ensures
 
 pub returns : goal.returns
-returns-then-is_single c = rw (sym c.is_single.ensures ∙ c.if-is_single.false) c.pack.ensures
+returns c = rw (sym c.is_single.ensures ∙ c.if-is_single.false) c.pack.ensures

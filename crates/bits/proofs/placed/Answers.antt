@@ -10,4 +10,4 @@ returns-then-p-m c =
     rw (lt-ltb a.p a.m c.if-p-m.true, bit_shl a.b a.p (omega arith) (omega arith))
 
 pub returns : goal.returns
-returns-then-p-m c = rw (le-ltb _ _ c.if-p-m.false)
+returns c = rw (le-ltb _ _ c.if-p-m.false)

@@ -4,7 +4,7 @@ use Rattle.cs_checked.specs.Checked.{checked}
 use Rattle.cs_checked.proofs.pins_fault.Goals as goal
 
 pub returns : goal.returns
-returns-then-is_multi c = c.active_fault.ensures
+returns c = c.active_fault.ensures
 
 pub check_multi-requires : goal.check_multi-requires
 check_multi-requires c =

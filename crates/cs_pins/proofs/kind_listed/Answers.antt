@@ -10,5 +10,5 @@ returns-then-pin-eq0 c = rw (eq-eqb _ 0 (sym c.kind_pin-pin.ensures ∙ c.if-pin
 
 pub returns : goal.returns
 unfolding kind_listed
-returns-then-pin-eq0 c =
+returns c =
     rw (ne_eqb _ 0 (λ q. c.if-pin-eq0.false (c.kind_pin-pin.ensures ∙ q)), ← c.kind_pin-pin.ensures) c.pin_listed.ensures

@@ -36,7 +36,7 @@ returns-then-has_commoned c =
     )
 
 pub returns : goal.returns
-returns-then-has_commoned c =
+returns c =
     let d = c.args.d in (
       without d _ _ (sym c.is_multi-has_commoned.ensures ∙ c.if-has_commoned.false) c.list_data.ensures.0 c.list_selects-selects.ensures.0,
       omega (arith, c.list_selects-selects.ensures.1),

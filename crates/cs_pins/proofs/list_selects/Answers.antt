@@ -22,5 +22,5 @@ returns-then-is_multi c = (
 
 pub returns : goal.returns
 unfolding select_listed
-returns-then-is_multi c =
+returns c =
     (rw (sym c.is_multi.ensures ∙ c.if-is_multi.false) c.list_active.ensures.0, omega (arith, c.list_active.ensures.1))

@@ -46,7 +46,7 @@ returns-then-not-description_in c =
     }
 
 pub returns : goal.returns
-returns-then-not-description_in c =
+returns c =
     let e = sym c.description_in.ensures ∙ not-false _ c.if-not-description_in.false in
     let l = c.list-list.result in
     let long : length l.pins ≡ 30 = search (mapped_length, rules) in

@@ -19,6 +19,6 @@ returns-then-line_active c = (
   omega (arith, c.push_role.ensures.1),
 
 pub returns : goal.returns
-returns-then-line_active c =
+returns c =
     let a = c.args in
     (pushed_not (active a.d a.k) _ (roles_of a.r) (sym c.line_active.ensures ∙ c.if-line_active.false), omega arith)

@@ -21,4 +21,4 @@ returns-then-is_multi c =
 
 pub returns : goal.returns
 unfolding select_roles
-returns-then-is_multi c = (rw (sym c.is_multi.ensures ∙ c.if-is_multi.false) c.active_roles.ensures.0, c.active_roles.ensures.1)
+returns c = (rw (sym c.is_multi.ensures ∙ c.if-is_multi.false) c.active_roles.ensures.0, c.active_roles.ensures.1)

@@ -19,7 +19,7 @@ returns-then-not-both c =
     )
 
 pub returns : goal.returns
-returns-then-not-one c =
+returns c =
     let a = c.args in (
       pushed_both a.one a.both 6 7 (roles_of a.r) 6 7 _ _ (not-false a.one c.if-not-one.false) (not-false a.both c.if-not-both.false) refl c.push_role-with_x1.ensures.0 refl c.push_role.ensures.0,
       omega (arith, c.push_role-with_x1.ensures.1, c.push_role.ensures.1),

@@ -19,4 +19,4 @@ returns-then-gapless c =
     sym (select_gap_given _ _ _ _ (sym c.gapless.ensures ∙ c.if-gapless.true) (sym c.selectable.ensures ∙ c.if-selectable.false))
 
 pub returns : goal.returns
-returns-then-in_window c = sym (data_gap_given _ _ _ _ (sym c.gapless.ensures ∙ c.if-gapless.false))
+returns c = sym (data_gap_given _ _ _ _ (sym c.gapless.ensures ∙ c.if-gapless.false))

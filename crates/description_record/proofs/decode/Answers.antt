@@ -10,6 +10,6 @@ pub returns-then-formed : goal.returns-then-formed
 returns-then-formed c = rw (← c.formed.ensures, c.if-formed.true, c.description_at-description.ensures)
 
 pub returns : goal.returns
-returns-then-formed c =
+returns c =
     let p = c.before.before in
     rw (← p.formed.ensures, p.if-formed.false, c.description-description.ensures, c.padded-record.ensures, padded_same)

@@ -9,4 +9,4 @@ returns-then-map-eq16 c = rw (eq-eqb _ _ c.if-map-eq16.true, c.turned.ensures)
 
 pub returns : goal.returns
 unfolding ordered_map
-returns-then-map-eq16 c = rw (ne_eqb _ _ c.if-map-eq16.false)
+returns c = rw (ne_eqb _ _ c.if-map-eq16.false)

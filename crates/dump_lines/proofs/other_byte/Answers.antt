@@ -7,4 +7,4 @@ pub returns-then-k-lt8 : goal.returns-then-k-lt8
 returns-then-k-lt8 c = record { value = rw (lt-ltb _ _ c.if-k-lt8.true); upper_bound = omega arith }
 
 pub returns : goal.returns
-returns-then-k-lt8 c = record { value = rw (le-ltb _ _ c.if-k-lt8.false); upper_bound = omega arith }
+returns c = record { value = rw (le-ltb _ _ c.if-k-lt8.false); upper_bound = omega arith }

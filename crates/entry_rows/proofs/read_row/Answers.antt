@@ -189,6 +189,6 @@ pub shape_of-marks : goal.shape_of-marks
 shape_of-marks c = c.loop-low.invariant.1.marks-long
 
 pub returns : goal.returns
-returns-then-not-keep c =
+returns c =
     let row = c.args.row in
     held-done c.loop-low.invariant.1 (row.start + row.count) (omega arith)

@@ -5,4 +5,4 @@ pub returns-then-low_too : goal.returns-then-low_too
 returns-then-low_too c = rw c.if-low_too.true c.forced_at.ensures
 
 pub returns : goal.returns
-returns-then-low_too c = rw c.if-low_too.false c.high_at.ensures
+returns c = rw c.if-low_too.false c.high_at.ensures

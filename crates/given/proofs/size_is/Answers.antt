@@ -37,7 +37,7 @@ overflow_mul-result c =
     rw (shifted_one s.a.num_addr_pins 64 (omega arith)) (omega (arith, small s.a.num_addr_pins s.d.word_bytes few (omega arith)))
 
 pub returns : goal.returns
-returns-then-d-eq0 c =
+returns c =
     let s = c.args in
     let few : s.a.num_addr_pins ≤ 31 = omega (arith, c.if-a-gt31.false) in
     ap (λ (n : ℕ). eqb s.size (n * s.d.word_bytes)) (shifted_one s.a.num_addr_pins 64 (omega arith))

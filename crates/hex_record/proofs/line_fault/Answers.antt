@@ -31,7 +31,7 @@ pub returns-then-sum-ne0 : goal.returns-then-sum-ne0
 returns-then-sum-ne0 c = sum-fault _ _ _ _ (shape c.before.before) (summed c.before) c.if-sum-ne0.true
 
 pub returns : goal.returns
-returns-then-same c =
+returns c =
     let s = c.before.before.before in
     let o = s.before.before.before in
     c.fault_if.ensures

@@ -14,4 +14,4 @@ pub loop-k-preserved : goal.loop-k-preserved
 loop-k-preserved c = let v = c.loop-k in (v.invariant.0, omega arith, each_turn _ v.k v.ok v.invariant.2)
 
 pub returns : goal.returns
-returns-then-line-want c = let v = c.loop-k in same-done _ _ _ _ v.invariant.0 (omega arith) v.invariant.2
+returns c = let v = c.loop-k in same-done _ _ _ _ v.invariant.0 (omega arith) v.invariant.2

@@ -9,4 +9,4 @@ pub returns-then-kind-eq1 : goal.returns-then-kind-eq1
 returns-then-kind-eq1 c = of_type-one _ _ _ c.if-kind-eq0.false c.if-kind-eq1.true
 
 pub returns : goal.returns
-returns-then-kind-eq0 c = of_type_four _ _ _ c.if-kind-eq0.false c.if-kind-eq1.false
+returns c = of_type_four _ _ _ c.if-kind-eq0.false c.if-kind-eq1.false

@@ -35,7 +35,7 @@ put-requires c =
     omega (arith, length_law chip, pieces-length chip)
 
 pub returns : goal.returns
-returns-then-too_long c =
+returns c =
     let t = c.before.before.before.before.before.before.before.before.before in
     let k = c.put_chip-end in
     writes_all _ _ _ (fits t.before.before) t.text_length-n.ensures c.if-text-n.false _ _ _ k.ensures.0 k.ensures.1 c.put.ensures.buffer_after

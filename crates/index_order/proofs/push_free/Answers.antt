@@ -12,4 +12,4 @@ pub returns-then-free-map : goal.returns-then-free-map
 returns-then-free-map c = let p = c.push.ensures in record { lines = omega (arith, p.lines); first = p.first }
 
 pub returns : goal.returns
-returns-then-free-map c = extends_none _
+returns c = extends_none _

@@ -17,4 +17,4 @@ pub loop-f-preserved : goal.loop-f-preserved
 loop-f-preserved c = (omega arith, below_more _ _ c.loop-f.invariant.1 (ne_eqb _ _ c.if-marks-f-eq0.false))
 
 pub returns : goal.returns
-returns-then-marks-f-eq0 c = first_nowhere _ _ _ c.loop-f.invariant.1 (omega arith)
+returns c = first_nowhere _ _ _ c.loop-f.invariant.1 (omega arith)

@@ -27,4 +27,4 @@ returns-then-marks-k-eq0 c =
     new _ _ _ _ c.args.marks.now _ (omega (arith, c.if-marks-k-eq0.true)) c.requires.mark c.put_word.ensures
 
 pub returns : goal.returns
-returns-then-marks-k-eq0 c = old _ _ _ _ c.args.marks.now _ (λ e. omega (arith, c.if-marks-k-eq0.false)) c.word_at.ensures.value
+returns c = old _ _ _ _ c.args.marks.now _ (λ e. omega (arith, c.if-marks-k-eq0.false)) c.word_at.ensures.value

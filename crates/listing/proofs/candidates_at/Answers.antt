@@ -19,4 +19,4 @@ returns-then-k-ge40 c =
     rw (le-leb 1 _ c.if-socket_pin-lt1.false, get_or-eq_default a.b.socket no_pin {n = a.socket-pin - 1} (omega arith))
 
 pub returns : goal.returns
-returns-then-socket_pin-lt1 c = rw (le-leb 1 _ c.if-socket_pin-lt1.false)
+returns c = rw (le-leb 1 _ c.if-socket_pin-lt1.false)

@@ -57,7 +57,7 @@ loop-k-preserved c =
     (omega arith, omega arith, v.invariant.2, passed l.pins v.k (omega arith) v.invariant.3 (ne_eqb _ _ c.if-pin-eq0.false))
 
 pub returns : goal.returns
-returns-then-pin-eq0 c =
+returns c =
     let v = c.loop-k in
     let e : v.k ≡ c.args.t1.count = omega arith in
     sym (rw e at v.invariant.3)

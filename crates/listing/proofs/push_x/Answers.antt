@@ -19,7 +19,7 @@ returns-then-not-both c =
     )
 
 pub returns : goal.returns
-returns-then-not-one c =
+returns c =
     let a = c.args in (
       pushed_both a.one a.both _ _ (list_of a.l) _ _ _ _ (not-false a.one c.if-not-one.false) (not-false a.both c.if-not-both.false) c.x_listed.ensures
           c.push-with_x1.ensures.0 c.x_listed-2.ensures c.push.ensures.0,

@@ -6,4 +6,4 @@ pub returns-then-x-eq1 : goal.returns-then-x-eq1
 returns-then-x-eq1 c = rw (eq-eqb _ _ c.if-x-eq1.true) c.pack.ensures
 
 pub returns : goal.returns
-returns-then-x-eq1 c = rw (ne_eqb _ _ c.if-x-eq1.false) c.pack-2.ensures
+returns c = rw (ne_eqb _ _ c.if-x-eq1.false) c.pack-2.ensures

@@ -25,4 +25,4 @@ returns-then-f-r c =
     missing _ _ _ _ _ _ then.first_missing-f.ensures _ _ cleared.if-f-r.true c.clear_both.ensures.output_after c.clear_both.ensures.marks_after
 
 pub returns : goal.returns
-returns-then-f-r c = whole _ _ _ _ _ _ c.first_missing-f.ensures c.if-f-r.false
+returns c = whole _ _ _ _ _ _ c.first_missing-f.ensures c.if-f-r.false

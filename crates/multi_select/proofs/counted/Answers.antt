@@ -7,4 +7,4 @@ pub returns-then-kind-le-CS4 : goal.returns-then-kind-le-CS4
 returns-then-kind-le-CS4 c = (rw (le-leb _ _ c.if-kind-le-CS4.true), search rules)
 
 pub returns : goal.returns
-returns-then-kind-le-CS4 c = (rw (lt-leb _ _ c.if-kind-le-CS4.false), search rules)
+returns c = (rw (lt-leb _ _ c.if-kind-le-CS4.false), search rules)

@@ -33,6 +33,6 @@ pub returns-then-control_in : goal.returns-then-control_in
 returns-then-control_in c = rw (sorted_answers c.before.before, c.if-s.false) c.refused.ensures
 
 pub returns : goal.returns
-returns-then-s c =
+returns c =
     let i = c.before in
     rw (sym i.control_in.ensures ∙ c.if-control_in.false) c.refused-2.ensures

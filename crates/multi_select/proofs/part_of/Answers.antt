@@ -27,4 +27,4 @@ pub returns-then-line_ignored : goal.returns-then-line_ignored
 returns-then-line_ignored c = rw (left c.before, c.if-line_ignored.true)
 
 pub returns : goal.returns
-returns-then-kind-gt5 c = rw (left c.before, c.if-line_ignored.false)
+returns c = rw (left c.before, c.if-line_ignored.false)

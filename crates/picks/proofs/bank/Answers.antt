@@ -6,4 +6,4 @@ pub returns-then-chips-bits : goal.returns-then-chips-bits
 returns-then-chips-bits c = rw (le-ltb _ _ c.if-chips-bits.true)
 
 pub returns : goal.returns
-returns-then-chips-bits c = rw (lt-ltb _ _ c.if-chips-bits.false)
+returns c = rw (lt-ltb _ _ c.if-chips-bits.false)

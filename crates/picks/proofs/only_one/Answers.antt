@@ -12,4 +12,4 @@ pub returns-then-bits-eq4 : goal.returns-then-bits-eq4
 returns-then-bits-eq4 c = rw (ne_eqb _ _ c.if-bits-eq1.false, ne_eqb _ _ c.if-bits-eq2.false, eq-eqb _ _ c.if-bits-eq4.true)
 
 pub returns : goal.returns
-returns-then-bits-eq1 c = rw (ne_eqb _ _ c.if-bits-eq1.false, ne_eqb _ _ c.if-bits-eq2.false, ne_eqb _ _ c.if-bits-eq4.false)
+returns c = rw (ne_eqb _ _ c.if-bits-eq1.false, ne_eqb _ _ c.if-bits-eq2.false, ne_eqb _ _ c.if-bits-eq4.false)

@@ -7,4 +7,4 @@ pub returns-then-chips-ge3 : goal.returns-then-chips-ge3
 returns-then-chips-ge3 c = record { value = rw (le-leb _ _ c.if-chips-ge3.true); upper_bound = omega arith }
 
 pub returns : goal.returns
-returns-then-chips-ge3 c = record { value = rw (lt-leb _ _ c.if-chips-ge3.false); upper_bound = omega arith }
+returns c = record { value = rw (lt-leb _ _ c.if-chips-ge3.false); upper_bound = omega arith }

@@ -30,5 +30,5 @@ put_rows-requires c =
     (omega arith, roles_in c.args.addr c.args.cs_data _ c.page_roles-roles.ensures)
 
 pub returns : goal.returns
-returns-then-not-layouts_in c =
+returns c =
     writes_all c.args.addr c.args.cs_data _ c.page_roles-roles.ensures (kept c.before.before.before.before.before.before.before) _ _ (omega arith) c.put_rows.ensures

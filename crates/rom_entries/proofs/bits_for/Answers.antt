@@ -21,4 +21,4 @@ loop-j-preserved c =
     (omega arith, below_more _ _ l.invariant.1 (rw (sym c.entry.ensures) (ne_eqb _ _ c.if-entry-k.false)))
 
 pub returns : goal.returns
-returns-then-entry-k c = first_nowhere _ _ _ c.loop-j.invariant.1 (omega arith)
+returns c = first_nowhere _ _ _ c.loop-j.invariant.1 (omega arith)

@@ -12,7 +12,7 @@ returns-then-n-lt32 c =
     shifted_one n 64 (omega (arith, c.if-n-lt32.true)) ∙ ap (λ (k : ℕ). 2 ^ k) few
 
 pub returns : goal.returns
-returns-then-n-lt32 c =
+returns c =
     let n = c.args.n in
     let most : 32 ≡ min n 32 = omega (arith, c.if-n-lt32.false) in
     ap (λ (k : ℕ). 2 ^ k) most

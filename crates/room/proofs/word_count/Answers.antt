@@ -14,7 +14,7 @@ returns-then-d-eq0 c =
     record { value = sym (ap (λ (w : ℕ). size / w) c.if-d-eq0.true ∙ div-zero size); upper_bound = omega arith }
 
 pub returns : goal.returns
-returns-then-d-eq0 c =
+returns c =
     let d = c.args.d in
     let size = c.chip_size.result in
     record { value = ap (λ (n : ℕ). n / d.word_bytes) c.chip_size.ensures; upper_bound = omega (arith, div-le_self size d.word_bytes) }

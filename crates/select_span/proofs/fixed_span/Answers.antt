@@ -9,4 +9,4 @@ returns-then-is_multi c = rw (sym c.is_multi.ensures ∙ c.if-is_multi.true) c.s
 
 pub returns : goal.returns
 unfolding fixed_span
-returns-then-is_multi c = rw (sym c.is_multi.ensures ∙ c.if-is_multi.false) c.empty.ensures
+returns c = rw (sym c.is_multi.ensures ∙ c.if-is_multi.false) c.empty.ensures

@@ -7,5 +7,5 @@ pub returns-then-pin-eq0 : goal.returns-then-pin-eq0
 returns-then-pin-eq0 c = rw (eq-eqb _ 0 (sym c.kind_pin-pin.ensures ∙ c.if-pin-eq0.true))
 
 pub returns : goal.returns
-returns-then-pin-eq0 c =
+returns c =
     rw (ne_eqb _ 0 (λ q. c.if-pin-eq0.false (c.kind_pin-pin.ensures ∙ q)), ← c.kind_pin-pin.ensures) c.pin_candidates.ensures

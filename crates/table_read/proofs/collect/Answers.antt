@@ -9,4 +9,4 @@ returns-then-read_words c =
     collected_words _ _ _ _ _ _ _ _ _ all.whole all.written c.fill.ensures
 
 pub returns : goal.returns
-returns-then-read_words c = c.collect_all.ensures ∙ collected_from _ _ _ _ _ _ _ _ c.read_words.ensures.output_unchanged
+returns c = c.collect_all.ensures ∙ collected_from _ _ _ _ _ _ _ _ c.read_words.ensures.output_unchanged

@@ -37,7 +37,7 @@ read_ordered-requires c =
     rw c.rom_of-rom.ensures (in_order (placed else) s.0.read_in s.0.place s.1)
 
 pub returns : goal.returns
-returns-then-not-suits c =
+returns c =
     let read = c.before.before in
     let made = read.before.before.before in
     let else = made.before in

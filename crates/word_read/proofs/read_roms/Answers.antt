@@ -34,7 +34,7 @@ loop-k-preserved c =
     (omega arith, read.auto.1.1.1.1.1.0 ∙ l.invariant.1, read-on _ _ _ l.invariant.2 (read.ensures.1 (not-false _ c.if-not-read_rom.false)))
 
 pub returns : goal.returns
-returns-then-not-read_rom c =
+returns c =
     let l = c.loop-k in
     let five : l.k ≡ 5 = omega (arith, l.invariant.0) in
     record { output_unchanged = read-rest l.invariant.2; all_read = λ z. all_read _ _ _ _ _ _ c.requires.reading (eqb-true _ _ z) (rw five at l.invariant.2) }

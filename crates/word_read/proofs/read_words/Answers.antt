@@ -35,6 +35,6 @@ read_roms-requires c =
     record { reading = p.reading; width = width_of _ p.reading.bytes t.1; pins_in = t.0; stored_in = rw (sym (count c.before)) p.stored_in; room = p.room }
 
 pub returns : goal.returns
-returns-then-pins-r c =
+returns c =
     let read = c.before.before in
     record { output_unchanged = c.read_roms.ensures.output_unchanged; all_read = rw (count read.before.before) c.read_roms.ensures.all_read }

@@ -12,4 +12,4 @@ pub same_pairs-requires : goal.same_pairs-requires
 same_pairs-requires c = let p = c.requires in rw (two _ p.0 c.if-w-eq1.false) at p.1
 
 pub returns : goal.returns
-returns-then-w-eq1 c = rw (two _ c.requires.0 c.if-w-eq1.false) c.same_pairs.ensures
+returns c = rw (two _ c.requires.0 c.if-w-eq1.false) c.same_pairs.ensures

@@ -6,4 +6,4 @@ pub returns-then-all-gt24 : goal.returns-then-all-gt24
 returns-then-all-gt24 c = rw (lt-leb _ _ c.if-all-gt24.true)
 
 pub returns : goal.returns
-returns-then-all-gt24 c = rw (le-leb _ _ c.if-all-gt24.false) c.all_between.ensures
+returns c = rw (le-leb _ _ c.if-all-gt24.false) c.all_between.ensures

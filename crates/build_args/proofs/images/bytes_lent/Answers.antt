@@ -14,4 +14,4 @@ returns-then-rest-length c = simp (length-take, length-drop) (omega arith)
 
 pub returns : goal.returns
 unfolding chip_bytes
-returns-then-images-start c = simp (length-take, length-drop) (omega arith)
+returns c = simp (length-take, length-drop) (omega arith)

@@ -5,4 +5,4 @@ pub returns-then-commoned : goal.returns-then-commoned
 returns-then-commoned c = rw (c.if-commoned.true, c.commoned_line.ensures)
 
 pub returns : goal.returns
-returns-then-commoned c = rw (c.if-commoned.false, c.select_line.ensures)
+returns c = rw (c.if-commoned.false, c.select_line.ensures)

@@ -6,4 +6,4 @@ pub returns-then-c-eq0 : goal.returns-then-c-eq0
 returns-then-c-eq0 c = rw (eq-eqb _ _ c.if-c-eq0.true)
 
 pub returns : goal.returns
-returns-then-c-eq0 c = rw (ne_eqb _ _ c.if-c-eq0.false)
+returns c = rw (ne_eqb _ _ c.if-c-eq0.false)

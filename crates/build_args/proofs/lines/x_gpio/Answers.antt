@@ -6,4 +6,4 @@ pub returns-then-k-eq0 : goal.returns-then-k-eq0
 returns-then-k-eq0 c = rw (eq-eqb _ _ c.if-k-eq0.true)
 
 pub returns : goal.returns
-returns-then-k-eq0 c = rw (ne_eqb _ _ c.if-k-eq0.false)
+returns c = rw (ne_eqb _ _ c.if-k-eq0.false)

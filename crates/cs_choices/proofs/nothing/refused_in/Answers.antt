@@ -6,4 +6,4 @@ pub returns-then-seen-eq0 : goal.returns-then-seen-eq0
 returns-then-seen-eq0 c = rw (eq-eqb _ _ c.if-seen-eq0.true)
 
 pub returns : goal.returns
-returns-then-seen-eq0 c = rw (ne_eqb _ _ c.if-seen-eq0.false)
+returns c = rw (ne_eqb _ _ c.if-seen-eq0.false)

@@ -5,4 +5,4 @@ pub returns-then-a-d : goal.returns-then-a-d
 returns-then-a-d c = rw c.if-a-d.true
 
 pub returns : goal.returns
-returns-then-a-d c = rw c.if-a-d.false
+returns c = rw c.if-a-d.false

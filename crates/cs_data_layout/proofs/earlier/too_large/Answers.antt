@@ -5,4 +5,4 @@ pub returns-then-h-line_ignored : goal.returns-then-h-line_ignored
 returns-then-h-line_ignored c = rw (← c.line_ignored.ensures, c.if-h-line_ignored.true)
 
 pub returns : goal.returns
-returns-then-h-line_ignored c = rw (← c.line_ignored.ensures, c.if-h-line_ignored.false)
+returns c = rw (← c.line_ignored.ensures, c.if-h-line_ignored.false)

@@ -19,4 +19,4 @@ pub returns-then-k-commoned_count : goal.returns-then-k-commoned_count
 returns-then-k-commoned_count c = with_kind c.args.d _ _ _ _ c.commoned_count.ensures c.if-k-commoned_count.true c.commoned_kind.ensures
 
 pub returns : goal.returns
-returns-then-k-commoned_count c = none c.args.d c.args.gpio _ _ c.commoned_count.ensures c.if-k-commoned_count.false
+returns c = none c.args.d c.args.gpio _ _ c.commoned_count.ensures c.if-k-commoned_count.false

@@ -23,6 +23,6 @@ returns-then-missing-low c =
     at-missing _ _ _ _ _ (sym p.gapless.ensures ∙ p.if-gapless.false) c.gap.ensures c.lowest-missing.ensures.value c.lowest-low.ensures.value (omega arith)
 
 pub returns : goal.returns
-returns-then-gapless c =
+returns c =
     let p = c.before.before.before in
     at-missing _ _ _ _ _ (sym p.gapless.ensures ∙ p.if-gapless.false) c.gap.ensures c.lowest-missing.ensures.value c.lowest-low.ensures.value (omega arith)

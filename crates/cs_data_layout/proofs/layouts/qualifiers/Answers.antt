@@ -21,4 +21,4 @@ pub overflow_shr-result : goal.overflow_shr-result
 overflow_shr-result c = rw c.lowest-low.ensures.value (lowest-some 64 _ (search rules) c.if-set-eq0.false)
 
 pub returns : goal.returns
-returns-then-set-eq0 c = some _ _ _ _ _ c.if-set-eq0.false c.lowest-low.ensures.value c.above.ensures.value c.width.ensures.value
+returns c = some _ _ _ _ _ c.if-set-eq0.false c.lowest-low.ensures.value c.above.ensures.value c.width.ensures.value

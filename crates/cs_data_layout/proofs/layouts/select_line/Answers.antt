@@ -36,7 +36,7 @@ returns-then-k-count-2 c =
     excess a.r.roles a.r.count a.k a.h a.gpio (omega arith) _ c.if-k-count.false c.if-k-count-2.true c.excess_gpio.ensures
 
 pub returns : goal.returns
-returns-then-k-count c =
+returns c =
     let a = c.args in
     let long : length a.r.roles ≡ 8 = search rules in
     none a.r.roles a.r.count a.k a.h a.gpio (omega arith) c.if-k-count.false c.if-k-count-2.false

@@ -6,4 +6,4 @@ pub returns-then-is_multi : goal.returns-then-is_multi
 returns-then-is_multi c = rw (sym c.is_multi.ensures ∙ c.if-is_multi.true) c.ignored_lines.ensures
 
 pub returns : goal.returns
-returns-then-is_multi c = rw (sym c.is_multi.ensures ∙ c.if-is_multi.false)
+returns c = rw (sym c.is_multi.ensures ∙ c.if-is_multi.false)

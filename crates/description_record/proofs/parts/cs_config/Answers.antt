@@ -13,4 +13,4 @@ returns-then-form-eq1 c = rw (← c.entry-form.ensures, ne_eqb _ _ c.if-form-eq0
 
 pub returns : goal.returns
 unfolding cs_config_at
-returns-then-form-eq0 c = rw (← c.entry-form.ensures, ne_eqb _ _ c.if-form-eq0.false, ne_eqb _ _ c.if-form-eq1.false, c.logic-3.ensures, c.entry-3.ensures, c.logic-2.ensures, c.entry-2.ensures)
+returns c = rw (← c.entry-form.ensures, ne_eqb _ _ c.if-form-eq0.false, ne_eqb _ _ c.if-form-eq1.false, c.logic-3.ensures, c.entry-3.ensures, c.logic-2.ensures, c.entry-2.ensures)

@@ -9,4 +9,4 @@ pub returns-then-x-eq1 : goal.returns-then-x-eq1
 returns-then-x-eq1 c = rw (ne_eqb _ _ c.if-x-eq0.false, eq-eqb _ _ c.if-x-eq1.true)
 
 pub returns : goal.returns
-returns-then-x-eq0 c = rw (ne_eqb _ _ c.if-x-eq0.false, ne_eqb _ _ c.if-x-eq1.false)
+returns c = rw (ne_eqb _ _ c.if-x-eq0.false, ne_eqb _ _ c.if-x-eq1.false)

@@ -6,4 +6,4 @@ pub returns-then-x-eq0 : goal.returns-then-x-eq0
 returns-then-x-eq0 c = rw (eq-eqb _ _ c.if-x-eq0.true)
 
 pub returns : goal.returns
-returns-then-x-eq0 c = rw (ne_eqb _ _ c.if-x-eq0.false)
+returns c = rw (ne_eqb _ _ c.if-x-eq0.false)

@@ -43,4 +43,4 @@ pub returns-then-x-ge252 : goal.returns-then-x-ge252
 returns-then-x-ge252 c = rw (lt-leb _ _ c.if-x-le4.false, le-leb _ _ c.if-x-ge252.true, le-leb c.args.x 255 (search rules)) (down (255 - c.args.x) (omega arith))
 
 pub returns : goal.returns
-returns-then-x-le4 c = rw (lt-leb _ _ c.if-x-le4.false, lt-leb _ _ c.if-x-ge252.false)
+returns c = rw (lt-leb _ _ c.if-x-le4.false, lt-leb _ _ c.if-x-ge252.false)

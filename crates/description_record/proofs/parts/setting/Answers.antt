@@ -6,4 +6,4 @@ pub returns-then-x-eq255 : goal.returns-then-x-eq255
 returns-then-x-eq255 c = rw (eq-eqb _ _ c.if-x-eq255.true)
 
 pub returns : goal.returns
-returns-then-x-eq255 c = rw (ne_eqb _ _ c.if-x-eq255.false, c.logic.ensures)
+returns c = rw (ne_eqb _ _ c.if-x-eq255.false, c.logic.ensures)

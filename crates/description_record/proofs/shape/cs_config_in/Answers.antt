@@ -13,4 +13,4 @@ returns-then-form-eq1 c = rw (← c.entry-form.ensures, ne_eqb _ _ c.if-form-eq0
 
 pub returns : goal.returns
 unfolding cs_config_in
-returns-then-form-eq0 c = rw (← c.entry-form.ensures, ne_eqb _ _ c.if-form-eq0.false, ne_eqb _ _ c.if-form-eq1.false, c.logic_in-3.ensures, c.logic_in-2.ensures, c.entry-cs4.ensures, c.entry-cs3.ensures, c.entry-cs2.ensures, c.entry-cs1.ensures, c.entry-oe.ensures, c.entry-ce.ensures)
+returns c = rw (← c.entry-form.ensures, ne_eqb _ _ c.if-form-eq0.false, ne_eqb _ _ c.if-form-eq1.false, c.logic_in-3.ensures, c.logic_in-2.ensures, c.entry-cs4.ensures, c.entry-cs3.ensures, c.entry-cs2.ensures, c.entry-cs1.ensures, c.entry-oe.ensures, c.entry-ce.ensures)

@@ -9,4 +9,4 @@ returns-then-b-ne-SIZE c = rw (ne_eqb _ _ c.if-b-ne-SIZE.true)
 
 pub returns : goal.returns
 unfolding well_formed
-returns-then-b-ne-SIZE c = rw (eq-eqb _ _ c.if-b-ne-SIZE.false, c.chips_in.ensures, c.pairs_in.ensures, c.cs_config_in.ensures, c.head_in.ensures)
+returns c = rw (eq-eqb _ _ c.if-b-ne-SIZE.false, c.chips_in.ensures, c.pairs_in.ensures, c.cs_config_in.ensures, c.head_in.ensures)

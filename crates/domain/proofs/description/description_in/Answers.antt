@@ -20,7 +20,7 @@ returns-then-not-board_in c = rw (sym c.board_in.ensures ∙ not-true _ c.if-not
 
 pub returns : goal.returns
 unfolding description_in slot_in
-returns-then-not-board_in c =
+returns c =
     let raised = c.before.before.before.before.before.before in
     let left = raised.before.before.before.before.before.before in
     let s = left.before.before.before in

@@ -12,4 +12,4 @@ pub returns-then-counts-address : goal.returns-then-counts-address
 returns-then-counts-address c = rw c.if-counts-address.true
 
 pub returns : goal.returns
-returns-then-counts-address c = rw c.if-counts-address.false
+returns c = rw c.if-counts-address.false

@@ -109,4 +109,4 @@ loop-i-preserved c =
     )
 
 pub returns : goal.returns
-returns-in-Disagrees c = held-done c.loop-i.invariant.2 _ (omega arith)
+returns c = held-done c.loop-i.invariant.2 _ (omega arith)

@@ -38,4 +38,4 @@ overflow_shl-result c =
     omega (arith, some _ n, width-within _ _ _ c.width-w.ensures.value c.lowest.ensures.value n)
 
 pub returns : goal.returns
-returns-then-w-eq0 c = gap-some _ _ _ c.width-w.ensures.upper_bound c.width-w.ensures.value c.lowest.ensures.value c.if-w-eq0.false
+returns c = gap-some _ _ _ c.width-w.ensures.upper_bound c.width-w.ensures.value c.lowest.ensures.value c.if-w-eq0.false

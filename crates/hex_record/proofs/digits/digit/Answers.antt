@@ -10,4 +10,4 @@ pub returns-then-is_digit : goal.returns-then-is_digit
 returns-then-is_digit c = record { value = c.value.ensures.0; upper_bound = omega (arith, c.value.ensures.1) }
 
 pub returns : goal.returns
-returns-then-is_digit c = record { value = no_digit _ (sym c.is_digit.ensures ∙ c.if-is_digit.false); upper_bound = omega arith }
+returns c = record { value = no_digit _ (sym c.is_digit.ensures ∙ c.if-is_digit.false); upper_bound = omega arith }

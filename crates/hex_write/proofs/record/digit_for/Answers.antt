@@ -6,4 +6,4 @@ pub returns-then-v-lt10 : goal.returns-then-v-lt10
 returns-then-v-lt10 c = rw (lt-ltb _ _ c.if-v-lt10.true)
 
 pub returns : goal.returns
-returns-then-v-lt10 c = rw (le-ltb _ _ c.if-v-lt10.false)
+returns c = rw (le-ltb _ _ c.if-v-lt10.false)

@@ -16,5 +16,5 @@ returns-then-number-eq-NO_VALID_LAYOUT c =
     rw (ne_eqb _ _ c.if-number-eq-UNMAPPED_PIN.false, ne_eqb _ _ c.if-number-eq-MISSING_X_PIN.false, ne_eqb _ _ c.if-number-eq-NO_SELECT_LINE.false, eq-eqb _ _ c.if-number-eq-NO_VALID_LAYOUT.true)
 
 pub returns : goal.returns
-returns-then-number-eq-UNMAPPED_PIN c =
+returns c =
     rw (ne_eqb _ _ c.if-number-eq-UNMAPPED_PIN.false, ne_eqb _ _ c.if-number-eq-MISSING_X_PIN.false, ne_eqb _ _ c.if-number-eq-NO_SELECT_LINE.false, ne_eqb _ _ c.if-number-eq-NO_VALID_LAYOUT.false)

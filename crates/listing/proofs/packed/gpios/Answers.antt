@@ -9,4 +9,4 @@ pub returns-then-candidates-eq1 : goal.returns-then-candidates-eq1
 returns-then-candidates-eq1 c = rw (ne_eqb _ _ c.if-candidates-eq0.false, eq-eqb _ _ c.if-candidates-eq1.true)
 
 pub returns : goal.returns
-returns-then-candidates-eq0 c = rw (ne_eqb _ _ c.if-candidates-eq0.false, ne_eqb _ _ c.if-candidates-eq1.false)
+returns c = rw (ne_eqb _ _ c.if-candidates-eq0.false, ne_eqb _ _ c.if-candidates-eq1.false)

@@ -16,5 +16,5 @@ returns-then-commoned c =
     rw (ne_eqb _ _ c.if-role-eq-X1_ROLE.false, ne_eqb _ _ c.if-role-eq-X2_ROLE.false, ne_eqb _ _ c.if-role-eq-HALF_ROLE.false, c.if-commoned.true)
 
 pub returns : goal.returns
-returns-then-role-eq-X1_ROLE c =
+returns c =
     rw (ne_eqb _ _ c.if-role-eq-X1_ROLE.false, ne_eqb _ _ c.if-role-eq-X2_ROLE.false, ne_eqb _ _ c.if-role-eq-HALF_ROLE.false, c.if-commoned.false)

@@ -5,4 +5,4 @@ pub returns-then-bad : goal.returns-then-bad
 returns-then-bad c = rw c.if-bad.true
 
 pub returns : goal.returns
-returns-then-bad c = rw c.if-bad.false
+returns c = rw c.if-bad.false

@@ -40,6 +40,6 @@ loop-k-preserved c =
 
 pub returns : goal.returns
 unfolding known_pairs offset_from
-returns-then-is_for c =
+returns c =
     let e : c.loop-k.k ≡ 10 = omega arith in
     rw e at c.loop-k.invariant.1

@@ -56,6 +56,6 @@ overflow_cast-result c =
     rw (s.1, back (raised_of c.args.offset) s.0) (tt, record { fits = omega arith })
 
 pub returns : goal.returns
-returns-then-offset c =
+returns c =
     let s = small c.args.offset c.ranges.offset c.if-offset.false in
     rw (s.1, back (raised_of c.args.offset) s.0)

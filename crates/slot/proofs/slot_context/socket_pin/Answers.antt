@@ -24,4 +24,4 @@ pub returns-then-board_pins-place : goal.returns-then-board_pins-place
 returns-then-board_pins-place c = above _ _ c.if-place-lt5.false c.if-board_pins-place.true
 
 pub returns : goal.returns
-returns-then-place-lt5 c = within _ _ c.if-place-lt5.false c.if-board_pins-place.false
+returns c = within _ _ c.if-place-lt5.false c.if-board_pins-place.false

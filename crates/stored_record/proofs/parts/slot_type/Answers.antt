@@ -23,7 +23,7 @@ returns-then-x-le6 c = rw (
   le-leb _ _ c.if-x-le6.true,
 
 pub returns : goal.returns
-returns-then-x-le1 c = rw (
+returns c = rw (
   lt-leb _ _ c.if-x-le1.false,
   ne_eqb _ _ c.if-x-eq2.false,
   ne_eqb _ _ c.if-x-eq3.false,

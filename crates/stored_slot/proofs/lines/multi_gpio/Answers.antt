@@ -17,4 +17,4 @@ pub returns-then-k-eq0 : goal.returns-then-k-eq0
 returns-then-k-eq0 c = rw (c.if-k-eq0.true, c.select_gpio.ensures)
 
 pub returns : goal.returns
-returns-then-k-eq0 c = rw (c.x_at.ensures, later _ _ c.if-k-eq0.false)
+returns c = rw (c.x_at.ensures, later _ _ c.if-k-eq0.false)

@@ -6,4 +6,4 @@ pub returns-then-s-ge3 : goal.returns-then-s-ge3
 returns-then-s-ge3 c = rw (le-leb _ _ c.if-s-ge3.true, c.x_fault.ensures)
 
 pub returns : goal.returns
-returns-then-s-ge3 c = rw (lt-leb _ _ c.if-s-ge3.false)
+returns c = rw (lt-leb _ _ c.if-s-ge3.false)

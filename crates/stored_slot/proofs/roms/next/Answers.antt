@@ -5,4 +5,4 @@ pub returns-then-n-k : goal.returns-then-n-k
 returns-then-n-k c = rw c.if-n-k.true
 
 pub returns : goal.returns
-returns-then-n-k c = rw c.if-n-k.false
+returns c = rw c.if-n-k.false

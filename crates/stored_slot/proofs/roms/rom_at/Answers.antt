@@ -14,7 +14,7 @@ returns-then-k-ge4 c =
     rw (get_or-eq_default c.args.s.roms no_rom {n = c.args.k} (omega arith))
 
 pub returns : goal.returns
-returns-then-k-ge4 c =
+returns c =
     let a = c.args in
     let e : length a.s.roms ≡ 4 = search (mapped_length, rules) in
     get_d_any a.s.roms a.k _ no_rom (omega arith)

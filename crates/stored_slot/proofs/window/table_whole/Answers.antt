@@ -19,6 +19,6 @@ overflow_mul-result c =
     rw (shifted_one (stored_pins s) 64 (omega arith)) (omega (arith, mul-le-mul most w))
 
 pub returns : goal.returns
-returns-then-addr-gt31 c =
+returns c =
     let s = c.args.s in
     rw (lt-ltb (stored_pins s) 32 (omega arith), shifted_one (stored_pins s) 64 (omega arith), c.word_bytes.ensures)

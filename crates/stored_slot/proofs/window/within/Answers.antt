@@ -6,4 +6,4 @@ pub returns-then-gpio-base : goal.returns-then-gpio-base
 returns-then-gpio-base c = rw (lt-leb _ _ c.if-gpio-base.true)
 
 pub returns : goal.returns
-returns-then-gpio-base c = rw (le-leb _ _ c.if-gpio-base.false)
+returns c = rw (le-leb _ _ c.if-gpio-base.false)

@@ -26,6 +26,6 @@ pub overflow_sub-result : goal.overflow_sub-result
 overflow_sub-result c = omega (arith, power c, pow_pos (count_trailing_zeros 32 c.args.s.count))
 
 pub returns : goal.returns
-returns-then-s-bits c =
+returns c =
     reads_low c.args.s (count_trailing_zeros 32 c.args.s.count)
     (neither c.args.s.mirrored (count_trailing_zeros 32 c.args.s.count) c.if-s-bits.false).0 (power c)

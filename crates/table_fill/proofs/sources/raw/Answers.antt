@@ -27,4 +27,4 @@ returns-then-s c =
     record { value = rw (le-ltb _ _ c.if-n-s.false, c.if-s.true) c.word_of-then-s.ensures.value; upper_bound = c.word_of-then-s.ensures.upper_bound }
 
 pub returns : goal.returns
-returns-then-n-s c = record { value = rw (le-ltb _ _ c.if-n-s.false, c.if-s.false); upper_bound = c.requires.pad_short }
+returns c = record { value = rw (le-ltb _ _ c.if-n-s.false, c.if-s.false); upper_bound = c.requires.pad_short }

@@ -9,4 +9,4 @@ pub returns-then-i-n-2 : goal.returns-then-i-n-2
 returns-then-i-n-2 c = rw (le-ltb _ _ c.if-i-n.false, eq-eqb _ _ c.if-i-n-2.true)
 
 pub returns : goal.returns
-returns-then-i-n c = rw (le-ltb _ _ c.if-i-n.false, ne_eqb _ _ c.if-i-n-2.false)
+returns c = rw (le-ltb _ _ c.if-i-n.false, ne_eqb _ _ c.if-i-n-2.false)

@@ -6,4 +6,4 @@ pub returns-then-lowest-lt-HIGH : goal.returns-then-lowest-lt-HIGH
 returns-then-lowest-lt-HIGH c = rw (lt-ltb _ _ c.if-lowest-lt-HIGH.true)
 
 pub returns : goal.returns
-returns-then-lowest-lt-HIGH c = rw (le-ltb _ _ c.if-lowest-lt-HIGH.false)
+returns c = rw (le-ltb _ _ c.if-lowest-lt-HIGH.false)
