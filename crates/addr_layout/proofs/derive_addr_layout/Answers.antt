@@ -67,9 +67,9 @@ pub returns-in-Of : goal.returns-in-Of
 returns-in-Of c =
     c.refused-in-Of.ensures
     ∙ faulty c.args.d _ _ (sym c.description_in.ensures ∙ not-false _ c.if-not-description_in.false) c.list-l.ensures.0
-    c.choice_bits-bits.ensures.value _ _ c.if-bits-gt16.false c.first_fault.ensures c.fault-1.given.1
+    c.choice_bits-bits.ensures.value _ _ c.if-bits-gt16.false c.first_fault.ensures c.in-Of.is
 
 pub returns-in-None : goal.returns-in-None
 returns-in-None c =
     searched c.args.d _ _ (sym c.description_in.ensures ∙ not-false _ c.if-not-description_in.false) c.list-l.ensures.0 c.choice_bits-bits.ensures.value _ _ c.if-bits-gt16.false
-    c.first_fault.ensures c.enum_told-1.given.1 c.search.ensures
+    c.first_fault.ensures c.in-None.is c.search.ensures

@@ -50,9 +50,9 @@ laid_out-requires c =
 
 pub returns-in-Nothing : goal.returns-in-Nothing
 returns-in-Nothing c =
-    c.refused.ensures ∙ ap (addr_answer_of c.args.d) (sym c.enum_told-1.given.1 ∙ best-at c.before.before.before)
+    c.refused.ensures ∙ ap (addr_answer_of c.args.d) (sym c.in-Nothing.is ∙ best-at c.before.before.before)
 
 pub returns-in-At : goal.returns-in-At
 returns-in-At c =
     c.laid_out.ensures ∙ ap (λ (ls : List Listed). laid c.args.d ls c.choice-1.given.0.0) c.requires.listed
-    ∙ ap (addr_answer_of c.args.d) (sym c.choice-1.given.1 ∙ best-at c.before.before.before.before)
+    ∙ ap (addr_answer_of c.args.d) (sym c.in-At.is ∙ best-at c.before.before.before.before)

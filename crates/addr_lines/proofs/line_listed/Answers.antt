@@ -24,9 +24,9 @@ off d n s l e f h = rw (← e, f) h
 pub returns-in-On : goal.returns-in-On
 returns-in-On c =
     let a = c.args in
-    on a.d a.n _ _ _ _ c.line_socket-s.ensures c.s-1.given.1 c.candidates_at-gpios.ensures c.pack.ensures
+    on a.d a.n _ _ _ _ c.line_socket-s.ensures c.in-On.is c.candidates_at-gpios.ensures c.pack.ensures
 
 pub returns-in-Off : goal.returns-in-Off
 returns-in-Off c =
     let a = c.args in
-    off a.d a.n _ _ c.line_socket-s.ensures c.enum_told-1.given.1 c.overhanging.ensures
+    off a.d a.n _ _ c.line_socket-s.ensures c.in-Off.is c.overhanging.ensures

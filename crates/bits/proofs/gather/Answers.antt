@@ -7,6 +7,7 @@ use lib.Pow.{pow_mono}
 use Rattle.bits.specs.Bits.{bit, gather}
 use Rattle.bits.proofs.Bit.{bit_lt, bit_shl}
 use Rattle.bits.proofs.Gathered.{gather_none, gather-turn, gather-done, gather_lt}
+use Rattle.lists.proofs.Clauses.{with_bound}
 use Rattle.bits.proofs.gather.Goals as goal
 
 
@@ -31,4 +32,4 @@ loop-k-preserved c =
     (omega arith, turn _ _ v.k _ _ _ (omega arith) c.entry-p.ensures c.bit_at.ensures.value v.invariant.1)
 
 pub returns : goal.returns
-returns c = gather-done _ _ _ _ _ (omega arith) c.loop-k.invariant.1
+returns c = with_bound (gather-done _ _ _ _ _ (omega arith) c.loop-k.invariant.1)

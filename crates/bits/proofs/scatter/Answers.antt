@@ -3,6 +3,7 @@ use mathlib.Core.Path.{◌∙◌}
 use Prim.Native.Nat.{◌-◌}
 use native.Mathlib.Omega.{arith}
 use Rattle.bits.proofs.Scattered.{scatter-none, scatter-turn, scatter-done}
+use Rattle.lists.proofs.Clauses.{with_bound}
 use Rattle.bits.proofs.scatter.Goals as goal
 
 pub loop-k-init : goal.loop-k-init
@@ -14,4 +15,4 @@ loop-k-preserved c =
     (omega arith, scatter-turn _ _ _ v.k _ _ v.invariant.1 (c.placed-word.ensures ∙ rw (c.bit_at-b.ensures.value, c.entry-p.ensures)))
 
 pub returns : goal.returns
-returns c = scatter-done _ _ _ _ _ _ (omega arith) c.loop-k.invariant.1
+returns c = with_bound (scatter-done _ _ _ _ _ _ (omega arith) c.loop-k.invariant.1)

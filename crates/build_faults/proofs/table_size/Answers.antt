@@ -4,6 +4,7 @@ use Prim.Native.Nat.{ℕ, zero, suc, ◌*◌, ◌%◌, ◌^◌, ◌<◌, ◌≤�
 use native.Mathlib.Omega.{arith}
 use lib.Pow.{pow_mono}
 use Rattle.lists.proofs.Shifts.{shifted_one}
+use Rattle.lists.proofs.Clauses.{with_bound}
 use Rattle.build_faults.proofs.table_size.Goals as goal
 
 
@@ -25,5 +26,4 @@ overflow_mul-result c =
     rw (entries c.args.a.num_addr_pins c.requires.pins) (omega (arith, doubled (2 ^ c.args.a.num_addr_pins) c.args.d.word_bytes (most _ c.requires.pins) c.requires.bytes))
 
 pub returns : goal.returns
-returns c =
-    rw (entries c.args.a.num_addr_pins c.requires.pins) (refl, doubled (2 ^ c.args.a.num_addr_pins) c.args.d.word_bytes (most _ c.requires.pins) c.requires.bytes)
+returns c = with_bound (rw (entries c.args.a.num_addr_pins c.requires.pins) (refl, doubled (2 ^ c.args.a.num_addr_pins) c.args.d.word_bytes (most _ c.requires.pins) c.requires.bytes))

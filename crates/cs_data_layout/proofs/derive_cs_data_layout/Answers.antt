@@ -58,11 +58,11 @@ returns-in-Of c =
     let given = early.before.before.before in
     let a = given.args in
     c.refused-in-Of.ensures
-    ∙ refused_early a.d a.addr-layout _ _ given.number_pins-pins.ensures.verdict early.given_in.ensures (not-false _ early.if-not-pins-given_in.false) _ c.earlier.ensures _ c.why-1.given.1
+    ∙ refused_early a.d a.addr-layout _ _ given.number_pins-pins.ensures.verdict early.given_in.ensures (not-false _ early.if-not-pins-given_in.false) _ c.earlier.ensures _ c.in-Of.is
 
 pub returns-in-None : goal.returns-in-None
 returns-in-None c =
     let early = c.before.before.before.before in
     let given = early.before.before.before in
     let a = given.args in
-    searched a.d a.addr-layout _ _ given.number_pins-pins.ensures.verdict early.given_in.ensures (not-false _ early.if-not-pins-given_in.false) _ c.earlier.ensures _ _ c.enum_told-1.given.1 c.handed.ensures c.search.ensures
+    searched a.d a.addr-layout _ _ given.number_pins-pins.ensures.verdict early.given_in.ensures (not-false _ early.if-not-pins-given_in.false) _ c.earlier.ensures _ _ c.in-None.is c.handed.ensures c.search.ensures

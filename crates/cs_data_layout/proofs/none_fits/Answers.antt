@@ -2,7 +2,7 @@
 use Rattle.cs_data_layout.proofs.none_fits.Goals as goal
 
 pub returns-in-Of : goal.returns-in-Of
-returns-in-Of c = rw c.why-1.given.1 c.refused.ensures
+returns-in-Of c = rw c.in-Of.is c.refused.ensures
 
 pub returns-in-None : goal.returns-in-None
-returns-in-None c = rw c.enum_told-1.given.1 c.refused-in-None.ensures
+returns-in-None c = rw c.in-None.is c.refused-in-None.ensures

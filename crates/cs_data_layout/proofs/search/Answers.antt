@@ -101,11 +101,11 @@ pub returns-in-Nothing : goal.returns-in-Nothing
 returns-in-Nothing c =
     let best = c.before.before.before.before.before in
     let a = best.args in
-    nothing a.d a.h c.best.result _ (best-at best) c.enum_told-1.given.1
+    nothing a.d a.h c.best.result _ (best-at best) c.in-Nothing.is
     (none_is a.d a.h (list_of a.pins.list) _ _ (best.requires.pins.list best.requires.description) (fixed_at best.before) best.requires.pins.bits _ _ _ c.ignored_set.ensures c.why.ensures c.none_fits.ensures)
 
 pub returns-in-At : goal.returns-in-At
 returns-in-At c =
     let best = c.before.before.before.before in
     let a = best.args in
-    found a.d a.h a.pins.list _ _ _ _ (best-at best) c.choice-1.given.1 (best.requires.pins.list best.requires.description) c.laid_out.ensures
+    found a.d a.h a.pins.list _ _ _ _ (best-at best) c.in-At.is (best.requires.pins.list best.requires.description) c.laid_out.ensures

@@ -45,7 +45,7 @@ returns-in-Disagrees c =
     let clear = c.before.before.before.before in
     let arm = clear.before.before.before.before in
     let walk = arm.before.before.before.before.before.before in
-    collected_bad _ _ _ _ _ _ _ (held walk.before) arm.walk.ensures _ _ _ clear.f-1.given.1 c.clear_both-in-Disagrees.ensures.output_after c.clear_both-in-Disagrees.ensures.marks_after
+    collected_bad _ _ _ _ _ _ _ (held walk.before) arm.walk.ensures _ _ _ clear.in-Disagrees.is c.clear_both-in-Disagrees.ensures.output_after c.clear_both-in-Disagrees.ensures.marks_after
 
 pub returns-in-Through : goal.returns-in-Through
 returns-in-Through c =
@@ -53,4 +53,4 @@ returns-in-Through c =
     let arm = served.before.before.before in
     let walk = arm.before.before.before.before.before.before in
     let kept = arm.walk.auto in
-    collected_served _ _ _ _ _ _ _ (held walk.before) arm.walk.ensures _ _ _ served.enum_told-1.given.1 kept.1.1.1.0 kept.1.1.1.1.0 c.served.ensures
+    collected_served _ _ _ _ _ _ _ (held walk.before) arm.walk.ensures _ _ _ served.in-Through.is kept.1.1.1.0 kept.1.1.1.1.0 c.served.ensures

@@ -3,6 +3,7 @@ use mathlib.Core.Path.{refl, ◌∙◌}
 use Prim.Native.Nat.{◌-◌}
 use native.Mathlib.Omega.{arith}
 use Rattle.hex_write.proofs.Chips.{chip-none, chip-turn, chip-done, chip-room}
+use Rattle.lists.proofs.Clauses.{with_text}
 use Rattle.hex_write.proofs.put_chip.Goals as goal
 
 pub loop-k-init : goal.loop-k-init
@@ -31,6 +32,5 @@ loop-k-preserved c =
     (omega arith, d.auto.0 ∙ k.auto.0 ∙ v.invariant.1, chip-turn _ _ _ _ _ _ _ _ _ v.invariant.2 k.ensures.0 k.ensures.1 d.ensures.0 d.ensures.1)
 
 pub returns : goal.returns
-returns c =
-    let v = c.loop-k in
-    chip-done c.args.chip.now _ v.text-1 v.k v.at (omega arith) v.invariant.2
+returns c = with_text (let v = c.loop-k in
+    chip-done c.args.chip.now _ v.text-1 v.k v.at (omega arith) v.invariant.2)

@@ -6,6 +6,7 @@ use Rattle.hex_write.specs.Text.{data_bytes, record_text}
 use Rattle.hex_write.proofs.Records.{record-room, record_put}
 use Rattle.hex_write.proofs.Pieces.{data-read}
 use Rattle.hex_write.proofs.put_data.Goals.{After-bytes-3-1}
+use Rattle.lists.proofs.Clauses.{with_text}
 use Rattle.hex_write.proofs.put_data.Goals as goal
 
 
@@ -25,4 +26,4 @@ pub put_record-requires : goal.put_record-requires
 put_record-requires c = record-room _ _ (ap record_text (shown c).0) _ _ (search rules)
 
 pub returns : goal.returns
-returns c = let k = c.put_record in record_put _ _ (ap record_text (shown c.before.before.before).0) _ _ _ _ k.ensures.0 k.ensures.1
+returns c = with_text (let k = c.put_record in record_put _ _ (ap record_text (shown c.before.before.before).0) _ _ _ _ k.ensures.0 k.ensures.1)

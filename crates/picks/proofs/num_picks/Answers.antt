@@ -3,10 +3,10 @@ use native.Mathlib.Omega.{arith}
 use Rattle.picks.proofs.num_picks.Goals as goal
 
 pub returns-in-Single : goal.returns-in-Single
-returns-in-Single c = record { value = rw c.enum_told-1.given.1; upper_bound = omega arith }
+returns-in-Single c = record { value = rw c.in-Single.is; upper_bound = omega arith }
 
 pub returns-in-Banked : goal.returns-in-Banked
-returns-in-Banked c = record { value = rw (c.enum_told-in-Banked-1.given.1, c.x_lines.ensures.value); upper_bound = omega arith }
+returns-in-Banked c = record { value = rw (c.in-Banked.is, c.x_lines.ensures.value); upper_bound = omega arith }
 
 pub returns-in-Multi : goal.returns-in-Multi
-returns-in-Multi c = record { value = rw (c.enum_told-in-Multi-1.given.1, c.x_lines-in-Multi.ensures.value); upper_bound = omega arith }
+returns-in-Multi c = record { value = rw (c.in-Multi.is, c.x_lines-in-Multi.ensures.value); upper_bound = omega arith }

@@ -2,7 +2,7 @@
 use Rattle.picks.proofs.picked_by.Goals as goal
 
 pub returns-in-Banked : goal.returns-in-Banked
-returns-in-Banked c = rw (c.enum_told-in-Banked-1.given.1, c.bank.ensures)
+returns-in-Banked c = rw (c.in-Banked.is, c.bank.ensures)
 
 pub returns-in-Multi : goal.returns-in-Multi
-returns-in-Multi c = rw (c.enum_told-in-Multi-1.given.1, c.only_one.ensures)
+returns-in-Multi c = rw (c.in-Multi.is, c.only_one.ensures)

@@ -67,9 +67,9 @@ fill-requires c =
 pub returns-in-Of : goal.returns-in-Of
 returns-in-Of c =
     refused-for c.args.order c.args.b c.args.images.now c.args.table.now _ c.in_domain.ensures
-    _ _ c.if-not-in_domain.false c.build_fault.ensures c.why-1.given.1
+    _ _ c.if-not-in_domain.false c.build_fault.ensures c.in-Of.is
 
 pub returns-in-None : goal.returns-in-None
 returns-in-None c =
     made c.args.order c.args.b c.args.images.now c.args.table.now _ c.in_domain.ensures
-    _ _ c.if-not-in_domain.false c.build_fault.ensures c.enum_told-1.given.1 c.fill.ensures
+    _ _ c.if-not-in_domain.false c.build_fault.ensures c.in-None.is c.fill.ensures

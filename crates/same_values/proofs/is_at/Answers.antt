@@ -2,4 +2,4 @@
 use Rattle.same_values.proofs.is_at.Goals as goal
 
 pub returns-in-At : goal.returns-in-At
-returns-in-At c = rw c.line-1.given.1
+returns-in-At c = rw c.in-At.is

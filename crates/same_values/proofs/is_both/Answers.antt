@@ -2,4 +2,4 @@
 use Rattle.same_values.proofs.is_both.Goals as goal
 
 pub returns-in-Two : goal.returns-in-Two
-returns-in-Two c = rw c.c-1.given.1
+returns-in-Two c = rw c.in-Two.is

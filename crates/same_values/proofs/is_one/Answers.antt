@@ -2,4 +2,4 @@
 use Rattle.same_values.proofs.is_one.Goals as goal
 
 pub returns-in-One : goal.returns-in-One
-returns-in-One c = rw c.c-1.given.1
+returns-in-One c = rw c.in-One.is

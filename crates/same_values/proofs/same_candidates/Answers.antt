@@ -2,7 +2,7 @@
 use Rattle.same_values.proofs.same_candidates.Goals as goal
 
 pub returns-in-One : goal.returns-in-One
-returns-in-One c = rw c.c-1.given.1 c.is_one.ensures
+returns-in-One c = rw c.in-One.is c.is_one.ensures
 
 pub returns-in-Two : goal.returns-in-Two
-returns-in-Two c = rw c.c-in-Two-1.given.1 c.is_both.ensures
+returns-in-Two c = rw c.in-Two.is c.is_both.ensures

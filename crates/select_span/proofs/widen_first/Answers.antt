@@ -2,7 +2,7 @@
 use Rattle.select_span.proofs.widen_first.Goals as goal
 
 pub returns-in-One : goal.returns-in-One
-returns-in-One c = rw c.gpios-1.given.1 c.widen.ensures
+returns-in-One c = rw c.in-One.is c.widen.ensures
 
 pub returns-in-Two : goal.returns-in-Two
-returns-in-Two c = rw c.gpios-in-Two-1.given.1 c.widen-in-Two.ensures
+returns-in-Two c = rw c.in-Two.is c.widen-in-Two.ensures

@@ -10,6 +10,7 @@ use Rattle.words.specs.declared.ByteOrder.TheVariants.{HighFirst}
 use Rattle.words.proofs.Words.{byte_more, word-short}
 use Rattle.words.proofs.Chip.{high-none, high_more}
 use Rattle.words.proofs.high_word_at.Goals.{After-wide}
+use Rattle.lists.proofs.Clauses.{with_bound}
 use Rattle.words.proofs.high_word_at.Goals as goal
 
 
@@ -51,4 +52,4 @@ loop-k-preserved c =
     turn _ _ _ _ _ _ c.requires.1 c.loop-k-test.true c.wide.ensures.0 c.wide.ensures.1 c.loop-k.invariant
 
 pub returns : goal.returns
-returns c = done _ _ _ _ _ c.loop-k-test.false c.loop-k.invariant
+returns c = with_bound (done _ _ _ _ _ c.loop-k-test.false c.loop-k.invariant)

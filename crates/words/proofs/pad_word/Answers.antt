@@ -6,6 +6,7 @@ use native.Mathlib.Omega.{arith}
 use Rattle.words.specs.Words.{pad_word}
 use Rattle.words.proofs.Words.{pad_lt, word-short}
 use Rattle.words.proofs.pad_word.Goals.{In-loop-k}
+use Rattle.lists.proofs.Clauses.{with_bound}
 use Rattle.words.proofs.pad_word.Goals as goal
 
 
@@ -38,4 +39,4 @@ pub loop-k-preserved : goal.loop-k-preserved
 loop-k-preserved c = (omega arith, turn _ _ _ _ c.wide-byte.ensures.0 c.loop-k.invariant.1)
 
 pub returns : goal.returns
-returns c = done _ _ _ _ (omega arith) (omega arith) c.loop-k.invariant.1
+returns c = with_bound (done _ _ _ _ (omega arith) (omega arith) c.loop-k.invariant.1)

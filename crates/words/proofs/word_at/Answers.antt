@@ -7,6 +7,7 @@ use lib.ListN.{get_or}
 use Rattle.words.specs.Words.{word_from}
 use Rattle.words.proofs.Words.{byte_more, word-short}
 use Rattle.words.proofs.word_at.Goals.{After-wide}
+use Rattle.lists.proofs.Clauses.{with_bound}
 use Rattle.words.proofs.word_at.Goals as goal
 
 
@@ -53,4 +54,4 @@ pub loop-k-preserved : goal.loop-k-preserved
 loop-k-preserved c = turn _ _ _ _ _ _ c.loop-k-test.true c.wide.ensures.0 c.wide.ensures.1 c.loop-k.invariant
 
 pub returns : goal.returns
-returns c = done _ _ _ _ _ c.loop-k-test.false c.loop-k.invariant
+returns c = with_bound (done _ _ _ _ _ c.loop-k-test.false c.loop-k.invariant)

@@ -2,4 +2,4 @@
 use Rattle.build_args.proofs.in_domain.qualifier_pin_in.Goals as goal
 
 pub returns-in-Present : goal.returns-in-Present
-returns-in-Present c = rw c.q-1.given.1
+returns-in-Present c = rw c.in-Present.is

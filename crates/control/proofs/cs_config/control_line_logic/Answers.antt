@@ -2,10 +2,10 @@
 use Rattle.control.proofs.cs_config.control_line_logic.Goals as goal
 
 pub returns-in-CeOe : goal.returns-in-CeOe
-returns-in-CeOe c = rw c.enum_told-1.given.1
+returns-in-CeOe c = rw c.in-CeOe.is
 
 pub returns-in-ChipSelect : goal.returns-in-ChipSelect
-returns-in-ChipSelect c = rw c.config-1.given.1 c.chip_select_logic.ensures
+returns-in-ChipSelect c = rw c.in-ChipSelect.is c.chip_select_logic.ensures
 
 pub returns-in-CeOeExplicit : goal.returns-in-CeOeExplicit
-returns-in-CeOeExplicit c = rw c.config-in-CeOeExplicit-1.given.1 c.explicit_logic.ensures
+returns-in-CeOeExplicit c = rw c.in-CeOeExplicit.is c.explicit_logic.ensures

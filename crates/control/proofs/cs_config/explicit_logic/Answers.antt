@@ -6,35 +6,35 @@ use Rattle.control.proofs.cs_config.explicit_logic.Goals as goal
 
 pub returns-in-0 : goal.returns-in-0
 unfolding explicit_logic
-returns-in-0 c = rw c.in-0.keys1
+returns-in-0 c = rw c.in-0.is
 
 pub returns-in-1 : goal.returns-in-1
 unfolding explicit_logic
-returns-in-1 c = rw c.in-1.keys2
+returns-in-1 c = rw c.in-1.is
 
 pub returns-then-swapped : goal.returns-then-swapped
 unfolding explicit_logic
 returns-then-swapped c =
     let k = c.before in
-    rw (c.in-2.keys3, sym k.is_ignore-swapped.ensures ∙ c.if-swapped.true)
+    rw (c.in-2.is, sym k.is_ignore-swapped.ensures ∙ c.if-swapped.true)
 
 pub returns-else-swapped : goal.returns-else-swapped
 unfolding explicit_logic
 returns-else-swapped c =
     let k = c.before in
-    rw (c.in-2.keys3, sym k.is_ignore-swapped.ensures ∙ c.if-swapped.false)
+    rw (c.in-2.is, sym k.is_ignore-swapped.ensures ∙ c.if-swapped.false)
 
 pub returns-then-swapped-2 : goal.returns-then-swapped-2
 unfolding explicit_logic
 returns-then-swapped-2 c =
     let k = c.before in
-    rw (c.in-3.keys4, sym k.is_ignore-swapped.ensures ∙ c.if-swapped-2.true)
+    rw (c.in-3.is, sym k.is_ignore-swapped.ensures ∙ c.if-swapped-2.true)
 
 pub returns-else-swapped-2 : goal.returns-else-swapped-2
 unfolding explicit_logic
 returns-else-swapped-2 c =
     let k = c.before in
-    rw (c.in-3.keys4, sym k.is_ignore-swapped.ensures ∙ c.if-swapped-2.false)
+    rw (c.in-3.is, sym k.is_ignore-swapped.ensures ∙ c.if-swapped-2.false)
 
 pub returns-in_default : goal.returns-in_default
 unfolding explicit_logic

@@ -2,7 +2,7 @@
 use Rattle.control.proofs.cs_config.given_or_low.Goals as goal
 
 pub returns-in-NotGiven : goal.returns-in-NotGiven
-returns-in-NotGiven c = rw c.enum_told-1.given.1
+returns-in-NotGiven c = rw c.in-NotGiven.is
 
 pub returns-in-Given : goal.returns-in-Given
-returns-in-Given c = rw c.s-1.given.1
+returns-in-Given c = rw c.in-Given.is

@@ -2,4 +2,4 @@
 use Rattle.cs_choices.proofs.nothing.interior_set.Goals as goal
 
 pub returns-in-SelectGap : goal.returns-in-SelectGap
-returns-in-SelectGap c = rw (c.v-1.given.1, c.gap.ensures)
+returns-in-SelectGap c = rw (c.in-SelectGap.is, c.gap.ensures)

@@ -24,16 +24,16 @@ pub with-requires : goal.with-requires
 with-requires c = one-small _ _ c.requires c.gpios-1.given.1
 
 pub with-requires-in-Two : goal.with-requires-in-Two
-with-requires-in-Two c = (two-small _ _ _ c.requires c.gpios-in-Two-1.given.1).0
+with-requires-in-Two c = (two-small _ _ _ c.requires c.in-Two.is).0
 
 pub with-requires-in-Two-2 : goal.with-requires-in-Two-2
-with-requires-in-Two-2 c = (two-small _ _ _ c.requires c.gpios-in-Two-1.given.1).1
+with-requires-in-Two-2 c = (two-small _ _ _ c.requires c.in-Two.is).1
 
 pub returns-in-One : goal.returns-in-One
-returns-in-One c = rw c.gpios-1.given.1 c.with.ensures
+returns-in-One c = rw c.in-One.is c.with.ensures
 
 pub returns-in-Two : goal.returns-in-Two
-returns-in-Two c = rw (c.gpios-in-Two-1.given.1, c.with-in-Two-2.ensures, c.with-in-Two.ensures)
+returns-in-Two c = rw (c.in-Two.is, c.with-in-Two-2.ensures, c.with-in-Two.ensures)
 
 pub returns-in-Absent : goal.returns-in-Absent
-returns-in-Absent c = rw c.enum_told-1.given.1
+returns-in-Absent c = rw c.in-Absent.is

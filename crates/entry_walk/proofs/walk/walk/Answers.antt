@@ -90,7 +90,7 @@ pub returns-in-Disagrees : goal.returns-in-Disagrees
 returns-in-Disagrees c =
     let read = c.before.before.before.before.before.before.before in
     let w = row read.before in
-    row_bad _ (turn w).before.loop.inv.2 c.read_row.ensures _ _ c.f-1.given.1 (within w)
+    row_bad _ (turn w).before.loop.inv.2 c.read_row.ensures _ _ c.in-Disagrees.is (within w)
 
 pub overflow_add-i : goal.overflow_add-i
 overflow_add-i c = omega (arith, few (row (passed c).before))

@@ -23,9 +23,9 @@ off d pin s e f = rw (← e, f)
 pub returns-in-On : goal.returns-in-On
 returns-in-On c =
     let a = c.args in
-    on a.d a.pin _ _ _ c.pin_socket-s.ensures c.s-1.given.1 c.candidates_at.ensures
+    on a.d a.pin _ _ _ c.pin_socket-s.ensures c.in-On.is c.candidates_at.ensures
 
 pub returns-in-Off : goal.returns-in-Off
 returns-in-Off c =
     let a = c.args in
-    off a.d a.pin _ c.pin_socket-s.ensures c.enum_told-1.given.1
+    off a.d a.pin _ c.pin_socket-s.ensures c.in-Off.is

@@ -2,7 +2,7 @@
 use Rattle.picks.proofs.positions.x_position.Goals as goal
 
 pub returns-in-Unused : goal.returns-in-Unused
-returns-in-Unused c = rw c.enum_told-1.given.1
+returns-in-Unused c = rw c.in-Unused.is
 
 pub returns-in-At : goal.returns-in-At
-returns-in-At c = rw (c.x-1.given.1, c.position.ensures)
+returns-in-At c = rw (c.in-At.is, c.position.ensures)

@@ -5,8 +5,8 @@ use Rattle.pin_page.proofs.roles.mark_x.Goals as goal
 
 pub returns-in-Unused : goal.returns-in-Unused
 unfolding marked_all
-returns-in-Unused c = rw c.enum_told-1.given.1 refl
+returns-in-Unused c = rw c.in-Unused.is refl
 
 pub returns-in-At : goal.returns-in-At
 unfolding marked_all
-returns-in-At c = rw c.x-1.given.1 c.mark.ensures
+returns-in-At c = rw c.in-At.is c.mark.ensures

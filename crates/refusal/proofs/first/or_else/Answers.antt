@@ -2,7 +2,7 @@
 use Rattle.refusal.proofs.first.or_else.Goals as goal
 
 pub returns-in-Of : goal.returns-in-Of
-returns-in-Of c = rw c.first-1.given.1
+returns-in-Of c = rw c.in-Of.is
 
 pub returns-in-None : goal.returns-in-None
-returns-in-None c = rw c.enum_told-1.given.1
+returns-in-None c = rw c.in-None.is

@@ -2,7 +2,7 @@
 use Rattle.table_fill.proofs.row.words_row.Goals as goal
 
 pub returns-in-LowFirst : goal.returns-in-LowFirst
-returns-in-LowFirst c = rw c.enum_told-1.given.1 c.each_entry.ensures
+returns-in-LowFirst c = rw c.in-LowFirst.is c.each_entry.ensures
 
 pub returns-in-HighFirst : goal.returns-in-HighFirst
-returns-in-HighFirst c = rw c.enum_told-in-HighFirst-1.given.1 c.each_entry-in-HighFirst.ensures
+returns-in-HighFirst c = rw c.in-HighFirst.is c.each_entry-in-HighFirst.ensures

@@ -1,8 +1,0 @@
--- `Candidates::in_domain` meets its contract. Assumes nothing.
-use Rattle.gpio.proofs.candidates.Candidates.in_domain.Goals as goal
-
-pub returns-in-One : goal.returns-in-One
-returns-in-One c = rw c.self-1.given.1
-
-pub returns-in-Two : goal.returns-in-Two
-returns-in-Two c = rw c.self-in-Two-1.given.1
