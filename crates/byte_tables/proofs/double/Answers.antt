@@ -1,5 +1,5 @@
 -- `double` meets its contract. The loop's invariant: the first entries are as they were, and those passed stand again. Assumes nothing.
-use mathlib.Core.Path.{◌≡◌, refl, ◌∙◌}
+use mathlib.Core.Path.{refl, ◌∙◌}
 use mathlib.Core.Logic.{inl, inr}
 use mathlib.Core.List.{List}
 use Prim.Native.Nat.{ℕ, ◌+◌, ◌-◌, ◌≤◌, ◌<◌}
@@ -10,14 +10,8 @@ use lib.Bits.{bit_or}
 use lib.ListN.{length, get_or, set, length-set}
 use lib.Seq.{get_or-set_same, get_or-set_other}
 use Rattle.byte_tables.specs.Design.Doubled.{Doubled}
+use Rattle.byte_tables.proofs.double.Invariants.{Again}
 use Rattle.byte_tables.proofs.double.Goals as goal
-
-
-record Again (size one : ℕ) (old out : List ℕ) (q : ℕ) : Type 0 where
-  within : q ≤ size
-  long : length out ≡ length old
-  first : (j : ℕ) → j < size → get_or out j 0 ≡ get_or old j 0
-  again : (j : ℕ) → j < q → get_or out (size + j) 0 ≡ bit_or (get_or old j 0) one
 
 module _ (size one : ℕ) (old : List ℕ) where
   begin : Again size one old old 0

@@ -26,7 +26,7 @@ module _ (c : After-struct_known-in-loop-low-2-1) where
   abbrev index : ℕ
   index = c.args.row.start + loop.loop-low.low
 
-  looked : Looked c.args.r c.args.row c.args.lows.now c.args.low-bytes.now c.args.high-bytes.now loop.loop-low.low
+  looked : Looked c.args.r c.args.row c.args.lows.now c.args.low_bytes.now c.args.high_bytes.now loop.loop-low.low
   looked = let p = c.pre in record { reading = lent.reading; few = lent.few; in_row = p.in_row; tables = p.tables; within = c.loop-low-test.true }
 
   room : index * c.args.r.word_bytes + c.args.r.word_bytes ≤ length c.args.stored.now

@@ -14,7 +14,7 @@ module _ (c : After-bit_if-mask) where
   abbrev at : ℕ
   at = c.loop-p.p
 
-  bit : c.bit_if-mask.result ≡ cond (cond c.args.low-too (forced_at c.args.s at) (high_at c.args.s at)) (2 ^ at) 0
+  bit : c.bit_if-mask.result ≡ cond (cond c.args.low_too (forced_at c.args.s at) (high_at c.args.s at)) (2 ^ at) 0
   bit = c.bit_if-mask.ensures ∙ ap (λ (b : Bool). cond b (2 ^ at) 0) c.forces.ensures
 
 pub loop-p-init : goal.loop-p-init

@@ -6,8 +6,8 @@ use borrow.Author.Rules.{rules}
 use Rattle.hex_write.specs.Text.{ahead, block_bytes, record_text}
 use Rattle.hex_write.proofs.Pieces.{ahead-first, ahead_within, block_ahead}
 use Rattle.hex_write.proofs.Records.{record-room, record_put}
-use Rattle.hex_write.proofs.put_ahead.Goals.{Then-k-eq0}
 use Rattle.lists.proofs.Clauses.{with_text}
+use Rattle.hex_write.proofs.put_ahead.Goals.{Then-k-eq0}
 use Rattle.hex_write.proofs.put_ahead.Goals as goal
 
 

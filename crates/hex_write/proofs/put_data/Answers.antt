@@ -5,8 +5,8 @@ use borrow.Author.Rules.{rules}
 use Rattle.hex_write.specs.Text.{data_bytes, record_text}
 use Rattle.hex_write.proofs.Records.{record-room, record_put}
 use Rattle.hex_write.proofs.Pieces.{data-read}
-use Rattle.hex_write.proofs.put_data.Goals.{After-bytes-3-1}
 use Rattle.lists.proofs.Clauses.{with_text}
+use Rattle.hex_write.proofs.put_data.Goals.{After-bytes-3-1}
 use Rattle.hex_write.proofs.put_data.Goals as goal
 
 

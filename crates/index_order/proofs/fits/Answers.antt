@@ -15,4 +15,4 @@ overflow_sub-result c =
 pub returns : goal.returns
 returns c =
     let a = c.args in
-    fits_told _ _ a.forced a.forced-high _ _ _ _ c.apart.ensures c.mask-all.ensures (ap (λ (x : ℕ). x - 1) (one_up a.pins 32 (omega arith)))
+    fits_told _ _ a.forced a.forced_high _ _ _ _ c.apart.ensures c.mask-all.ensures (ap (λ (x : ℕ). x - 1) (one_up a.pins 32 (omega arith)))

@@ -16,7 +16,7 @@ pub returns-then-k-ge40 : goal.returns-then-k-ge40
 returns-then-k-ge40 c =
     let a = c.args in
     let e : length a.b.socket ≡ 40 = search (mapped_length, rules) in
-    rw (le-leb 1 _ c.if-socket_pin-lt1.false, get_or-eq_default a.b.socket no_pin {n = a.socket-pin - 1} (omega arith))
+    rw (le-leb 1 _ c.if-socket_pin-lt1.false, get_or-eq_default a.b.socket no_pin {n = a.socket_pin - 1} (omega arith))
 
 pub returns : goal.returns
 returns c = rw (le-leb 1 _ c.if-socket_pin-lt1.false)

@@ -30,7 +30,7 @@ pub loop-q-preserved : goal.loop-q-preserved
 loop-q-preserved c =
     let a = c.args in
     let l = c.loop-q in
-    (omega arith, same_turn _ _ l.q _ _ _ l.invariant.1 c.word_at-in-loop-q.ensures.value (c.said-value.ensures ∙ ap (said_by a.low-bytes.now a.high-bytes.now) c.word_at.ensures.value))
+    (omega arith, same_turn _ _ l.q _ _ _ l.invariant.1 c.word_at-in-loop-q.ensures.value (c.said-value.ensures ∙ ap (said_by a.low_bytes.now a.high_bytes.now) c.word_at.ensures.value))
 
 returns : tie.Need-returns
 returns c e q l = c.loop-q.invariant.1 e q (omega arith)

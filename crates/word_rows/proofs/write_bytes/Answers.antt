@@ -29,7 +29,7 @@ pub loop-q-preserved : goal.loop-q-preserved
 loop-q-preserved c =
     let a = c.args in
     let l = c.loop-q in
-    (omega arith, c.put_word.auto.0 ∙ l.invariant.1, wrote_turn _ _ _ l.q _ _ _ _ l.invariant.2 (c.said-value.ensures ∙ ap (said_by a.low-bytes.now a.high-bytes.now) c.word_at.ensures.value) c.put_word.ensures)
+    (omega arith, c.put_word.auto.0 ∙ l.invariant.1, wrote_turn _ _ _ l.q _ _ _ _ l.invariant.2 (c.said-value.ensures ∙ ap (said_by a.low_bytes.now a.high_bytes.now) c.word_at.ensures.value) c.put_word.ensures)
 
 pub returns : goal.returns
 returns c = let l = c.loop-q in wrote_done _ _ _ _ _ _ _ (omega (arith, l.invariant.0)) l.invariant.2

@@ -9,16 +9,10 @@ use Rattle.words.specs.Words.{chip_word_from}
 use Rattle.words.specs.declared.ByteOrder.TheVariants.{HighFirst}
 use Rattle.words.proofs.Words.{byte_more, word-short}
 use Rattle.words.proofs.Chip.{high-none, high_more}
-use Rattle.words.proofs.high_word_at.Goals.{After-wide}
 use Rattle.lists.proofs.Clauses.{with_bound}
+use Rattle.words.proofs.high_word_at.Invariants.{Taken}
+use Rattle.words.proofs.high_word_at.Goals.{After-wide}
 use Rattle.words.proofs.high_word_at.Goals as goal
-
-
--- the first k bytes, as a word that fits them
-record Taken (b : List ℕ) (at w k v : ℕ) : Type 0 where
-  within : k ≤ w
-  is : v ≡ chip_word_from HighFirst k b at
-  fits : v < 2 ^ (8 * k)
 
 module _ (b : List ℕ) (at w : ℕ) where
   begin : Taken b at w 0 0

@@ -5,8 +5,8 @@ use native.Mathlib.Numerals.{add-one}
 use native.Mathlib.Omega.{arith}
 use Rattle.words.specs.Words.{pad_word}
 use Rattle.words.proofs.Words.{pad_lt, word-short}
-use Rattle.words.proofs.pad_word.Goals.{In-loop-k}
 use Rattle.lists.proofs.Clauses.{with_bound}
+use Rattle.words.proofs.pad_word.Goals.{In-loop-k}
 use Rattle.words.proofs.pad_word.Goals as goal
 
 

@@ -7,14 +7,8 @@ use native.Mathlib.Omega.{arith}
 use lib.ListN.{length, take, drop, set, length-set, take-append-drop}
 use lib.Seq.{take-suc-set, drop-set-lt, append_snoc}
 use Rattle.words.specs.Words.{bytes_of}
+use Rattle.words.proofs.put_word.Invariants.{Written}
 use Rattle.words.proofs.put_word.Goals as goal
-
-
--- k bytes are written: with the bytes that are left behind them it would be the whole
-record Written (old : List ℕ) (at w x : ℕ) (out : List ℕ) (rest k : ℕ) : Type 0 where
-  within : k ≤ w
-  long : length out ≡ length old
-  left : take (at + k) out ++ bytes_of (w - k) rest ++ drop (at + w) out ≡ take at old ++ bytes_of w x ++ drop (at + w) old
 
 module _ (old : List ℕ) (at w x : ℕ) where
   begin : Written old at w x old x 0

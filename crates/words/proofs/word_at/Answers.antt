@@ -6,16 +6,10 @@ use native.Mathlib.Omega.{arith}
 use lib.ListN.{get_or}
 use Rattle.words.specs.Words.{word_from}
 use Rattle.words.proofs.Words.{byte_more, word-short}
-use Rattle.words.proofs.word_at.Goals.{After-wide}
 use Rattle.lists.proofs.Clauses.{with_bound}
+use Rattle.words.proofs.word_at.Invariants.{Taken}
+use Rattle.words.proofs.word_at.Goals.{After-wide}
 use Rattle.words.proofs.word_at.Goals as goal
-
-
--- the bytes from k on, as a word that fits them
-record Taken (b : List ℕ) (at w k v : ℕ) : Type 0 where
-  within : k ≤ w
-  is : v ≡ word_from (w - k) b (at + k)
-  fits : v < 2 ^ (8 * (w - k))
 
 module _ (b : List ℕ) (at w : ℕ) where
   begin : Taken b at w w 0

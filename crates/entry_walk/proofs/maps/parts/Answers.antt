@@ -7,17 +7,12 @@ use native.Mathlib.Omega.{arith}
 use lib.ListN.{length, get_or}
 use Rattle.lists.specs.Tab.{tab}
 use Rattle.lists.proofs.Tab.{tab_is, tab-length, get_or-tab}
-use Rattle.entry_words.specs.Design.Reading.{gathered, no_map, part_by}
+use Rattle.entry_words.specs.Design.Reading.{gathered, no_map}
 use Rattle.entry_words.specs.declared.Map.{Map}
 use Rattle.entry_walk.specs.Design.Tables.{Put}
 use Rattle.entry_rows.specs.Design.Rows.{byte_tables}
+use Rattle.entry_walk.proofs.maps.parts.Invariants.{Standing}
 use Rattle.entry_walk.proofs.maps.parts.Goals as goal
-
-
-record Standing (maps : List Map) (unit : ℕ) (out : List ℕ) (k : ℕ) : Type 0 where
-  within : k ≤ 5
-  long : length out ≡ 1280
-  there : (j : ℕ) → j < k * 256 → get_or out j 0 ≡ part_by maps (j / 256) (j % 256 * unit)
 
 module _ (maps : List Map) (unit : ℕ) where
   begin : (out : List ℕ) → length out ≡ 1280 → Standing maps unit out 0

@@ -1,5 +1,5 @@
 -- `put_table` meets its contract. The loop's invariant: the entries passed stand in their places. Assumes nothing.
-use mathlib.Core.Path.{◌≡◌, refl, ◌∙◌}
+use mathlib.Core.Path.{refl, ◌∙◌}
 use mathlib.Core.Logic.{inl, inr}
 use mathlib.Core.List.{List}
 use Prim.Native.Nat.{ℕ, ◌+◌, ◌-◌, ◌≤◌, ◌<◌}
@@ -9,14 +9,8 @@ use native.Mathlib.Omega.{arith}
 use lib.ListN.{length, get_or, set, length-set}
 use lib.Seq.{get_or-set_same, get_or-set_other}
 use Rattle.entry_walk.specs.Design.Tables.{Put}
+use Rattle.entry_walk.proofs.maps.put_table.Invariants.{Passed}
 use Rattle.entry_walk.proofs.maps.put_table.Goals as goal
-
-
-record Passed (at : ℕ) (table old out : List ℕ) (q : ℕ) : Type 0 where
-  within : q ≤ 256
-  long : length out ≡ length old
-  there : (j : ℕ) → j < q → get_or out (at + j) 0 ≡ get_or table j 0
-  before : (j : ℕ) → j < at → get_or out j 0 ≡ get_or old j 0
 
 module _ (at : ℕ) (table old : List ℕ) where
   begin : Passed at table old old 0

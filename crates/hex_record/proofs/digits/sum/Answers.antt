@@ -12,7 +12,7 @@ byte_at-requires c = c.requires c.loop-k.k (omega arith)
 pub loop-k-preserved : goal.loop-k-preserved
 loop-k-preserved c =
     let v = c.loop-k in
-    (omega arith, sum-turn _ v.k v.s _ _ v.invariant.1 (ap (λ x. x % 256) c.byte_at.ensures) c.wrapping_add_u8-s.ensures)
+    (omega arith, sum-turn _ v.k v.s _ _ v.invariant.1 (ap (λ x. x % 256) c.byte_at.ensures) c.wrapping_add_u8-s.ensures.value)
 
 pub returns : goal.returns
 returns c = sum_done _ _ _ _ (omega arith) c.loop-k.invariant.1

@@ -29,14 +29,14 @@ unfolding known_pairs
 returns-then-is_for c =
     let v = c.loop-k in
     let a = c.args in
-    ap Offset (search rules) ∙ turn known_pairs v.k a.chip-pins a.board-pins _ true _ (omega arith) (sym c.if-is_for.true ∙ c.is_for.ensures) v.invariant.1
+    ap Offset (search rules) ∙ turn known_pairs v.k a.chip_pins a.board_pins _ true _ (omega arith) (sym c.if-is_for.true ∙ c.is_for.ensures) v.invariant.1
 
 pub loop-k-preserved : goal.loop-k-preserved
 unfolding known_pairs
 loop-k-preserved c =
     let v = c.loop-k in
     let a = c.args in
-    (omega arith, turn known_pairs v.k a.chip-pins a.board-pins _ false _ (omega arith) (sym c.if-is_for.false ∙ c.is_for.ensures) v.invariant.1)
+    (omega arith, turn known_pairs v.k a.chip_pins a.board_pins _ false _ (omega arith) (sym c.if-is_for.false ∙ c.is_for.ensures) v.invariant.1)
 
 pub returns : goal.returns
 unfolding known_pairs offset_from
