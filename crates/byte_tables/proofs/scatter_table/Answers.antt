@@ -13,10 +13,5 @@ loop-k-init c = half-none _ _ refl refl (scatter-first _ _ _ _)
 pub double-requires : goal.double-requires
 double-requires c = room-again c.loop-k.k _ c.loop-k-test.true c.loop-k.invariant.long
 
-pub loop-k-preserved : goal.loop-k-preserved
-loop-k-preserved c =
-    let l = c.loop-k in
-    half-turn _ (scatter-joins _ _ _ _) _ _ l.k _ _ l.invariant (omega arith) c.double.auto.0 (one_up l.k 64 (omega arith)) (c.scatter.ensures.value ∙ ap (scatter _ _ _) (one_up (l.k + c.args.up) 32 (omega arith) ∙ pow-add 2 l.k _)) c.double.ensures
-
 pub returns : goal.returns
 returns c = half-done _ _ _ c.loop-k.invariant c.loop-k-test.false

@@ -17,15 +17,6 @@ stored_in c = c.requires.stored_in c.loop-q.q c.loop-q-test.true
 pub loop-q-init : goal.loop-q-init
 loop-q-init c = (omega arith, λ e j l. absurd (omega arith))
 
-pub overflow_cast-i : goal.overflow_cast-i
-overflow_cast-i c = record { fits = omega (arith, stored_in c.before, c.well-formed) }
-
-pub overflow_mul-i : goal.overflow_mul-i
-overflow_mul-i c = record { fits = omega (arith, stored_in c.before, c.well-formed) }
-
-pub word_at-requires : goal.word_at-requires
-word_at-requires c = (omega arith, stored_in c.before)
-
 pub loop-q-preserved : goal.loop-q-preserved
 loop-q-preserved c =
     let a = c.args in

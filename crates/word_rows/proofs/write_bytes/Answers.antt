@@ -16,20 +16,5 @@ stored_in c = c.requires.stored_in c.loop-q.q c.loop-q-test.true
 pub loop-q-init : goal.loop-q-init
 loop-q-init c = (omega arith, refl, wrote_none _ _ _ _)
 
-pub overflow_cast-i : goal.overflow_cast-i
-overflow_cast-i c = record { fits = omega (arith, stored_in c.before, c.well-formed) }
-
-pub overflow_mul-i : goal.overflow_mul-i
-overflow_mul-i c = record { fits = omega (arith, stored_in c.before, c.well-formed) }
-
-pub word_at-requires : goal.word_at-requires
-word_at-requires c = (omega arith, stored_in c.before)
-
-pub loop-q-preserved : goal.loop-q-preserved
-loop-q-preserved c =
-    let a = c.args in
-    let l = c.loop-q in
-    (omega arith, c.put_word.auto.0 ∙ l.invariant.1, wrote_turn _ _ _ l.q _ _ _ _ l.invariant.2 (c.said-value.ensures ∙ ap (said_by a.low_bytes.now a.high_bytes.now) c.word_at.ensures.value) c.put_word.ensures)
-
 pub returns : goal.returns
 returns c = let l = c.loop-q in wrote_done _ _ _ _ _ _ _ (omega (arith, l.invariant.0)) l.invariant.2

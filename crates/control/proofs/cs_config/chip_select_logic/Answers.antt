@@ -18,9 +18,3 @@ returns-in-4 c = rw c.in-4.is c.given_or_low-in-4.ensures
 pub returns-in-5 : goal.returns-in-5
 unfolding chip_select_logic
 returns-in-5 c = rw c.in-5.is c.given_or_low-in-5.ensures
-
-pub returns-in_default : goal.returns-in_default
-unfolding chip_select_logic
-returns-in_default c =
-    let r = c.in_default.rest in
-    rw (ne_eqb _ _ r.0.0.0.1, ne_eqb _ _ r.0.0.1, ne_eqb _ _ r.0.1, ne_eqb _ _ r.1)

@@ -35,9 +35,3 @@ unfolding explicit_logic
 returns-else-swapped-2 c =
     let k = c.before in
     rw (c.in-3.is, sym k.is_ignore-swapped.ensures ∙ c.if-swapped-2.false)
-
-pub returns-in_default : goal.returns-in_default
-unfolding explicit_logic
-returns-in_default c =
-    let r = c.in_default.rest in
-    rw (ne_eqb _ _ r.0.0.0.1, ne_eqb _ _ r.0.0.1, ne_eqb _ _ r.0.1, ne_eqb _ _ r.1)
