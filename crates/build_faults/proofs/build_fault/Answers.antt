@@ -3,16 +3,11 @@ use native.Mathlib.Omega.{arith}
 use Rattle.domain.proofs.Bounds.{DescriptionIn, description_in_lem}
 use Rattle.build_args.specs.Faults.{build_fault}
 use Rattle.build_args.proofs.Facts.{described, selected, data-base}
-use Rattle.build_faults.proofs.build_fault.Goals.{Start}
 use Rattle.build_faults.proofs.build_fault.Goals as goal
-
-
-in_domain : (c : Start) → DescriptionIn c.args.b.description
-in_domain c = description_in_lem c.args.b.description (described c.args.b c.requires)
 
 pub too_large-requires : goal.too_large-requires
 too_large-requires c =
-    let h = in_domain c.before.before.before.before.before in
+    let h = (let h : DescriptionIn c.args.b.description = description_in_lem c.args.b.description (described c.args.b c.requires) in h) in
     record { image_size = h.image_size.1; some_bytes = h.word_bytes.0; bytes = h.word_bytes.1 }
 
 pub returns-then-too_large : goal.returns-then-too_large
@@ -25,8 +20,7 @@ lines_fault-requires c =
 
 pub lent_fault-requires : goal.lent_fault-requires
 lent_fault-requires c =
-    let s = c.before.before.before.before.before.before.before.before in
-    record { pins = c.too_large.ensures.num_addr_pins_bound c.if-too_large.false; bytes = (in_domain s).word_bytes.1 }
+    record { pins = c.too_large.ensures.num_addr_pins_bound c.if-too_large.false; bytes = (let h : DescriptionIn c.args.b.description = description_in_lem c.args.b.description (described c.args.b c.requires) in h).word_bytes.1 }
 
 pub returns : goal.returns
 unfolding build_fault

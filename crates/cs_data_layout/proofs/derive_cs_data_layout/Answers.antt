@@ -36,19 +36,19 @@ pub returns-then-not-pins-given_in : goal.returns-then-not-pins-given_in
 returns-then-not-pins-given_in c =
     let given = c.before.before.before in
     let a = given.args in
-    c.refused.ensures ∙ outside a.d a.addr_layout _ _ given.number_pins-pins.ensures.verdict c.given_in.ensures (not-true _ c.if-not-pins-given_in.true)
+    c.refused.ensures ∙ outside a.d a.addr_layout _ _ given.number_pins-pins.ensures.verdict c.given_in.ensures c.if-not-pins-given_in.true
 
 pub earlier-requires : goal.earlier-requires
 earlier-requires c =
     let n = c.number_pins-pins.ensures in
-    (sym n.verdict ∙ and_left _ _ (not-false _ c.if-not-pins-given_in.false), n)
+    (sym n.verdict ∙ and_left _ _ c.if-not-pins-given_in.false, n)
 
 pub search-requires : goal.search-requires
 search-requires c =
     let early = c.before.before.before in
     let given = early.before.before.before in
     let a = given.args in
-    let w = within a.d a.addr_layout _ _ given.number_pins-pins.ensures.verdict early.given_in.ensures (not-false _ early.if-not-pins-given_in.false) _ c.earlier.ensures in
+    let w = within a.d a.addr_layout _ _ given.number_pins-pins.ensures.verdict early.given_in.ensures early.if-not-pins-given_in.false _ c.earlier.ensures in
     let none = sym c.earlier.ensures ∙ c.enum_told-1.given.1 in
     rw c.handed.ensures (record { description = w.0; pins = given.number_pins-pins.ensures; handed = record { layout = handed_in a.d a.addr_layout w.1; qualifiers = qualifiers_in_lem a.d a.addr_layout w.1 none } })
 
@@ -58,11 +58,11 @@ returns-in-Of c =
     let given = early.before.before.before in
     let a = given.args in
     c.refused-in-Of.ensures
-    ∙ refused_early a.d a.addr_layout _ _ given.number_pins-pins.ensures.verdict early.given_in.ensures (not-false _ early.if-not-pins-given_in.false) _ c.earlier.ensures _ c.in-Of.is
+    ∙ refused_early a.d a.addr_layout _ _ given.number_pins-pins.ensures.verdict early.given_in.ensures early.if-not-pins-given_in.false _ c.earlier.ensures _ c.in-Of.is
 
 pub returns-in-None : goal.returns-in-None
 returns-in-None c =
     let early = c.before.before.before.before in
     let given = early.before.before.before in
     let a = given.args in
-    searched a.d a.addr_layout _ _ given.number_pins-pins.ensures.verdict early.given_in.ensures (not-false _ early.if-not-pins-given_in.false) _ c.earlier.ensures _ _ c.in-None.is c.handed.ensures c.search.ensures
+    searched a.d a.addr_layout _ _ given.number_pins-pins.ensures.verdict early.given_in.ensures early.if-not-pins-given_in.false _ c.earlier.ensures _ _ c.in-None.is c.handed.ensures c.search.ensures

@@ -150,10 +150,10 @@ keep-requires c =
     record { bytes = (lent (turn c)).reading.bytes; mark = omega (arith, e.below, e.marks-room); room = rw e.held.long (words-room _ _ _ _ e.below e.room) }
 
 pub shape_of-output-then-not-keep : goal.shape_of-output-then-not-keep
-shape_of-output-then-not-keep c = let k = c.before.before.before.before.before in c.keep.auto.0 ∙ (entry k.before).held.long
+shape_of-output-then-not-keep c = let k = c.before.before.before.before.before in c.keep.auto.output ∙ (entry k.before).held.long
 
 pub shape_of-marks-then-not-keep : goal.shape_of-marks-then-not-keep
-shape_of-marks-then-not-keep c = let k = c.before.before.before.before.before in c.keep.auto.1.0 ∙ (entry k.before).held.marks-long
+shape_of-marks-then-not-keep c = let k = c.before.before.before.before.before in c.keep.auto.marks ∙ (entry k.before).held.marks-long
 
 pub returns-then-not-keep : goal.returns-then-not-keep
 returns-then-not-keep c =

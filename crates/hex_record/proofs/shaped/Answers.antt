@@ -5,4 +5,4 @@ use Rattle.hex_record.proofs.shaped.Goals as goal
 pub returns : goal.returns
 unfolding shaped
 returns c =
-    rw (c.type_sound.ensures, c.well-formed-2.ensures, c.requires.typed, c.requires.counted, c.requires.placed)
+    rw (c.type_sound.ensures, c.well_formed-2.ensures, c.requires.typed, c.requires.counted, c.requires.placed)

@@ -19,8 +19,8 @@ pub put_data-at-requires : goal.put_data-at-requires
 put_data-at-requires c =
     let v = c.loop-k in
     let k = c.put_ahead-at in
-    let l = k.auto.0 in
-    let e = k.ensures.0 in
+    let l = k.auto.text in
+    let e = k.ensures.value in
     let r = chip-room c.args.chip.now v.k (omega arith) in
     record { within = omega arith; small = omega arith; room = omega arith }
 
@@ -29,8 +29,8 @@ loop-k-preserved c =
     let v = c.loop-k in
     let k = c.put_ahead-at in
     let d = c.put_data-at in
-    (omega arith, d.auto.0 ∙ k.auto.0 ∙ v.invariant.1, chip-turn _ _ _ _ _ _ _ _ _ v.invariant.2 k.ensures.0 k.ensures.1 d.ensures.0 d.ensures.1)
+    (omega arith, d.auto.text ∙ k.auto.text ∙ v.invariant.1, chip-turn _ _ _ _ _ _ _ _ _ v.invariant.2 k.ensures.value k.ensures.text_after d.ensures.value d.ensures.text_after)
 
 pub returns : goal.returns
 returns c = with_text (let v = c.loop-k in
-    chip-done c.args.chip.now _ v.text-1 v.k v.at (omega arith) v.invariant.2)
+    chip-done c.args.chip.now _ v.text v.k v.at (omega arith) v.invariant.2)

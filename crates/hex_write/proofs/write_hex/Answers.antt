@@ -21,21 +21,20 @@ pub text_length-n-requires : goal.text_length-n-requires
 text_length-n-requires c = ltb-false _ _ (fits c)
 
 pub returns-then-text-n : goal.returns-then-text-n
-returns-then-text-n c = writes_short _ c.args.text.now _ (fits c.before.before) c.text_length-n.ensures (omega arith)
+returns-then-text-n c = writes_short _ c.args.text.now _ (let h : too_long (length c.args.chip.now) ≡ false = sym c.too_long.ensures ∙ c.if-too_long.false in h) c.text_length-n.ensures (omega arith)
 
 pub put_chip-end-requires : goal.put_chip-end-requires
-put_chip-end-requires c = let t = c.before in write_room _ _ _ (fits t.before.before) t.text_length-n.ensures c.if-text-n.false
+put_chip-end-requires c = write_room _ _ _ (let h : too_long (length c.args.chip.now) ≡ false = sym c.too_long.ensures ∙ c.if-too_long.false in h) c.text_length-n.ensures c.if-text-n.false
 
 pub put-requires : goal.put-requires
 put-requires c =
     let chip = c.args.chip.now in
     let k = c.put_chip-end in
-    let l = k.auto.0 in
-    let e = k.ensures.0 in
+    let l = k.auto.text in
+    let e = k.ensures.value in
     omega (arith, length_law chip, pieces-length chip)
 
 pub returns : goal.returns
 returns c =
-    let t = c.before.before.before.before.before.before.before.before.before in
     let k = c.put_chip-end in
-    writes_all _ _ _ (fits t.before.before) t.text_length-n.ensures c.if-text-n.false _ _ _ k.ensures.0 k.ensures.1 c.put.ensures.buffer_after
+    writes_all _ _ _ (let h : too_long (length c.args.chip.now) ≡ false = sym c.too_long.ensures ∙ c.if-too_long.false in h) c.text_length-n.ensures c.if-text-n.false _ _ _ k.ensures.value k.ensures.text_after c.put.ensures.buffer_after

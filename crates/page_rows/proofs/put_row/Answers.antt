@@ -7,8 +7,8 @@ use Rattle.page_rows.proofs.put_row.Goals.{After-slice_known-2-1}
 use Rattle.page_rows.proofs.put_row.Goals as goal
 
 -- the page is as long as it came, after the call
-long : (c : After-slice_known-2-1) → length c.put.new.0 ≡ length c.args.page.now
-long c = simp length-set at c.put.auto.0
+long : (c : After-slice_known-2-1) → length c.put.new.buffer ≡ length c.args.page.now
+long c = simp length-set at c.put.auto.buffer
 
 pub bounds-page-at-2 : goal.bounds-page-at-2
 bounds-page-at-2 c = simp length-set (omega arith)

@@ -8,22 +8,17 @@ use Rattle.addr_layout.specs.Layout.{layout_in}
 use Rattle.build_args.specs.Domain.{cs_data_in}
 use Rattle.pin_page.specs.Page.{layouts_in}
 use Rattle.pin_page.proofs.Writes.{roles_in, writes_none, writes_short, writes_all}
-use Rattle.pin_page.proofs.write_page.Goals.{Else-not-layouts_in}
 use Rattle.pin_page.proofs.write_page.Goals as goal
 
--- past the first test the layouts keep to the domain
-kept : (c : Else-not-layouts_in) → layouts_in c.args.addr c.args.cs_data ≡ true
-kept c = sym c.layouts_in.ensures ∙ not-false _ c.if-not-layouts_in.false
-
 pub returns-then-not-layouts_in : goal.returns-then-not-layouts_in
-returns-then-not-layouts_in c = writes_none _ _ _ (sym c.layouts_in.ensures ∙ not-true _ c.if-not-layouts_in.true)
+returns-then-not-layouts_in c = writes_none _ _ _ (sym c.layouts_in.ensures ∙ c.if-not-layouts_in.true)
 
 pub returns-then-page-lt-SIZE : goal.returns-then-page-lt-SIZE
-returns-then-page-lt-SIZE c = writes_short c.args.addr c.args.cs_data _ (kept c.before) (omega arith)
+returns-then-page-lt-SIZE c = writes_short c.args.addr c.args.cs_data _ (let h : layouts_in c.args.addr c.args.cs_data ≡ true = sym c.layouts_in.ensures ∙ c.if-not-layouts_in.false in h) (omega arith)
 
 pub page_roles-roles-requires : goal.page_roles-roles-requires
 page_roles-roles-requires c =
-    and_right (layout_in c.args.addr) (cs_data_in c.args.cs_data) (kept c.before)
+    and_right (layout_in c.args.addr) (cs_data_in c.args.cs_data) (let h : layouts_in c.args.addr c.args.cs_data ≡ true = sym c.layouts_in.ensures ∙ c.if-not-layouts_in.false in h)
 
 pub put_rows-requires : goal.put_rows-requires
 put_rows-requires c =
@@ -31,4 +26,4 @@ put_rows-requires c =
 
 pub returns : goal.returns
 returns c =
-    writes_all c.args.addr c.args.cs_data _ c.page_roles-roles.ensures (kept c.before.before.before.before.before.before.before) _ _ (omega arith) c.put_rows.ensures
+    writes_all c.args.addr c.args.cs_data _ c.page_roles-roles.ensures (let h : layouts_in c.args.addr c.args.cs_data ≡ true = sym c.layouts_in.ensures ∙ c.if-not-layouts_in.false in h) _ _ (omega arith) c.put_rows.ensures

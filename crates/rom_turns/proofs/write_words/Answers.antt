@@ -43,7 +43,7 @@ loop-f-preserved c =
     let w = written.before.before.before.before in (
       within w,
       full w,
-      c.write_row.auto.1.1.1.1.1.0 ∙ (loop w).loop.invariant.2,
+      c.write_row.auto.output ∙ (loop w).loop.invariant.2,
       row_wrote written.requires _ _ _ (first w) written.fewer-count.ensures written.index_of-from.ensures _ _ _ (loop w).loop.invariant.3 c.write_row.ensures,
     )
 

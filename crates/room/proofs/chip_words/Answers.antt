@@ -7,5 +7,5 @@ pub returns : goal.returns
 returns c =
     let words = c.word_count in
     let s = c.args in
-    let all = reached-all words.result s.a.num_lines words.ensures.1 in
-    record { value = rw (← words.ensures.0, ← all, ← c.reached.ensures) c.lower.ensures; upper_bound = omega (arith, c.lower.ensures, words.ensures.1) }
+    let all = reached-all words.result s.a.num_lines words.ensures.upper_bound in
+    record { value = rw (← words.ensures.value, ← all, ← c.reached.ensures) c.lower.ensures; upper_bound = omega (arith, c.lower.ensures, words.ensures.upper_bound) }

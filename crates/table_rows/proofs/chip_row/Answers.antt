@@ -11,14 +11,13 @@ use Rattle.table_rows.proofs.chip_row.Goals.{After-next_address-address, After-s
 use Rattle.table_rows.proofs.chip_row.Goals as goal
 
 -- what is known in a turn: the function's start, where the word stands, and its entry's room in the table
-module _ (c : In-loop-q) where
-  stands : c.args.row.start + bit_and c.loop-q.address c.args.row.mask * c.args.w + c.args.w ≤ length c.args.images.now
-  stands = let v = c.loop-q in word_in _ _ _ _ _ _ _ v.q v.address _ _ c.pre c.loop-q-test.true v.invariant.2
+stands : (c : In-loop-q) → c.args.row.start + bit_and c.loop-q.address c.args.row.mask * c.args.w + c.args.w ≤ length c.args.images.now
+stands c = let v = c.loop-q in word_in _ _ _ _ _ _ _ v.q v.address _ _ c.pre c.loop-q-test.true v.invariant.2
 
-  room : (c.args.row.first + c.loop-q.q) * c.args.w + c.args.w ≤ length c.loop-q.table
-  room =
-      let v = c.loop-q in
-      entry-room c.args.w c.args.row.first c.args.row.count v.q _ c.loop-q-test.true (rw v.invariant.1 c.pre.room)
+room : (c : In-loop-q) → (c.args.row.first + c.loop-q.q) * c.args.w + c.args.w ≤ length c.loop-q.table
+room c =
+    let v = c.loop-q in
+    entry-room c.args.w c.args.row.first c.args.row.count v.q _ c.loop-q-test.true (rw v.invariant.1 c.pre.room)
 
 -- from later places to the turn
 abbrev past-known : After-struct_known-in-loop-q-2-1 → In-loop-q
@@ -66,7 +65,7 @@ loop-q-preserved c =
     let on : a.row.first + (v.q + 1) ≡ a.row.first + v.q + 1 = omega arith in
     let entry = entry_is _ a.row a.n _ a.lows.now a.highs.now a.images.now v.q _ a.order _ _ v.inv.2 c.chip_word_at-word.ensures.value c.scrambled-entry.ensures in (
       omega (arith, t.loop-q-test.taken),
-      put.auto.0 ∙ v.inv.1,
+      put.auto.out ∙ v.inv.1,
       rw on (c.next_address-address.ensures _ _ t.pre.moves_are v.inv.2),
       wrote_turn _ _ _ v.q _ _ _ _ v.inv.3 entry put.ensures,
     )

@@ -10,9 +10,7 @@ use lib.Pow.{pow_mono}
 use Rattle.words.proofs.Words.{word-short}
 use Rattle.word_rows.specs.Design.Wrote.{said_by}
 use Rattle.table_rows.specs.Design.Rows.{ByteTables}
-use Rattle.table_rows.proofs.scrambled.Goals.{Then-w-lt2}
 use Rattle.table_rows.proofs.scrambled.Goals as goal
-
 
 -- a word of one byte at most
 byte-short : (w v : ℕ) → w < 2 → v < 2 ^ (8 * w) → v < 256
@@ -25,15 +23,11 @@ low-only lows highs v t l =
     let high : v / 256 ≡ 0 = omega arith in
     rw (low, high, t.none, or_zero_r)
 
--- the word in the arm of one byte
-short : (c : Then-w-lt2) → c.args.word < 256
-short c = byte-short _ _ c.if-w-lt2.true c.requires.1
-
 pub bounds-lows-word : goal.bounds-lows-word
-bounds-lows-word c = omega (arith, short c.before)
+bounds-lows-word c = omega (arith, (let h : c.args.word < 256 = byte-short _ _ c.if-w-lt2.true c.requires.1 in h))
 
 pub returns-then-w-lt2 : goal.returns-then-w-lt2
-returns-then-w-lt2 c = low-only _ _ _ c.requires.2 (short c.before)
+returns-then-w-lt2 c = low-only _ _ _ c.requires.2 (let h : c.args.word < 256 = byte-short _ _ c.if-w-lt2.true c.requires.1 in h)
 
 pub said-requires : goal.said-requires
 said-requires c =

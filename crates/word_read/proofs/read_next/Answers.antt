@@ -13,7 +13,7 @@ use Rattle.word_read.proofs.read_next.Goals as goal
 -- what is known past the tests
 module _ (c : Else-not-suits) where
   placed : Placed c.args.r c.args.k c.bits_for-b.result c.args.m c.args.pins c.order-ordered.result
-  placed = record { ordered = c.order-ordered.ensures; suited = c.suits.ensures (not-false _ c.if-not-suits.false) }
+  placed = record { ordered = c.order-ordered.ensures; suited = c.suits.ensures c.if-not-suits.false }
 
 pub returns-then-not-suits : goal.returns-then-not-suits
 returns-then-not-suits c = record { output_unchanged = refl; words_read = λ z. absurd (zero_one cc) }

@@ -8,4 +8,4 @@ pub returns : goal.returns
 returns c =
     let high = c.digit-high.ensures in
     let low = c.digit-low.ensures in
-    record { value = byte_of _ _ _ _ (high.0 ∙ ap digit_of c.entry.ensures) (low.0 ∙ ap digit_of c.entry-2.ensures); upper_bound = omega (arith, high.1, low.1) }
+    record { value = byte_of _ _ _ _ (high.value ∙ ap digit_of c.entry.ensures) (low.value ∙ ap digit_of c.entry-2.ensures); upper_bound = omega (arith, high.upper_bound, low.upper_bound) }

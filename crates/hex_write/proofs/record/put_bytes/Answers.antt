@@ -12,7 +12,7 @@ pub loop-k-preserved : goal.loop-k-preserved
 loop-k-preserved c =
     let v = c.loop-k in
     let k = c.put_byte in
-    (omega arith, k.auto.0 ∙ v.invariant.1, digits_turn _ _ _ _ _ v.k (omega arith) v.invariant.2 k.ensures)
+    (omega arith, k.auto.text ∙ v.invariant.1, digits_turn _ _ _ _ _ v.k (omega arith) v.invariant.2 k.ensures)
 
 pub returns : goal.returns
 returns c = let v = c.loop-k in digits_done _ _ _ _ v.k (omega arith) v.invariant.2

@@ -7,14 +7,14 @@ use Rattle.hex_write.proofs.record.put_record.Goals.{After-slice_known-3-1}
 use Rattle.hex_write.proofs.record.put_record.Goals as goal
 
 -- the text is as long as it came, after both calls
-long : (c : After-slice_known-3-1) → length c.put_byte.new.0 ≡ length c.args.text.now
-long c = c.put_byte.auto.0 ∙ simp length-set at c.put_bytes.auto.0
+long : (c : After-slice_known-3-1) → length c.put_byte.new.text ≡ length c.args.text.now
+long c = c.put_byte.auto.text ∙ simp length-set at c.put_bytes.auto.text
 
 pub put_bytes-requires : goal.put_bytes-requires
 put_bytes-requires c = simp length-set (omega arith)
 
 pub put_byte-requires : goal.put_byte-requires
-put_byte-requires c = omega (arith, simp length-set at c.put_bytes.auto.0)
+put_byte-requires c = omega (arith, simp length-set at c.put_bytes.auto.text)
 
 pub bounds-text-end : goal.bounds-text-end
 bounds-text-end c = omega (arith, long c)

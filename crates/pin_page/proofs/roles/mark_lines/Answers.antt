@@ -25,7 +25,7 @@ loop-k-preserved c =
     let m = c.mark in
     let l = c.line_of-line in (
       omega arith,
-      m.auto.0 ∙ v.invariant.1,
+      m.auto.roles ∙ v.invariant.1,
       marks-turn _ _ _ _ _ _ v.invariant.2 m.ensures
           (ap (λ r. page_line r l.result.gpio) c.line_role.ensures
           ∙ ap (λ (x : SelectLine). page_line (line_role c.args.commoned x.role) x.gpio) l.ensures),

@@ -17,7 +17,7 @@ pub loop-k-preserved : goal.loop-k-preserved
 loop-k-preserved c =
     let v = c.loop-k in
     let m = c.mark in
-    (omega arith, m.auto.0 ∙ v.invariant.1, marks-turn _ _ _ _ _ _ v.invariant.2 m.ensures (ap (page_line _) c.entry.ensures))
+    (omega arith, m.auto.roles ∙ v.invariant.1, marks-turn _ _ _ _ _ _ v.invariant.2 m.ensures (ap (page_line _) c.entry.ensures))
 
 pub returns : goal.returns
 returns c =

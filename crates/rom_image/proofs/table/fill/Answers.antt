@@ -23,15 +23,7 @@ use Rattle.build_wiring.specs.Design.Wiring.{wiring_of, sources_of}
 use Rattle.rom_image.proofs.Buildable.{Buildable}
 use Rattle.rom_image.proofs.Entries.{wiring_in, sources_in, table_is}
 use Rattle.rom_image.proofs.Past.{entries-few, pins-few, table_fits, buildable}
-use Rattle.rom_image.proofs.table.fill.Goals.{Start}
 use Rattle.rom_image.proofs.table.fill.Goals as goal
-
-
-can : (s : Start) → Buildable s.args.b.description s.args.b.addr s.args.b.cs_data s.args.images.now s.args.b.spans
-can s = buildable s.args.b.description s.args.b.addr s.args.b.cs_data s.args.images.now s.args.b.spans _ s.requires
-
-few-pins : (s : Start) → s.args.b.addr.num_addr_pins < 32
-few-pins s = pins-few s.args.b.description s.args.b.addr s.args.b.cs_data s.args.images.now s.args.b.spans _ s.requires
 
 entries : (pins : ℕ) → pins < 32 → (1 * 2 ^ pins) % 2 ^ 32 ≡ 2 ^ pins
 entries pins h = shifted_one pins 32 (omega arith)
@@ -49,28 +41,26 @@ module _ (d : Description) (a : AddrLayout) (l : CsDataLayout) (images : List �
   done order old new e = rw (ew, es, ep, en, table_is d a l images spans b order pad_byte old) at e
 
 pub pad_word-pad-requires : goal.pad_word-pad-requires
-pad_word-pad-requires c = (can c.before.before.before.before.before.before.before).bytes
+pad_word-pad-requires c = (let h : Buildable c.args.b.description c.args.b.addr c.args.b.cs_data c.args.images.now c.args.b.spans = buildable c.args.b.description c.args.b.addr c.args.b.cs_data c.args.images.now c.args.b.spans _ c.requires in h).bytes
 
 pub wiring-requires : goal.wiring-requires
 wiring-requires c =
     omega (arith, data-base c.args.b.cs_data (selected c.args.b c.requires.domain))
 
 pub sources-requires : goal.sources-requires
-sources-requires c = (can c.before.before.before.before.before.before.before.before.before).some_bytes
+sources-requires c = (let h : Buildable c.args.b.description c.args.b.addr c.args.b.cs_data c.args.images.now c.args.b.spans = buildable c.args.b.description c.args.b.addr c.args.b.cs_data c.args.images.now c.args.b.spans _ c.requires in h).some_bytes
 
 pub overflow_shl-a : goal.overflow_shl-a
-overflow_shl-a c = few-pins c.before.before.before.before.before.before.before.before.before.before.before
+overflow_shl-a c = (let h : c.args.b.addr.num_addr_pins < 32 = pins-few c.args.b.description c.args.b.addr c.args.b.cs_data c.args.images.now c.args.b.spans _ c.requires in h)
 
 pub fill_by-requires : goal.fill_by-requires
 fill_by-requires c =
-    let s = c.before.before.before.before.before.before.before.before.before.before.before.before in
-    ready c.args.b.description c.args.b.addr c.args.b.cs_data c.args.images.now c.args.b.spans (can s) _ _ _ _ c.wiring.ensures c.sources.ensures c.pad_word-pad.ensures.value
-    (entries c.args.b.addr.num_addr_pins (few-pins s)) _
+    ready c.args.b.description c.args.b.addr c.args.b.cs_data c.args.images.now c.args.b.spans (let h : Buildable c.args.b.description c.args.b.addr c.args.b.cs_data c.args.images.now c.args.b.spans = buildable c.args.b.description c.args.b.addr c.args.b.cs_data c.args.images.now c.args.b.spans _ c.requires in h) _ _ _ _ c.wiring.ensures c.sources.ensures c.pad_word-pad.ensures.value
+    (entries c.args.b.addr.num_addr_pins (let h : c.args.b.addr.num_addr_pins < 32 = pins-few c.args.b.description c.args.b.addr c.args.b.cs_data c.args.images.now c.args.b.spans _ c.requires in h)) _
     (entries-few c.args.b.description c.args.b.addr c.args.b.cs_data c.args.images.now c.args.b.spans _ c.requires)
     (table_fits c.args.b.description c.args.b.addr c.args.b.cs_data c.args.images.now c.args.b.spans _ c.requires)
 
 pub returns : goal.returns
 returns c =
-    let s = c.before.before.before.before.before.before.before.before.before.before.before.before.before.before.before in
-    done c.args.b.description c.args.b.addr c.args.b.cs_data c.args.images.now c.args.b.spans (can s) _ _ _ _ c.wiring.ensures c.sources.ensures c.pad_word-pad.ensures.value
-    (entries c.args.b.addr.num_addr_pins (few-pins s)) c.args.order _ _ c.fill_by.ensures
+    done c.args.b.description c.args.b.addr c.args.b.cs_data c.args.images.now c.args.b.spans (let h : Buildable c.args.b.description c.args.b.addr c.args.b.cs_data c.args.images.now c.args.b.spans = buildable c.args.b.description c.args.b.addr c.args.b.cs_data c.args.images.now c.args.b.spans _ c.requires in h) _ _ _ _ c.wiring.ensures c.sources.ensures c.pad_word-pad.ensures.value
+    (entries c.args.b.addr.num_addr_pins (let h : c.args.b.addr.num_addr_pins < 32 = pins-few c.args.b.description c.args.b.addr c.args.b.cs_data c.args.images.now c.args.b.spans _ c.requires in h)) c.args.order _ _ c.fill_by.ensures

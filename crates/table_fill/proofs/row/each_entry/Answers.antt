@@ -9,21 +9,20 @@ use Rattle.table_fill.proofs.row.each_entry.Goals.{After-next_address-picks, Aft
 use Rattle.table_fill.proofs.row.each_entry.Goals as goal
 
 -- what is known in a turn: the function's start, what the index says, and its entry's room in the table
-module _ (c : In-loop-q) where
-  reached : Reached c.args.order c.args.w c.args.bytes c.args.from.sources c.args.from.pad c.args.row c.args.images.now c.args.table.now c.loop-q.table c.loop-q.address c.loop-q.picks c.loop-q.q
-  reached = c.loop-q.invariant.2 c.args.w c.pre
+reached : (c : In-loop-q) → Reached c.args.order c.args.w c.args.bytes c.args.from.sources c.args.from.pad c.args.row c.args.images.now c.args.table.now c.loop-q.table c.loop-q.address c.loop-q.picks c.loop-q.q
+reached c = c.loop-q.invariant.2 c.args.w c.pre
 
-  bytes : c.args.bytes ≤ 2
-  bytes = rw c.pre.bytes_are c.pre.wiring_in.bytes
+bytes : (c : In-loop-q) → c.args.bytes ≤ 2
+bytes c = rw c.pre.bytes_are c.pre.wiring_in.bytes
 
-  picks : c.loop-q.picks < 8
-  picks = rw reached.picks_are (picks-eight c.args.w (c.args.row.first + c.loop-q.q) c.pre.wiring_in)
+picks : (c : In-loop-q) → c.loop-q.picks < 8
+picks c = rw (reached c).picks_are (picks-eight c.args.w (c.args.row.first + c.loop-q.q) c.pre.wiring_in)
 
-  few : c.args.row.first + c.loop-q.q + 1 ≤ 2 ^ 20
-  few = omega (arith, c.loop-q-test.true, c.pre.few)
+few : (c : In-loop-q) → c.args.row.first + c.loop-q.q + 1 ≤ 2 ^ 20
+few c = omega (arith, c.loop-q-test.true, c.pre.few)
 
-  room : (c.args.row.first + c.loop-q.q) * c.args.bytes + c.args.bytes ≤ length c.loop-q.table
-  room = rw c.loop-q.invariant.1 (row_room _ _ _ _ _ _ _ _ _ _ _ c.pre c.loop-q.q c.loop-q-test.true)
+room : (c : In-loop-q) → (c.args.row.first + c.loop-q.q) * c.args.bytes + c.args.bytes ≤ length c.loop-q.table
+room c = rw c.loop-q.invariant.1 (row_room _ _ _ _ _ _ _ _ _ _ _ c.pre c.loop-q.q c.loop-q-test.true)
 
 -- from later places to the turn
 abbrev past-raw : After-raw-word → In-loop-q
@@ -61,8 +60,7 @@ offset_bounds-sources-picks c = record { fits = omega (arith, picks c) }
 
 pub raw-word-requires : goal.raw-word-requires
 raw-word-requires c =
-    let t = c.before in
-    record { bytes = bytes t; source_in = source_in _ _ _ _ _ _ _ _ _ _ _ c.requires _ _ (reached t).picks_are; pad_short = c.requires.pad_short }
+    record { bytes = (let h : c.args.bytes ≤ 2 = rw c.pre.bytes_are c.pre.wiring_in.bytes in h); source_in = source_in _ _ _ _ _ _ _ _ _ _ _ c.requires _ _ (let h : Reached c.args.order c.args.w c.args.bytes c.args.from.sources c.args.from.pad c.args.row c.args.images.now c.args.table.now c.loop-q.table c.loop-q.address c.loop-q.picks c.loop-q.q = c.loop-q.invariant.2 c.args.w c.pre in h).picks_are; pad_short = c.requires.pad_short }
 
 pub scrambled-entry-requires : goal.scrambled-entry-requires
 scrambled-entry-requires c = let t = past-raw c in (bytes t, c.raw-word.ensures.upper_bound, byte-tables _ _ _ _ _ t.pre.tables)
@@ -97,9 +95,9 @@ loop-q-preserved c =
     let raw = c.raw-word in
     let put = c.put_word in (
       omega (arith, (past-picks c).if1.true),
-      put.auto.0 ∙ v.inv.1,
+      put.auto.out ∙ v.inv.1,
       λ w h.
-          reached-turn w _ _ _ _ _ _ _ _ _ _ h _ _ _ _ _ v.q _ _ _ _ (v.inv.2 w h) raw.ensures.0 raw.ensures.1 c.scrambled-entry.ensures put.ensures c.next_address-address.ensures c.next_address-picks.ensures,
+          reached-turn w _ _ _ _ _ _ _ _ _ _ h _ _ _ _ _ v.q _ _ _ _ (v.inv.2 w h) raw.ensures.value raw.ensures.upper_bound c.scrambled-entry.ensures put.ensures c.next_address-address.ensures c.next_address-picks.ensures,
     )
 
 pub returns : goal.returns
