@@ -2,3 +2,4 @@ pub mod Splits
 pub mod Verdicts
 pub mod Stored
 pub mod Answers
+mod Found

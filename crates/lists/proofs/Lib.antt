@@ -5,3 +5,4 @@ pub mod Lists
 pub mod Tab
 pub mod Shifts
 pub mod First
+pub mod Clauses

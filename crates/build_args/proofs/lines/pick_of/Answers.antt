@@ -1,0 +1,11 @@
+-- `pick_of` meets its contract. Assumes nothing.
+use Rattle.build_args.proofs.lines.pick_of.Goals as goal
+
+pub returns-in-Single : goal.returns-in-Single
+returns-in-Single c = rw c.in-Single.is
+
+pub returns-in-Banked : goal.returns-in-Banked
+returns-in-Banked c = rw (c.in-Banked.is, c.x_gpio.ensures)
+
+pub returns-in-Multi : goal.returns-in-Multi
+returns-in-Multi c = rw (c.in-Multi.is, c.multi_pick.ensures)

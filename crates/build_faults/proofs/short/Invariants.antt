@@ -1,0 +1,12 @@
+-- `short` meets its contract. The invariant: `fault` is that of the chips passed. Assumes nothing.
+use mathlib.Core.Path.{◌≡◌}
+use Prim.Native.Nat.{◌≤◌, ◌-◌}
+use Rattle.build_args.specs.Faults.{short_at}
+use Rattle.refusal.specs.First.{first_of}
+use Rattle.build_faults.proofs.short.Given as goal
+
+abbrev pub invariant-loop-k : goal.invariant-loop-k
+invariant-loop-k l = (l.k ≤ l.n) × (l.fault ≡ first_of l.k (short_at l.d l.images l.spans))
+
+abbrev pub decreases-loop-k : goal.decreases-loop-k
+decreases-loop-k l = l.n - l.k

@@ -1,0 +1,12 @@
+-- `data_positions` meets its contract. The invariant: the first k are in place. Assumes nothing.
+use Prim.Native.Nat.{◌-◌}
+use lib.ListN.{get_or}
+use Rattle.lists.proofs.Tab.{Filled}
+use Rattle.picks.specs.Positions.{position}
+use Rattle.build_wiring.proofs.wiring.data_positions.Given as goal
+
+abbrev pub invariant-loop-k : goal.invariant-loop-k
+invariant-loop-k l = Filled 16 (λ j. position l.base (get_or l.gpios j 0)) l.out l.k
+
+abbrev pub decreases-loop-k : goal.decreases-loop-k
+decreases-loop-k l = 16 - l.k

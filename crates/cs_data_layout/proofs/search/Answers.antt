@@ -1,0 +1,111 @@
+-- `search` meets its contract. Assumes nothing.
+use mathlib.Core.Path.{◌≡◌, ◌∙◌, ap}
+use mathlib.Core.Bool.{true}
+use Prim.Native.Nat.{ℕ, ◌≤◌}
+use native.Mathlib.Omega.{arith}
+use lib.ListN.{length}
+use Rattle.slot.specs.declared.description.Chip.{Chip}
+use Rattle.slot.specs.declared.description.Description.{Description}
+use Rattle.domain.specs.Domain.{description_in}
+use Rattle.domain.proofs.Bounds.{chip0_in}
+use Rattle.listing.specs.Listing.{twos}
+use Rattle.listing.specs.Design.Packed.{list_of}
+use Rattle.listing.specs.declared.Listing.{Listing}
+use Rattle.search.specs.declared.Found.{Found}
+use Rattle.search.specs.declared.Found.TheVariants.{Nothing, At}
+use Rattle.addr_layout.specs.declared.layout.AddrLayout.{AddrLayout}
+use Rattle.cs_pins.specs.Pins.{numbered, cs_search_in}
+use Rattle.cs_pins.specs.declared.Numbering.{Numbering}
+use Rattle.cs_pins.specs.Design.Numbered.{NumberedBy}
+use Rattle.cs_pins.proofs.InDomain.{numbered_in}
+use Rattle.cs_choices.specs.Design.Parts.{PinsIn}
+use Rattle.cs_choices.specs.declared.choices.Fixed.{Fixed}
+use Rattle.cs_data_layout.specs.Choices.{num_data, fixed_of, cs_data_layout_of}
+use Rattle.cs_data_layout.specs.Search.{cs_best, none_fits, cs_data_answer_of}
+use Rattle.cs_data_layout.specs.declared.layout.CsDataOutcome.TheVariants.{LaidOut}
+use Rattle.cs_data_layout.specs.declared.layout.CsDataAnswer.{CsDataAnswer}
+use Rattle.cs_data_layout.proofs.Bounds.{described, few-twos, few-lines}
+use Rattle.cs_data_layout.proofs.Searched.{data-numbered, best_is, none_is, fixed_is}
+use Rattle.cs_data_layout.proofs.search.Goals.{After-best, After-chip0-chip, After-qualifier_set}
+use Rattle.cs_data_layout.proofs.search.Goals as goal
+
+
+-- the listing has the data pins, and its candidates are GPIOs
+listed : (d : Description) (l : Numbering) (n : ℕ) → cs_search_in d ≡ true → NumberedBy d l → n ≡ num_data d → PinsIn l.list n
+listed d l n e p i =
+    let h = p.list e in
+    let k : num_data d ≤ length (list_of l.list) = rw h (data-numbered d) in
+    record { listed = omega (arith, p.counted, k, i); few = p.few; gpios = rw h (numbered_in d (described d e)) }
+
+few : (d : Description) (l : Listing) (bits : ℕ) → cs_search_in d ≡ true → list_of l ≡ numbered d → bits ≡ twos (list_of l) → bits ≤ 16
+few d l bits e h i = let m : bits ≡ twos (numbered d) = i ∙ ap twos h in omega (arith, few-twos d e, m)
+
+nothing : (d : Description) (h : AddrLayout) (g : Found) (r : CsDataAnswer) → g ≡ cs_best d h → g ≡ Nothing → r ≡ none_fits d h → r ≡ cs_data_answer_of d h (cs_best d h)
+nothing d h g r e i j = rw (← e, i) j
+
+found : (d : Description) (h : AddrLayout) (l : Listing) (g : Found) (c s : ℕ) (r : CsDataAnswer) → g ≡ cs_best d h → g ≡ At c s → list_of l ≡ numbered d
+    → r ≡ record { outcome = LaidOut; layout = cs_data_layout_of d h (list_of l) c } → r ≡ cs_data_answer_of d h (cs_best d h)
+found d h l g c s r e i j k = rw (← e, i, ← j) k
+
+data_number : (c : After-chip0-chip) → c.chip0-chip.result.num_data_pins ≡ num_data c.args.d
+data_number c = ap (λ (x : Chip). x.num_data_pins) c.chip0-chip.ensures
+
+pins-listed : (c : After-chip0-chip) → PinsIn c.args.pins.list c.chip0-chip.result.num_data_pins
+pins-listed c = let p = c.requires in listed c.args.d c.args.pins _ p.description p.pins (data_number c)
+
+described-at : (c : After-qualifier_set) → description_in c.args.d ≡ true
+described-at c = described c.args.d c.requires.description
+
+-- what no choice changes
+fixed_at : (c : After-qualifier_set) → ◌≡◌ {A = Fixed} (record { multi = c.is_multi.result; num_data = c.chip0-chip.result.num_data_pins; excess = c.excess_set.result; qualifiers = c.qualifier_set.result }) (fixed_of c.args.d c.args.h)
+fixed_at c = let a = c.args in fixed_is a.d a.h _ _ _ _ c.is_multi.ensures (data_number c.before.before.before.before.before) c.excess_set.ensures c.qualifier_set.ensures
+
+-- what the search found, and beside what
+best-at : (c : After-best) → c.best.result ≡ cs_best c.args.d c.args.h
+best-at c =
+    let a = c.args in
+    best_is a.d a.h (list_of a.pins.list) _ _ (c.requires.pins.list c.requires.description) (fixed_at c.before) c.requires.pins.bits _ c.best.ensures
+
+pub best-requires : goal.best-requires
+best-requires c =
+    let chip = c.before.before.before.before.before in
+    let a = chip.args in
+    let p = chip.requires in
+    record { pins = pins-listed chip; few_bits = few a.d a.pins.list _ p.description (p.pins.list p.description) p.pins.bits }
+
+pub ignored_set-requires : goal.ignored_set-requires
+ignored_set-requires c = described-at c.before.before.before
+
+pub why-requires : goal.why-requires
+why-requires c = best-requires c.before.before.before.before κs
+
+pub laid_out-requires : goal.laid_out-requires
+laid_out-requires c =
+    let q = c.before.before.before.before in
+    let chip = q.before.before.before.before.before in
+    let a = chip.args in
+    let bounds = chip0_in a.d (described-at q) in
+    record {
+      lines = record {
+        data-pins = bounds.data-pins.1;
+        control_lines = bounds.control_lines;
+        excess-lines = omega (arith, few-lines a.h chip.requires.handed.layout);
+        qualifiers = c.qualifier_set.ensures;
+      };
+      pins = pins-listed chip;
+      data_number = data_number chip;
+      excess = q.excess_set.ensures;
+    }
+
+pub returns-in-Nothing : goal.returns-in-Nothing
+returns-in-Nothing c =
+    let best = c.before.before.before.before.before in
+    let a = best.args in
+    nothing a.d a.h c.best.result _ (best-at best) c.in-Nothing.is
+    (none_is a.d a.h (list_of a.pins.list) _ _ (best.requires.pins.list best.requires.description) (fixed_at best.before) best.requires.pins.bits _ _ _ c.ignored_set.ensures c.why.ensures c.none_fits.ensures)
+
+pub returns-in-At : goal.returns-in-At
+returns-in-At c =
+    let best = c.before.before.before.before in
+    let a = best.args in
+    found a.d a.h a.pins.list _ _ _ _ (best-at best) c.in-At.is (best.requires.pins.list best.requires.description) c.laid_out.ensures

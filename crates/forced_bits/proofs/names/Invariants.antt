@@ -1,0 +1,11 @@
+-- `names` meets its contract. The loop's invariant: whether one of the entries passed names the GPIO. Assumes nothing.
+use mathlib.Core.Path.{◌≡◌}
+use Prim.Native.Nat.{◌-◌, ◌≤◌}
+use Rattle.stored_slot.specs.Stored.{names}
+use Rattle.forced_bits.proofs.names.Given as goal
+
+abbrev pub invariant-loop-k : goal.invariant-loop-k
+invariant-loop-k l = (l.k ≤ l.n) × (l.found ≡ names l.k l.overrides l.kind l.gpio)
+
+abbrev pub decreases-loop-k : goal.decreases-loop-k
+decreases-loop-k l = l.n - l.k

@@ -1,0 +1,14 @@
+-- `nothing_forced` meets its contract. The invariant: `ok` says whether none of the overrides passed forces. Assumes nothing.
+use mathlib.Core.Path.{◌≡◌}
+use mathlib.Core.Bool.{not}
+use Prim.Native.Nat.{◌≤◌, ◌-◌}
+use lib.ListN.{get_or}
+use Rattle.lists.specs.Each.{each}
+use Rattle.premises.specs.Given.{forces}
+use Rattle.forced_window.proofs.nothing_forced.Given as goal
+
+abbrev pub invariant-loop-k : goal.invariant-loop-k
+invariant-loop-k l = (l.k ≤ l.n) × (l.ok ≡ each l.k (λ i. not (forces l.a (get_or l.overrides i 0))))
+
+abbrev pub decreases-loop-k : goal.decreases-loop-k
+decreases-loop-k l = l.n - l.k

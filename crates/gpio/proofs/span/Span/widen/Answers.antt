@@ -1,0 +1,5 @@
+-- `widen` meets its contract. Assumes nothing.
+use Rattle.gpio.proofs.span.Span.widen.Goals as goal
+
+pub returns : goal.returns
+returns c = rw (c.lower.ensures, c.higher.ensures)

@@ -1,0 +1,7 @@
+-- `clear_both` meets its contract. Assumes nothing.
+use Rattle.marked_words.proofs.clear_both.Goals as goal
+
+pub returns : goal.returns
+returns c =
+    let second = c.before.before in
+    record { output_after = second.fill.ensures; marks_after = c.fill-2.ensures }

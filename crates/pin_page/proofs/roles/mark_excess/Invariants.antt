@@ -1,0 +1,15 @@
+-- `mark_excess` meets its contract. The loop's invariant: the lines passed are marked. Assumes nothing.
+use mathlib.Core.Path.{◌≡◌}
+use Prim.Native.Nat.{◌+◌, ◌-◌, ◌≤◌}
+use lib.ListN.{length, get_or}
+use Rattle.lists.specs.Tab.{tab}
+use Rattle.pin_page.specs.Roles.{page_line, role_half}
+use Rattle.pin_page.specs.Design.Marks.{marked_all}
+use Rattle.pin_page.proofs.roles.mark_excess.Given as goal
+
+abbrev pub invariant-loop-k : goal.invariant-loop-k
+invariant-loop-k l =
+    (l.k ≤ l.n) × (length l.roles ≡ length l.initial.roles) × (l.roles ≡ marked_all l.initial.roles (tab l.k (λ j. page_line role_half (get_or l.gpios (l.first + j) 0))))
+
+abbrev pub decreases-loop-k : goal.decreases-loop-k
+decreases-loop-k l = l.n - l.k

@@ -1,0 +1,12 @@
+-- `pick_fault` meets its contract. Assumes nothing.
+use Rattle.stored_slot.proofs.lines.pick_fault.Goals as goal
+
+pub returns-in-Single : goal.returns-in-Single
+returns-in-Single c = rw c.in-Single.is
+
+pub returns-in-Banked : goal.returns-in-Banked
+returns-in-Banked c = rw (c.in-Banked.is, c.x_faults.ensures)
+
+pub returns-in-Multi : goal.returns-in-Multi
+returns-in-Multi c =
+    rw (c.in-Multi.is, c.or_else.ensures, c.x_faults-in-Multi.ensures, c.select_fault.ensures)
