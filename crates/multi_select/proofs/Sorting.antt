@@ -2,23 +2,22 @@
 use mathlib.Core.Path.{◌≡◌, refl, sym, ◌∙◌, ap}
 use mathlib.Core.Bool.{Bool, true, false, ◌&&◌, ◌||◌, not, cond}
 use mathlib.Core.List.{List, [], ◌∷◌, ◌++◌, append_assoc, append-nil}
-use Prim.Native.Nat.{ℕ, zero, suc, ◌+◌, ◌-◌, ◌≤◌, ◌<◌}
+use Prim.Native.Nat.{ℕ, zero, suc, ◌-◌, ◌≤◌, ◌<◌}
 use native.Mathlib.Numerals.{add-one}
 use native.Mathlib.Omega.{arith}
 use lib.Dec.{eqb}
-use lib.ListN.{length, get_or, set, replicate, length-append}
+use lib.ListN.{length, set, replicate, length-append}
 use lib.Seq.{get_or-append_seam, set-append_seam}
 use borrow.Author.Tests.{ne_eqb}
 use Rattle.slot.specs.Description.{kind_at}
 use Rattle.slot.specs.declared.description.ControlLines.{ControlLines}
 use Rattle.slot.specs.declared.description.CsConfig.{CsConfig}
 use Rattle.control.specs.CsConfig.{ignores}
-use Rattle.multi_select.specs.MultiCsConfig.{named, named_count, is_select, is_ignored, is_commoned, kinds_of, last_of, eight, config_of, selects_of, config_from, multi_refused, multi_answer_of}
+use Rattle.multi_select.specs.MultiCsConfig.{named, named_count, is_ignored, is_commoned, kinds_of, last_of, eight, config_of, selects_of, config_from, multi_refused, multi_answer_of}
 use Rattle.refusal.specs.declared.Refusal.TheVariants.{NoActiveLine}
 use Rattle.multi_select.specs.declared.MultiAnswer.{MultiAnswer}
 use Rattle.multi_select.specs.declared.MultiOutcome.TheVariants.{Derived}
 use Rattle.multi_select.specs.Design.Sorted.{line_part, sorted_with, sorted}
-use Rattle.multi_select.specs.declared.Part.{Part}
 use Rattle.multi_select.specs.declared.Part.TheVariants.{Dropped, Select, Commoned, Ignored}
 use Rattle.multi_select.specs.declared.Sorted.{Sorted}
 

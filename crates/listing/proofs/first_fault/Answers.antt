@@ -2,7 +2,7 @@
 use mathlib.Core.Path.{◌≡◌, refl, sym, ◌∙◌, ap}
 use mathlib.Core.Bool.{Bool, true, false, cond}
 use mathlib.Core.List.{List, map}
-use Prim.Native.Nat.{ℕ, ◌+◌, ◌<◌, ◌-◌}
+use Prim.Native.Nat.{ℕ, ◌+◌, ◌<◌}
 use native.Mathlib.Omega.{arith}
 use lib.Dec.{eqb}
 use lib.ListN.{length, take, get_or}
@@ -20,7 +20,6 @@ use Rattle.listing.specs.declared.packed.Packed.{Packed}
 use Rattle.listing.proofs.Pushed.{taken}
 use Rattle.listing.proofs.Faults.{fault_snoc, found_further}
 use Rattle.listing.proofs.first_fault.Goals as goal
-
 
 one_or_two : (g h : ℕ) (r : Refusal) (t : Bool) → fault_of (cond t (One g) (Two g h)) r ≡ None
 one_or_two g h r true = refl
@@ -47,17 +46,17 @@ loop-k-init c = (omega arith, omega arith, search (mapped_length, rules), refl)
 pub returns-then-pin-eq0 : goal.returns-then-pin-eq0
 returns-then-pin-eq0 c =
     let v = c.loop-k in
-    let l = c.args.t1 in
+    let l = c.args.l in
     found l.pins v.k (omega arith) v.invariant.3 l.count _ (omega arith) c.listed-listed.ensures (eq-eqb _ _ c.if-pin-eq0.true)
 
 pub loop-k-preserved : goal.loop-k-preserved
 loop-k-preserved c =
     let v = c.loop-k in
-    let l = c.args.t1 in
+    let l = c.args.l in
     (omega arith, omega arith, v.invariant.2, passed l.pins v.k (omega arith) v.invariant.3 (ne_eqb _ _ c.if-pin-eq0.false))
 
 pub returns : goal.returns
 returns c =
     let v = c.loop-k in
-    let e : v.k ≡ c.args.t1.count = omega arith in
+    let e : v.k ≡ c.args.l.count = omega arith in
     sym (rw e at v.invariant.3)

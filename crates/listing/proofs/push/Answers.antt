@@ -10,5 +10,5 @@ use Rattle.listing.proofs.push.Goals as goal
 pub returns : goal.returns
 returns c =
     let l = c.args.l in
-    let e : length l.pins-1 ≡ 30 = search (mapped_length, rules) in
-    (pushed l.pins-1 l.count c.args.pin (omega arith), refl)
+    let e : length l.pins ≡ 30 = search (mapped_length, rules) in
+    (pushed l.pins l.count c.args.pin (omega arith), refl)

@@ -34,5 +34,4 @@ returns-then-control_in c = rw (sorted_answers c.before.before, c.if-s.false) c.
 
 pub returns : goal.returns
 returns c =
-    let i = c.before in
-    rw (sym i.control_in.ensures ∙ c.if-control_in.false) c.refused-2.ensures
+    rw (sym c.control_in.ensures ∙ c.if-control_in.false) c.refused-2.ensures

@@ -1,6 +1,5 @@
 -- `named_count` meets its contract. The loop's invariant: `count` is the number of named lines passed, which is at most
 -- the number of lines passed. Assumes nothing.
-use Prim.Native.Nat.{◌-◌}
 use native.Mathlib.Omega.{arith}
 use Rattle.lists.specs.Each.{tally}
 use Rattle.lists.proofs.Each.{tally-none, tally-turn}

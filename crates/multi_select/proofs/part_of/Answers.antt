@@ -12,16 +12,14 @@ left : (c : After-line_ignored-2) →
     let a = c.args in
     line_part a.single a.chip0 a.secondary a.kind ≡ cond c.line_ignored-2.result Ignored Commoned
 left c =
-    let i = c.before.before in
-    rw (le-leb _ _ i.if-kind-gt5.false, ← c.line_ignored.ensures, c.if-single-line_ignored.false, ← c.line_ignored-2.ensures)
+    rw (le-leb _ _ c.if-kind-gt5.false, ← c.line_ignored.ensures, c.if-single-line_ignored.false, ← c.line_ignored-2.ensures)
 
 pub returns-then-kind-gt5 : goal.returns-then-kind-gt5
 returns-then-kind-gt5 c = rw (lt-leb _ _ c.if-kind-gt5.true)
 
 pub returns-then-single-line_ignored : goal.returns-then-single-line_ignored
 returns-then-single-line_ignored c =
-    let i = c.before in
-    rw (le-leb _ _ i.if-kind-gt5.false, ← c.line_ignored.ensures, c.if-single-line_ignored.true)
+    rw (le-leb _ _ c.if-kind-gt5.false, ← c.line_ignored.ensures, c.if-single-line_ignored.true)
 
 pub returns-then-line_ignored : goal.returns-then-line_ignored
 returns-then-line_ignored c = rw (left c.before, c.if-line_ignored.true)

@@ -1,7 +1,7 @@
 -- `sort` meets its contract. The loop's invariant: the lines passed are sorted as the rule sorts them. So few lines are
 -- commoned or ignored that each has its place in the array. Assumes nothing.
 use mathlib.Core.Path.{◌≡◌}
-use Prim.Native.Nat.{ℕ, zero, suc, ◌+◌, ◌-◌, ◌≤◌}
+use Prim.Native.Nat.{ℕ, zero, suc, ◌+◌, ◌≤◌}
 use native.Mathlib.Numerals.{add-one}
 use native.Mathlib.Omega.{arith}
 use lib.Dec.{eqb}
@@ -14,7 +14,6 @@ use Rattle.multi_select.specs.declared.Sorted.{Sorted}
 use Rattle.multi_select.specs.MultiCsConfig.{named_count}
 use Rattle.multi_select.specs.Design.Sorted.{line_part, sorted_with, sorted}
 use Rattle.multi_select.proofs.sort.Goals as goal
-
 
 -- at most n lines commoned, and at most n ignored
 abbrev Few : ℕ → Sorted → Type 0

@@ -1,5 +1,6 @@
 -- `explicit_logic` meets its contract: each arm is a row of the rule. Assumes nothing.
 use mathlib.Core.Path.{sym, ◌∙◌}
+use native.Mathlib.Omega.{arith}
 use borrow.Author.Tests.{ne_eqb}
 use Rattle.control.specs.CsConfig.{explicit_logic}
 use Rattle.control.proofs.cs_config.explicit_logic.Goals as goal
@@ -35,3 +36,7 @@ unfolding explicit_logic
 returns-else-swapped-2 c =
     let k = c.before in
     rw (c.in-3.is, sym k.is_ignore-swapped.ensures ∙ c.if-swapped-2.false)
+
+pub returns-in_default : goal.returns-in_default
+unfolding explicit_logic
+returns-in_default c = rw (ne_eqb c.args.kind 0 (λ h. omega arith), ne_eqb c.args.kind 1 (λ h. omega arith), ne_eqb c.args.kind 2 (λ h. omega arith), ne_eqb c.args.kind 3 (λ h. omega arith))

@@ -1,10 +1,8 @@
 -- `kind_new` meets its contract. The loop's invariant: `ok` says whether each line passed is of another kind. Assumes nothing.
-use Prim.Native.Nat.{◌-◌}
 use native.Mathlib.Omega.{arith}
 use Rattle.lists.specs.Each.{each}
 use Rattle.lists.proofs.Each.{each_none, each_turn}
 use Rattle.lists.proofs.Loops.{at-count_of}
-use Rattle.slot.specs.Description.{kind_at}
 use Rattle.domain.proofs.chip.kind_new.Goals as goal
 
 pub loop-j-init : goal.loop-j-init

@@ -1,10 +1,9 @@
 -- `chips_in` meets its contract. The loop's invariant: `ok` says whether the chips passed are in the domain or past the count. Assumes nothing.
-use Prim.Native.Nat.{◌-◌}
 use native.Mathlib.Omega.{arith}
 use Rattle.lists.specs.Each.{each}
 use Rattle.lists.proofs.Each.{each_none, each_turn}
 use Rattle.lists.proofs.Loops.{at-count_of}
-use Rattle.domain.specs.Domain.{chip_in, chips_in}
+use Rattle.domain.specs.Domain.{chips_in}
 use Rattle.domain.proofs.description.chips_in.Goals as goal
 
 pub loop-k-init : goal.loop-k-init

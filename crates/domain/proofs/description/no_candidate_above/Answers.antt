@@ -1,11 +1,9 @@
 -- `no_candidate_above` meets its contract. The loop's invariant: `ok` says whether the pins passed have no candidate above `last`.
 -- Assumes nothing.
-use Prim.Native.Nat.{◌-◌}
 use native.Mathlib.Omega.{arith}
 use Rattle.lists.specs.Each.{each}
 use Rattle.lists.proofs.Each.{each_none, each_turn}
 use Rattle.lists.proofs.Loops.{at-count_of}
-use Rattle.gpio.specs.Candidates.{none_above}
 use Rattle.domain.specs.Domain.{no_candidate_above}
 use Rattle.domain.proofs.description.no_candidate_above.Goals as goal
 

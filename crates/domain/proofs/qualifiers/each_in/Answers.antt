@@ -1,5 +1,4 @@
 -- `each_in` meets its contract. The loop's invariant: `ok` says whether the qualifiers passed are in the domain. Assumes nothing.
-use Prim.Native.Nat.{◌-◌}
 use native.Mathlib.Omega.{arith}
 use Rattle.lists.specs.Each.{each}
 use Rattle.lists.proofs.Each.{each_none, each_turn}

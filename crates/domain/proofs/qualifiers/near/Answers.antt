@@ -1,5 +1,4 @@
 -- `near` meets its contract. The loop's invariant: `ok` says whether the qualifiers passed are at most 7 lower. Assumes nothing.
-use Prim.Native.Nat.{◌-◌}
 use native.Mathlib.Omega.{arith}
 use Rattle.lists.specs.Each.{each}
 use Rattle.lists.proofs.Each.{each_none, each_turn}

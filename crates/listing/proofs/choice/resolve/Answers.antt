@@ -1,6 +1,6 @@
 -- `resolve` meets its contract. The loop's invariant: the GPIOs of the pins passed are in place, and `rest` is what they left of the choice. Assumes nothing.
 use mathlib.Core.Path.{refl}
-use Prim.Native.Nat.{◌<◌, ◌-◌}
+use Prim.Native.Nat.{◌<◌}
 use native.Mathlib.Omega.{arith}
 use lib.ListN.{length-take, length-map}
 use Rattle.lists.proofs.Lists.{mapped_length}
@@ -18,7 +18,7 @@ loop-k-init c = (omega arith, omega arith, refl, search (mapped_length, rules), 
 pub loop-k-preserved : goal.loop-k-preserved
 loop-k-preserved c =
     let v = c.loop-k in
-    let l = c.args.t1 in
+    let l = c.args.l in
     let h : v.k < l.count = omega arith in
     let g = pin_taken l.pins l.count v.k _ h c.listed-pin.ensures in (
       omega arith,
@@ -32,5 +32,5 @@ loop-k-preserved c =
 pub returns : goal.returns
 returns c =
     let v = c.loop-k in
-    let l = c.args.t1 in
+    let l = c.args.l in
     begun_all v.invariant.4 (λ j h. gpio-past (list_of l) _ j (simp (length-take, length-map) (omega arith)))

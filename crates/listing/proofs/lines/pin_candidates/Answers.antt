@@ -10,8 +10,7 @@ use Rattle.listing.specs.Listing.{candidates_at}
 use Rattle.listing.specs.Lines.{pin_socket, pin_candidates}
 use Rattle.listing.proofs.lines.pin_candidates.Goals as goal
 
-
-on : (d : Description) (pin p : ℕ) (s : Socket) (g : Candidates) → s ≡ pin_socket d pin → s ≡ On p → g ≡ candidates_at d.board-1 p
+on : (d : Description) (pin p : ℕ) (s : Socket) (g : Candidates) → s ≡ pin_socket d pin → s ≡ On p → g ≡ candidates_at d.board p
     → g ≡ pin_candidates d pin
 unfolding pin_candidates
 on d pin p s g e f h = rw (← e, f) h

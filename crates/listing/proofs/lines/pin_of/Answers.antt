@@ -1,7 +1,7 @@
 -- `pin_of` meets its contract. The loop's invariant: `pin` is that of the lines passed. Assumes nothing.
 use mathlib.Core.Path.{◌≡◌, refl}
 use mathlib.Core.Bool.{cond}
-use Prim.Native.Nat.{ℕ, ◌+◌, ◌-◌}
+use Prim.Native.Nat.{ℕ, ◌+◌}
 use native.Mathlib.Numerals.{add-one}
 use native.Mathlib.Omega.{arith}
 use lib.Dec.{eqb}
@@ -10,7 +10,6 @@ use Rattle.slot.specs.declared.description.ControlLine.{ControlLine}
 use Rattle.slot.specs.declared.description.ControlLines.{ControlLines}
 use Rattle.listing.specs.Lines.{pin_of}
 use Rattle.listing.proofs.lines.pin_of.Goals as goal
-
 
 turn : (c : ControlLines) (kind k pin r : ℕ) (l : ControlLine) → l ≡ line_at c k → pin ≡ pin_of c kind k → r ≡ cond (eqb l.kind kind) l.pin pin
     → r ≡ pin_of c kind (k + 1)
