@@ -6,7 +6,6 @@ use lib.Bits.{bit_or}
 use lib.ListN.{length, get_or}
 use Rattle.byte_tables.proofs.double.Given as goal
 
-
 pub record Again (size one : ℕ) (old out : List ℕ) (q : ℕ) : Type 0 where
   pub within : q ≤ size
   pub long : length out ≡ length old

@@ -1,6 +1,6 @@
 -- `scatter_table` meets its contract. The loop's invariant: the entries below 2 ^ k are in place. Assumes nothing.
 use mathlib.Core.Path.{refl, ap, ◌∙◌}
-use Prim.Native.Nat.{◌+◌, ◌-◌}
+use Prim.Native.Nat.{◌+◌}
 use native.Mathlib.Omega.{arith}
 use lib.Pow.{pow-add}
 use Rattle.bits.specs.Bits.{scatter}
@@ -15,3 +15,8 @@ double-requires c = room-again c.loop-k.k _ c.loop-k-test.true c.loop-k.invarian
 
 pub returns : goal.returns
 returns c = half-done _ _ _ c.loop-k.invariant c.loop-k-test.false
+
+pub loop-k-preserved : goal.loop-k-preserved
+loop-k-preserved c =
+    let l = c.loop-k in
+    half-turn _ (scatter-joins _ _ _ _) _ _ l.k _ _ l.invariant (omega arith) c.double.auto.out (one_up l.k 64 (omega arith)) (c.scatter.ensures.value ∙ ap (scatter _ _ _) (one_up (l.k + c.args.up) 32 (omega arith) ∙ pow-add 2 l.k _)) c.double.ensures

@@ -1,10 +1,9 @@
 -- `turned` meets its contract. The loop's invariant: the lines passed are in place. Assumes nothing.
 use mathlib.Core.Path.{refl, ap}
-use Prim.Native.Nat.{ℕ, ◌-◌}
+use Prim.Native.Nat.{ℕ}
 use native.Mathlib.Omega.{arith}
 use lib.ListN.{get_or}
 use Rattle.lists.proofs.Tab.{filled_none, filled_turn, filled}
-use Rattle.dump_lines.specs.Design.Lines.{other_byte}
 use Rattle.dump_lines.proofs.turned.Goals as goal
 
 pub loop-k-init : goal.loop-k-init

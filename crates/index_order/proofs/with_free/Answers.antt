@@ -1,5 +1,4 @@
 -- `with_free` meets its contract. The loop's invariant: the lines that there were stand first. Assumes nothing.
-use Prim.Native.Nat.{◌-◌}
 use Rattle.index_order.proofs.Places.{extends_none, extends_more}
 use Rattle.index_order.proofs.with_free.Goals as goal
 

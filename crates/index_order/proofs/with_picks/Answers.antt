@@ -1,5 +1,4 @@
 -- `with_picks` meets its contract. The loop's invariant: the lines passed stand behind those of the ROM. Assumes nothing.
-use Prim.Native.Nat.{◌-◌}
 use native.Mathlib.Omega.{arith}
 use Rattle.index_order.proofs.Places.{picking_none, picking_turn, picking_done}
 use Rattle.index_order.proofs.with_picks.Goals as goal

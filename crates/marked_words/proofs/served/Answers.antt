@@ -9,7 +9,6 @@ use Rattle.marked_words.specs.Design.Served.{served_by}
 use Rattle.entry_words.specs.declared.Outcome.TheVariants.{Whole, Missing}
 use Rattle.marked_words.proofs.served.Goals as goal
 
-
 module _ (w words f g : ℕ) (output marks : List ℕ) (e : f ≡ g) where
   missing : (o k : List ℕ) → f < words → o ≡ replicate (words * w) 0 ++ drop (words * w) output → k ≡ replicate words 0 ++ drop words marks
       → kept (Missing f) o k ≡ served_by w words output marks g

@@ -1,8 +1,7 @@
 -- `same_bytes` meets its contract. The loop's invariant: the words passed are the same. Assumes nothing.
 use mathlib.Core.Path.{◌∙◌, ap}
-use Prim.Native.Nat.{◌+◌, ◌-◌, ◌*◌, ◌≤◌}
+use Prim.Native.Nat.{◌+◌, ◌*◌, ◌≤◌}
 use native.Mathlib.Omega.{arith}
-use mathlib.Core.Bool.{true}
 use lib.Bits.{bit_or}
 use lib.ListN.{length, get_or}
 use Rattle.word_rows.specs.Design.Wrote.{said_by}
@@ -23,5 +22,5 @@ loop-q-preserved c =
     let l = c.loop-q in
     (omega arith, same_turn _ _ l.q _ _ _ l.invariant.1 c.word_at-in-loop-q.ensures.value (c.said-value.ensures ∙ ap (said_by a.low_bytes.now a.high_bytes.now) c.word_at.ensures.value))
 
-returns : tie.Need-returns
+pub returns : goal.returns
 returns c e q l = c.loop-q.invariant.1 e q (omega arith)

@@ -1,6 +1,6 @@
 -- `write_pairs` meets its contract. The loop's invariant: the words passed are written. Assumes nothing.
 use mathlib.Core.Path.{refl, ◌∙◌, ap}
-use Prim.Native.Nat.{◌+◌, ◌-◌, ◌*◌, ◌≤◌}
+use Prim.Native.Nat.{◌+◌, ◌*◌, ◌≤◌}
 use native.Mathlib.Omega.{arith}
 use lib.Bits.{bit_or}
 use lib.ListN.{length, get_or}
@@ -18,3 +18,9 @@ loop-q-init c = (omega arith, refl, wrote_none _ _ _ _)
 
 pub returns : goal.returns
 returns c = let l = c.loop-q in wrote_done _ _ _ _ _ _ _ (omega (arith, l.invariant.0)) l.invariant.2
+
+pub loop-q-preserved : goal.loop-q-preserved
+loop-q-preserved c =
+    let a = c.args in
+    let l = c.loop-q in
+    (omega arith, c.put_word.auto.out ∙ l.invariant.1, wrote_turn _ _ _ l.q _ _ _ _ l.invariant.2 (c.said-value.ensures ∙ ap (said_by a.low_bytes.now a.high_bytes.now) c.word_at.ensures.value) c.put_word.ensures)
