@@ -5,41 +5,23 @@ use native.Mathlib.Omega.{arith}
 use lib.ListN.{length}
 use Rattle.word_rows.proofs.Rows.{wrote_done}
 use Rattle.table_fill.proofs.Rows.{Reached, reached-none, reached-turn, source_in, row_room, byte-tables, picks-eight}
-use Rattle.table_fill.proofs.row.each_entry.Goals.{After-next_address-picks, After-raw-word, After-struct_known-in-loop-q-1, After-struct_known-in-loop-q-2-1, After-struct_known-in-loop-q-3-1, In-loop-q}
+use Rattle.table_fill.proofs.row.each_entry.Goals.{In-loop-q}
 use Rattle.table_fill.proofs.row.each_entry.Goals as goal
 
 -- what is known in a turn: the function's start, what the index says, and its entry's room in the table
 reached : (c : In-loop-q) → Reached c.args.order c.args.w c.args.bytes c.args.from.sources c.args.from.pad c.args.row c.args.images.now c.args.table.now c.loop-q.table c.loop-q.address c.loop-q.picks c.loop-q.q
-reached c = c.loop-q.invariant.2 c.args.w c.pre
+reached c = c.loop-q.invariant.2 c.args.w c.requires
 
 bytes : (c : In-loop-q) → c.args.bytes ≤ 2
-bytes c = rw c.pre.bytes_are c.pre.wiring_in.bytes
+bytes c = rw c.requires.bytes_are c.requires.wiring_in.bytes
 
 picks : (c : In-loop-q) → c.loop-q.picks < 8
-picks c = rw (reached c).picks_are (picks-eight c.args.w (c.args.row.first + c.loop-q.q) c.pre.wiring_in)
-
-few : (c : In-loop-q) → c.args.row.first + c.loop-q.q + 1 ≤ 2 ^ 20
-few c = omega (arith, c.loop-q-test.true, c.pre.few)
+picks c = rw (reached c).picks_are (picks-eight c.args.w (c.args.row.first + c.loop-q.q) c.requires.wiring_in)
 
 room : (c : In-loop-q) → (c.args.row.first + c.loop-q.q) * c.args.bytes + c.args.bytes ≤ length c.loop-q.table
-room c = rw c.loop-q.invariant.1 (row_room _ _ _ _ _ _ _ _ _ _ _ c.pre c.loop-q.q c.loop-q-test.true)
+room c = rw c.loop-q.invariant.1 (row_room _ _ _ _ _ _ _ _ _ _ _ c.requires c.loop-q.q c.loop-q-test.true)
 
 -- from later places to the turn
-abbrev past-raw : After-raw-word → In-loop-q
-past-raw c = c.before.before
-
-abbrev past-entry : After-struct_known-in-loop-q-1 → In-loop-q
-past-entry c = c.before.before.before.before.before
-
-abbrev past-put : After-struct_known-in-loop-q-2-1 → In-loop-q
-past-put c = c.before.before.before.before.before.before.before.before.before
-
-abbrev past-address : After-struct_known-in-loop-q-3-1 → In-loop-q
-past-address c = c.before.before.before.before.before.before.before.before.before.before.before
-
-abbrev past-picks : After-next_address-picks → In-loop-q
-past-picks c = c.before.before.before.before.before.before.before.before.before.before.before.before
-
 pub overflow_cast-source : goal.overflow_cast-source
 overflow_cast-source c = record { fits = omega (arith, picks c) }
 
@@ -47,7 +29,7 @@ pub bounds-sources-picks : goal.bounds-sources-picks
 bounds-sources-picks c = picks c
 
 pub loop-q-smaller : goal.loop-q-smaller
-loop-q-smaller c = omega (arith, (past-picks c).if1.true)
+loop-q-smaller c = omega (arith, c.loop-q-test.true)
 
 pub shape_of-table : goal.shape_of-table
 shape_of-table c = c.loop-q.invariant.1
@@ -60,44 +42,44 @@ offset_bounds-sources-picks c = record { fits = omega (arith, picks c) }
 
 pub raw-word-requires : goal.raw-word-requires
 raw-word-requires c =
-    record { bytes = (let h : c.args.bytes ≤ 2 = rw c.pre.bytes_are c.pre.wiring_in.bytes in h); source_in = source_in _ _ _ _ _ _ _ _ _ _ _ c.requires _ _ (let h : Reached c.args.order c.args.w c.args.bytes c.args.from.sources c.args.from.pad c.args.row c.args.images.now c.args.table.now c.loop-q.table c.loop-q.address c.loop-q.picks c.loop-q.q = c.loop-q.invariant.2 c.args.w c.pre in h).picks_are; pad_short = c.requires.pad_short }
+    record { bytes = (let h : c.args.bytes ≤ 2 = rw c.requires.bytes_are c.requires.wiring_in.bytes in h); source_in = source_in _ _ _ _ _ _ _ _ _ _ _ c.requires _ _ (let h : Reached c.args.order c.args.w c.args.bytes c.args.from.sources c.args.from.pad c.args.row c.args.images.now c.args.table.now c.loop-q.table c.loop-q.address c.loop-q.picks c.loop-q.q = c.loop-q.invariant.2 c.args.w c.requires in h).picks_are; pad_short = c.requires.pad_short }
 
 pub scrambled-entry-requires : goal.scrambled-entry-requires
-scrambled-entry-requires c = let t = past-raw c in (bytes t, c.raw-word.ensures.upper_bound, byte-tables _ _ _ _ _ t.pre.tables)
+scrambled-entry-requires c = (bytes c.before, c.raw-word.ensures.upper_bound, byte-tables _ _ _ _ _ c.requires.tables)
 
 pub overflow_add-row : goal.overflow_add-row
-overflow_add-row c = record { fits = omega (arith, few (past-entry c)) }
+overflow_add-row c = record { fits = omega (arith, (let h : c.args.row.first + c.loop-q.q + 1 ≤ 2 ^ 20 = omega (arith, c.loop-q-test.true, c.requires.few) in h)) }
 
 pub overflow_mul-row : goal.overflow_mul-row
-overflow_mul-row c = let t = past-entry c in record { fits = omega (arith, room t, t.loop-q.inv.1, t.good) }
+overflow_mul-row c = record { fits = omega (arith, (let h : (c.args.row.first + c.loop-q.q) * c.args.bytes + c.args.bytes ≤ length c.loop-q.table = rw c.loop-q.invariant.1 (row_room _ _ _ _ _ _ _ _ _ _ _ c.requires c.loop-q.q c.loop-q-test.true) in h), c.loop-q.invariant.1) }
 
 pub put_word-requires : goal.put_word-requires
-put_word-requires c = room (past-entry c)
+put_word-requires c = (let h : (c.args.row.first + c.loop-q.q) * c.args.bytes + c.args.bytes ≤ length c.loop-q.table = rw c.loop-q.invariant.1 (row_room _ _ _ _ _ _ _ _ _ _ _ c.requires c.loop-q.q c.loop-q-test.true) in h)
 
 pub overflow_add-row-in-loop-q : goal.overflow_add-row-in-loop-q
-overflow_add-row-in-loop-q c = record { fits = omega (arith, few (past-put c)) }
+overflow_add-row-in-loop-q c = record { fits = omega (arith, (let h : c.args.row.first + c.loop-q.q + 1 ≤ 2 ^ 20 = omega (arith, c.loop-q-test.true, c.requires.few) in h)) }
 
 pub next_address-address-requires : goal.next_address-address-requires
-next_address-address-requires c = let t = past-put c in (t.pre.tables.moves_are.long, omega (arith, few t))
+next_address-address-requires c = (c.requires.tables.moves_are.long, omega (arith, (let h : c.args.row.first + c.loop-q.q + 1 ≤ 2 ^ 20 = omega (arith, c.loop-q-test.true, c.requires.few) in h)))
 
 pub overflow_add-row-in-loop-q-2 : goal.overflow_add-row-in-loop-q-2
-overflow_add-row-in-loop-q-2 c = record { fits = omega (arith, few (past-address c)) }
+overflow_add-row-in-loop-q-2 c = record { fits = omega (arith, (let h : c.args.row.first + c.loop-q.q + 1 ≤ 2 ^ 20 = omega (arith, c.loop-q-test.true, c.requires.few) in h)) }
 
 pub next_address-picks-requires : goal.next_address-picks-requires
-next_address-picks-requires c = let t = past-address c in (t.pre.tables.picking_are.long, omega (arith, few t))
+next_address-picks-requires c = (c.requires.tables.picking_are.long, omega (arith, (let h : c.args.row.first + c.loop-q.q + 1 ≤ 2 ^ 20 = omega (arith, c.loop-q-test.true, c.requires.few) in h)))
 
 pub overflow_add-q : goal.overflow_add-q
-overflow_add-q c = record { fits = omega (arith, few (past-picks c)) }
+overflow_add-q c = record { fits = omega (arith, (let h : c.args.row.first + c.loop-q.q + 1 ≤ 2 ^ 20 = omega (arith, c.loop-q-test.true, c.requires.few) in h)) }
 
 pub loop-q-preserved : goal.loop-q-preserved
 loop-q-preserved c =
-    let v = (past-picks c).before.before.loop in
+    let v = c.loop-q in
     let raw = c.raw-word in
     let put = c.put_word in (
-      omega (arith, (past-picks c).if1.true),
-      put.auto.out ∙ v.inv.1,
+      omega (arith, c.loop-q-test.true),
+      put.auto.out ∙ v.invariant.1,
       λ w h.
-          reached-turn w _ _ _ _ _ _ _ _ _ _ h _ _ _ _ _ v.q _ _ _ _ (v.inv.2 w h) raw.ensures.value raw.ensures.upper_bound c.scrambled-entry.ensures put.ensures c.next_address-address.ensures c.next_address-picks.ensures,
+          reached-turn w _ _ _ _ _ _ _ _ _ _ h _ _ _ _ _ v.q _ _ _ _ (v.invariant.2 w h) raw.ensures.value raw.ensures.upper_bound c.scrambled-entry.ensures put.ensures c.next_address-address.ensures c.next_address-picks.ensures,
     )
 
 pub returns : goal.returns

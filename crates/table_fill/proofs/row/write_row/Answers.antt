@@ -25,7 +25,7 @@ pub overflow_add-row : goal.overflow_add-row
 overflow_add-row c = record { fits = omega (arith, highest_lt _ _ _ _ _ _ _ _ _ _ _ c.requires) }
 
 pub slice_bounds-write_words-end : goal.slice_bounds-write_words-end
-slice_bounds-write_words-end c = sym (places (start c.before))
+slice_bounds-write_words-end c = sym (let h : length c.args.w.address ≡ 24 = search rules in h)
 
 pub write_words-requires : goal.write_words-requires
 write_words-requires c = chip_row_in _ _ _ _ _ _ _ _ _ _ _ c.requires (let h : get_or c.args.picking.now 7 0 ≡ 0 = eqb-true _ _ (both _ _ c.if-one_chip-all_stand.true).0 in h) _ (let h : (n : ℕ) → n ≤ c.args.row.part.address + get_or c.args.moves.now 7 0 → bit_and n c.mask_of-mask.result < (get_or c.args.from.sources c.args.row.part.picks no_source).count = c.all_stand.ensures (both (eqb (get_or c.args.picking.now 7 0) 0) _ c.if-one_chip-all_stand.true).1 in h)

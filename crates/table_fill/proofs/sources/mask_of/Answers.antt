@@ -10,7 +10,7 @@ use Rattle.table_fill.proofs.sources.mask_of.Goals as goal
 
 -- past both tests the count is a power of two
 power : (c : After-struct_known-4-1) → c.args.s.count ≡ 2 ^ count_trailing_zeros 32 c.args.s.count
-power c = one_bit _ _ (overflow_shl-bits c.before.before.before) c.if-s-bits-2.false
+power c = one_bit _ _ (neither c.args.s.mirrored (count_trailing_zeros 32 c.args.s.count) c.if-s-bits.false).1 c.if-s-bits-2.false
 
 pub returns-then-s-bits : goal.returns-then-s-bits
 returns-then-s-bits c = reads_all c.args.s

@@ -13,7 +13,7 @@ tables : (c : In-loop-i) → TablesOf c.args.w c.moves-moved.result c.moves-pick
 tables c = record { moves_are = c.moves-moved.ensures; picking_are = c.moves-picking.ensures; lows_are = c.scrambles-lows.ensures; highs_are = c.scrambles-highs.ensures }
 
 few : (c : In-loop-i) → c.loop-i.i < 2 ^ 20
-few c = omega (arith, c.pre.few)
+few c = omega (arith, c.requires.few)
 
 pub loop-i-init : goal.loop-i-init
 loop-i-init c = (refl, omega arith, refl, sym (gather-zero _ _), sym (gather-zero _ _), rows_none _ _ _ _ _ _ _)
@@ -37,13 +37,13 @@ write_row-requires c =
     }
 
 pub next_row-address-requires : goal.next_row-address-requires
-next_row-address-requires c = ((let h : TablesOf c.args.w c.moves-moved.result c.moves-picking.result c.scrambles-lows.result c.scrambles-highs.result = record { moves_are = c.moves-moved.ensures; picking_are = c.moves-picking.ensures; lows_are = c.scrambles-lows.ensures; highs_are = c.scrambles-highs.ensures } in h).moves_are.long, omega (arith, (let h : c.loop-i.i < 2 ^ 20 = omega (arith, c.pre.few) in h)), c.loop-i.invariant.0)
+next_row-address-requires c = ((let h : TablesOf c.args.w c.moves-moved.result c.moves-picking.result c.scrambles-lows.result c.scrambles-highs.result = record { moves_are = c.moves-moved.ensures; picking_are = c.moves-picking.ensures; lows_are = c.scrambles-lows.ensures; highs_are = c.scrambles-highs.ensures } in h).moves_are.long, omega (arith, (let h : c.loop-i.i < 2 ^ 20 = omega (arith, c.requires.few) in h)), c.loop-i.invariant.0)
 
 pub next_row-picked-requires : goal.next_row-picked-requires
-next_row-picked-requires c = ((let h : TablesOf c.args.w c.moves-moved.result c.moves-picking.result c.scrambles-lows.result c.scrambles-highs.result = record { moves_are = c.moves-moved.ensures; picking_are = c.moves-picking.ensures; lows_are = c.scrambles-lows.ensures; highs_are = c.scrambles-highs.ensures } in h).picking_are.long, omega (arith, (let h : c.loop-i.i < 2 ^ 20 = omega (arith, c.pre.few) in h)), c.loop-i.invariant.0)
+next_row-picked-requires c = ((let h : TablesOf c.args.w c.moves-moved.result c.moves-picking.result c.scrambles-lows.result c.scrambles-highs.result = record { moves_are = c.moves-moved.ensures; picking_are = c.moves-picking.ensures; lows_are = c.scrambles-lows.ensures; highs_are = c.scrambles-highs.ensures } in h).picking_are.long, omega (arith, (let h : c.loop-i.i < 2 ^ 20 = omega (arith, c.requires.few) in h)), c.loop-i.invariant.0)
 
 pub overflow_add-i : goal.overflow_add-i
-overflow_add-i c = record { fits = omega (arith, (let h : c.loop-i.i < 2 ^ 20 = omega (arith, c.pre.few) in h)) }
+overflow_add-i c = record { fits = omega (arith, (let h : c.loop-i.i < 2 ^ 20 = omega (arith, c.requires.few) in h)) }
 
 pub loop-i-preserved : goal.loop-i-preserved
 loop-i-preserved c =
