@@ -2,8 +2,6 @@
 use Rattle.stored_record.specs.StoredRecord.{stored_at}
 use Rattle.stored_record.proofs.stored_at.Goals as goal
 
-)
-
 pub returns : goal.returns
 unfolding stored_at
 returns c = rw (
@@ -21,3 +19,4 @@ returns c = rw (
   c.pair_at-2.ensures,
   c.roms.ensures,
   c.entry-4.ensures,
+)

@@ -5,12 +5,11 @@ use borrow.Author.Rules.{sfits_of}
 use Rattle.description_record.specs.Record.{described}
 use Rattle.description_record.proofs.parts.description.Goals as goal
 
-)
 
 pub returns : goal.returns
 unfolding described
 returns c = rw (
-  to_z-of_z (sfits_of {w = w8} c.pin_offset.type-inv),
+  to_z-of_z (sfits_of {w = w8} c.pin_offset.type_inv),
   c.board.ensures,
   c.package_of.ensures,
   c.entry.ensures,
@@ -27,3 +26,4 @@ returns c = rw (
   c.multi.ensures,
   c.eight_at.ensures,
   c.entry-7.ensures,
+)

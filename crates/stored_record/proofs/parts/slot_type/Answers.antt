@@ -2,10 +2,6 @@
 use borrow.Author.Tests.{eq-eqb, ne_eqb, le-leb, lt-leb}
 use Rattle.stored_record.proofs.parts.slot_type.Goals as goal
 
-)
-
-)
-
 pub returns-then-x-le1 : goal.returns-then-x-le1
 returns-then-x-le1 c = rw (le-leb _ _ c.if-x-le1.true)
 
@@ -21,6 +17,7 @@ returns-then-x-le6 c = rw (
   ne_eqb _ _ c.if-x-eq2.false,
   ne_eqb _ _ c.if-x-eq3.false,
   le-leb _ _ c.if-x-le6.true,
+)
 
 pub returns : goal.returns
 returns c = rw (
@@ -28,3 +25,4 @@ returns c = rw (
   ne_eqb _ _ c.if-x-eq2.false,
   ne_eqb _ _ c.if-x-eq3.false,
   lt-leb _ _ c.if-x-le6.false,
+)

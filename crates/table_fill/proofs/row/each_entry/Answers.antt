@@ -44,9 +44,6 @@ pub raw-word-requires : goal.raw-word-requires
 raw-word-requires c =
     record { bytes = (let h : c.args.bytes ≤ 2 = rw c.requires.bytes_are c.requires.wiring_in.bytes in h); source_in = source_in _ _ _ _ _ _ _ _ _ _ _ c.requires _ _ (let h : Reached c.args.order c.args.w c.args.bytes c.args.from.sources c.args.from.pad c.args.row c.args.images.now c.args.table.now c.loop-q.table c.loop-q.address c.loop-q.picks c.loop-q.q = c.loop-q.invariant.2 c.args.w c.requires in h).picks_are; pad_short = c.requires.pad_short }
 
-pub scrambled-entry-requires : goal.scrambled-entry-requires
-scrambled-entry-requires c = (bytes c.before, c.raw-word.ensures.upper_bound, byte-tables _ _ _ _ _ c.requires.tables)
-
 pub overflow_add-row : goal.overflow_add-row
 overflow_add-row c = record { fits = omega (arith, (let h : c.args.row.first + c.loop-q.q + 1 ≤ 2 ^ 20 = omega (arith, c.loop-q-test.true, c.requires.few) in h)) }
 
@@ -86,3 +83,10 @@ pub returns : goal.returns
 returns c =
     let v = c.loop-q in
     wrote_done _ _ _ _ _ _ _ (omega (arith, v.invariant.0, c.loop-q-test.false)) (v.invariant.2 c.args.w c.requires).wrote
+
+pub scrambled-entry-requires : goal.scrambled-entry-requires
+scrambled-entry-requires c = (
+      (let h : c.args.bytes ≤ 2 = rw c.requires.bytes_are c.requires.wiring_in.bytes in h),
+      c.raw-word.ensures.upper_bound,
+      byte-tables _ _ _ _ _ c.requires.tables,
+    )
