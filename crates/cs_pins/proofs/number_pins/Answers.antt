@@ -4,7 +4,6 @@ use mathlib.Core.Bool.{true, false}
 use mathlib.Core.List.{List, []}
 use Prim.Native.Nat.{ℕ}
 use native.Mathlib.Omega.{arith}
-use borrow.Author.Tests.{not-true, not-false}
 use lib.Dec.{leb}
 use lib.ListN.{length, length-take, length-map}
 use Rattle.lists.proofs.Lists.{mapped_length}
@@ -17,7 +16,6 @@ use Rattle.cs_pins.specs.Pins.{numbered, cs_search_in}
 use Rattle.cs_pins.proofs.InDomain.{few-numbered}
 use borrow.Author.Rules.{rules}
 use Rattle.cs_pins.proofs.number_pins.Goals as goal
-
 
 outside : (d : Description) → description_in d ≡ false → cs_search_in d ≡ false
 unfolding cs_search_in
@@ -32,11 +30,11 @@ unfolding twos
 none-two ls e = rw e
 
 pub list-list-requires : goal.list-list-requires
-list-list-requires c = few-numbered c.args.d (sym c.description_in.ensures ∙ not-false _ c.if-not-description_in.false)
+list-list-requires c = few-numbered c.args.d (sym c.description_in.ensures ∙ c.if-not-description_in.false)
 
 pub returns-then-not-description_in : goal.returns-then-not-description_in
 returns-then-not-description_in c =
-    let e = outside c.args.d (sym c.description_in.ensures ∙ not-true _ c.if-not-description_in.true) in
+    let e = outside c.args.d (sym c.description_in.ensures ∙ c.if-not-description_in.true) in
     record {
       verdict = sym e;
       few = omega (arith, c.none.ensures.1);
@@ -47,7 +45,7 @@ returns-then-not-description_in c =
 
 pub returns : goal.returns
 returns c =
-    let e = sym c.description_in.ensures ∙ not-false _ c.if-not-description_in.false in
+    let e = sym c.description_in.ensures ∙ c.if-not-description_in.false in
     let l = c.list-list.result in
     let long : length l.pins ≡ 30 = search (mapped_length, rules) in
     record {
