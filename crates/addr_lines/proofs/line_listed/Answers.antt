@@ -11,8 +11,7 @@ use Rattle.listing.specs.Listing.{listed, candidates_at}
 use Rattle.addr_lines.specs.Lines.{line_socket, line_listed, overhanging}
 use Rattle.addr_lines.proofs.line_listed.Goals as goal
 
-
-on : (d : Description) (n p : ℕ) (s : Socket) (g : Candidates) (l : Listed) → s ≡ line_socket d n → s ≡ On p → g ≡ candidates_at d.board-1 p
+on : (d : Description) (n p : ℕ) (s : Socket) (g : Candidates) (l : Listed) → s ≡ line_socket d n → s ≡ On p → g ≡ candidates_at d.board p
     → l ≡ listed g (UnmappedPin p) → l ≡ line_listed d n
 unfolding line_listed
 on d n p s g l e f h i = rw (← e, f, ← h) i

@@ -1,10 +1,8 @@
 -- `list_lines` meets its contract. The loop's invariant: the lines passed are listed. Assumes nothing.
 use mathlib.Core.Path.{◌≡◌, refl, ◌∙◌}
-use Prim.Native.Nat.{◌-◌}
 use native.Mathlib.Omega.{arith}
 use Rattle.lists.proofs.Lists.{mapped_length}
 use Rattle.listing.proofs.Pushed.{behind-none, behind-turn, behind_to}
-use Rattle.addr_lines.specs.Lines.{line_listed}
 use borrow.Author.Rules.{rules}
 use Rattle.addr_lines.proofs.list_lines.Goals as goal
 

@@ -1,9 +1,7 @@
 -- `off_before` meets its contract. The loop's invariant: `passed` counts the lines passed that overhang. Assumes nothing.
-use Prim.Native.Nat.{◌-◌}
 use native.Mathlib.Omega.{arith}
 use Rattle.lists.specs.Each.{tally}
 use Rattle.lists.proofs.Each.{tally-none, tally-turn}
-use Rattle.addr_lines.specs.Lines.{line_socket}
 use Rattle.lists.proofs.Loops.{at-count_of}
 use Rattle.addr_lines.proofs.off_before.Goals as goal
 

@@ -9,7 +9,6 @@ use Rattle.listing.specs.declared.Listed.{Listed}
 use Rattle.cs_pins.specs.Pins.{data_listed, select_listed, multi_commoned, commoned_listed, numbered}
 use Rattle.cs_pins.proofs.list.Goals as goal
 
-
 with-commoned : (d : Description) (ls ms ns cs : List Listed) → ls ≡ data_listed d → ms ≡ ls ++ select_listed d → cs ≡ commoned_listed d → ns ≡ ms ++ cs
     → ns ≡ numbered d
 unfolding numbered

@@ -1,7 +1,7 @@
 -- `list_active` meets its contract. The loop's invariant: the active ones of the lines passed are listed. Assumes nothing.
 use mathlib.Core.Path.{◌≡◌, ap, ◌∙◌}
 use mathlib.Core.List.{List, ◌++◌, append-nil, append_assoc}
-use Prim.Native.Nat.{ℕ, ◌+◌, ◌-◌}
+use Prim.Native.Nat.{ℕ, ◌+◌}
 use native.Mathlib.Numerals.{add-one}
 use native.Mathlib.Omega.{arith}
 use lib.ListN.{length-set}
@@ -17,7 +17,6 @@ use Rattle.listing.specs.declared.Listed.{Listed}
 use Rattle.cs_pins.specs.Pins.{pin_listed, active, if_active, active_listed}
 use borrow.Author.Rules.{rules}
 use Rattle.cs_pins.proofs.list_active.Goals as goal
-
 
 first : (d : Description) (ls : List Listed) → ls ≡ ls ++ active_listed d 0
 unfolding active_listed
@@ -51,7 +50,7 @@ loop-k-preserved c =
       v.invariant.4,
       omega (arith, c.one_if.ensures.upper_bound),
       simp length-set v.invariant.6,
-      turn d _ (list_of before) _ _ v.invariant.7 (stored_if (active d v.k) v.n _ _ _ v.pins-1 (omega arith) (c.one_if.ensures.value ∙ rw c.line_active.ensures) pin),
+      turn d _ (list_of before) _ _ v.invariant.7 (stored_if (active d v.k) v.n _ _ _ v.pins (omega arith) (c.one_if.ensures.value ∙ rw c.line_active.ensures) pin),
     )
 
 pub returns : goal.returns

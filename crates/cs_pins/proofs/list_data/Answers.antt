@@ -1,11 +1,10 @@
 -- `list_data` meets its contract. The loop's invariant: the data pins passed are listed. Assumes nothing.
 use mathlib.Core.Path.{◌≡◌, refl, ap, ◌∙◌}
-use Prim.Native.Nat.{◌-◌}
 use native.Mathlib.Omega.{arith}
 use Rattle.lists.proofs.Lists.{mapped_length}
 use Rattle.slot.specs.declared.description.Chip.{Chip}
 use Rattle.listing.proofs.Pushed.{behind-none, behind-turn, behind_to}
-use Rattle.cs_pins.specs.Pins.{pin_listed, data_listed}
+use Rattle.cs_pins.specs.Pins.{data_listed}
 use borrow.Author.Rules.{rules}
 use Rattle.cs_pins.proofs.list_data.Goals as goal
 

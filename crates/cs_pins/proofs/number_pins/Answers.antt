@@ -4,7 +4,6 @@ use mathlib.Core.Bool.{true, false}
 use mathlib.Core.List.{List, []}
 use Prim.Native.Nat.{ℕ}
 use native.Mathlib.Omega.{arith}
-use borrow.Author.Tests.{not-true, not-false}
 use lib.Dec.{leb}
 use lib.ListN.{length, length-take, length-map}
 use Rattle.lists.proofs.Lists.{mapped_length}
@@ -17,7 +16,6 @@ use Rattle.cs_pins.specs.Pins.{numbered, cs_search_in}
 use Rattle.cs_pins.proofs.InDomain.{few-numbered}
 use borrow.Author.Rules.{rules}
 use Rattle.cs_pins.proofs.number_pins.Goals as goal
-
 
 outside : (d : Description) → description_in d ≡ false → cs_search_in d ≡ false
 unfolding cs_search_in

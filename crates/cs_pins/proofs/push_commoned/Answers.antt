@@ -1,11 +1,10 @@
 -- `push_commoned` meets its contract. The loop's invariant: the commoned lines passed are listed. Assumes nothing.
 use mathlib.Core.Path.{◌≡◌, refl, ◌∙◌, ap}
-use Prim.Native.Nat.{ℕ, ◌+◌, ◌-◌}
+use Prim.Native.Nat.{ℕ, ◌+◌}
 use native.Mathlib.Nat.{add-zero}
 use native.Mathlib.Omega.{arith}
 use Rattle.lists.proofs.Lists.{mapped_length}
 use Rattle.listing.proofs.Pushed.{behind-none, behind-turn, behind_to}
-use Rattle.cs_pins.specs.Pins.{kind_listed}
 use borrow.Author.Rules.{rules}
 use Rattle.cs_pins.proofs.push_commoned.Goals as goal
 

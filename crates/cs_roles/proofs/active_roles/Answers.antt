@@ -1,7 +1,7 @@
 -- `active_roles` meets its contract. The loop's invariant: the roles of the active ones of the lines passed are there. Assumes nothing.
 use mathlib.Core.Path.{◌≡◌, ap}
 use mathlib.Core.List.{List, [], ◌++◌}
-use Prim.Native.Nat.{ℕ, ◌+◌, ◌-◌}
+use Prim.Native.Nat.{ℕ, ◌+◌}
 use native.Mathlib.Numerals.{add-one}
 use native.Mathlib.Omega.{arith}
 use Rattle.slot.specs.Description.{chip0}
@@ -9,7 +9,6 @@ use Rattle.slot.specs.declared.description.Chip.{Chip}
 use Rattle.slot.specs.declared.description.Description.{Description}
 use Rattle.cs_roles.specs.Roles.{if_active_kind, active_kinds}
 use Rattle.cs_roles.proofs.active_roles.Goals as goal
-
 
 first : (d : Description) (ks : List ℕ) → ks ≡ [] → ks ≡ active_kinds d 0
 unfolding active_kinds

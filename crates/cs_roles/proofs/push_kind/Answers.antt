@@ -6,8 +6,6 @@ use Rattle.cs_pins.specs.Pins.{active}
 use Rattle.cs_roles.specs.Roles.{roles_of}
 use Rattle.cs_roles.proofs.push_kind.Goals as goal
 
-)
-
 pub returns-then-line_active : goal.returns-then-line_active
 returns-then-line_active c = (
   rw (
@@ -17,6 +15,7 @@ returns-then-line_active c = (
     c.chip0-chip.ensures,
   ),
   omega (arith, c.push_role.ensures.1),
+)
 
 pub returns : goal.returns
 returns c =

@@ -11,6 +11,6 @@ use Rattle.cs_roles.proofs.push_role.Goals as goal
 pub returns : goal.returns
 returns c =
     let r = c.args.r in
-    let e : length r.roles-1 ≡ 8 = search rules in
-    let h : r.count < length r.roles-1 = omega arith in
-    (rw (add-one, take-suc-set r.roles-1 r.count c.args.role h), refl)
+    let e : length r.roles ≡ 8 = search rules in
+    let h : r.count < length r.roles = omega arith in
+    (rw (add-one, take-suc-set r.roles r.count c.args.role h), refl)

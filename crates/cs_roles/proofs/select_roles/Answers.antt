@@ -6,7 +6,6 @@ use native.Mathlib.Omega.{arith}
 use Rattle.cs_roles.specs.Roles.{select_roles}
 use Rattle.cs_roles.proofs.select_roles.Goals as goal
 
-
 behind : (ks ls ms xs : List ℕ) (k : ℕ) → ks ≡ [] → ls ≡ ks ++ (k ∷ []) → ms ≡ ls ++ xs → ms ≡ k ∷ xs
 behind ks ls ms xs k e f h = rw (h, f, e)
 

@@ -1,6 +1,6 @@
 -- `select_span` meets its contract. The loop's invariant: `s` spans the select and the commoned lines passed. Assumes nothing.
 use mathlib.Core.Path.{◌≡◌}
-use Prim.Native.Nat.{ℕ, ◌+◌, ◌-◌}
+use Prim.Native.Nat.{ℕ, ◌+◌}
 use native.Mathlib.Numerals.{add-one}
 use native.Mathlib.Omega.{arith}
 use lib.ListN.{get_or}
@@ -10,8 +10,7 @@ use Rattle.slot.specs.declared.description.Description.{Description}
 use Rattle.select_span.specs.Selects.{widened_first, kind_candidates, select_span}
 use Rattle.select_span.proofs.select_span.Goals as goal
 
-
-turn : (d : Description) (k kind : ℕ) (s t : Span) (g : Candidates) → s ≡ select_span d k → kind ≡ get_or d.multi-1.commoned k 0 → g ≡ kind_candidates d kind
+turn : (d : Description) (k kind : ℕ) (s t : Span) (g : Candidates) → s ≡ select_span d k → kind ≡ get_or d.multi.commoned k 0 → g ≡ kind_candidates d kind
     → t ≡ widened_first s g → t ≡ select_span d (k + 1)
 unfolding select_span
 turn d k kind s t g e f h i = rw (i, h, f, e, add-one)

@@ -1,6 +1,6 @@
 -- `reach` meets its contract. The loop's invariant: `entries` is 2 ^ k, and `lines` counts those passed that the limit holds. Assumes nothing.
 use mathlib.Core.Path.{◌≡◌, refl}
-use Prim.Native.Nat.{ℕ, ◌+◌, ◌*◌, ◌^◌, ◌≤◌, ◌-◌}
+use Prim.Native.Nat.{ℕ, ◌+◌, ◌*◌, ◌^◌, ◌≤◌}
 use native.Mathlib.Numerals.{add-one}
 use native.Mathlib.Omega.{arith}
 use native.Mathlib.Nat.{pow-suc}
@@ -10,7 +10,6 @@ use Rattle.lists.proofs.Each.{tally-none, tally-turn}
 use Rattle.addr_lines.specs.Range.{reach}
 use Rattle.lists.proofs.Loops.{at-count_of}
 use Rattle.addr_lines.proofs.range.reach.Goals as goal
-
 
 doubled : (k n : ℕ) → n ≡ 2 ^ k → n * 2 ≡ 2 ^ (k + 1)
 doubled k n e = rw (add-one, pow-suc, e)
