@@ -5,8 +5,8 @@ use Rattle.rom_turns.proofs.read_turns.Goals as goal
 pub write_words-requires : goal.write_words-requires
 write_words-requires c = let p = c.requires in turn-first (p.1 0 p.0)
 
-others-same-requires : tie.Need-others-same-requires
-others-same-requires c κs d l = turn-long _ (c.requires.1 d l) c.write_words.auto.1.1.1.1.1.1.1.0
+pub others_same-requires : goal.others_same-requires
+others_same-requires c d l = turn-long _ (c.requires.1 d l) c.write_words.auto.output
 
 pub returns : goal.returns
 returns c = record { wrote = c.write_words.ensures; same_turn = c.others_same.ensures }
