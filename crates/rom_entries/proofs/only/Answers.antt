@@ -1,5 +1,4 @@
 -- `only` meets its contract. The loop's invariant: no other value passed picks the place. Assumes nothing.
-use Prim.Native.Nat.{◌-◌}
 use native.Mathlib.Omega.{arith}
 use Rattle.rom_entries.proofs.Suited.{passed_none, passed_turn, passed_done}
 use Rattle.rom_entries.proofs.only.Goals as goal
@@ -12,5 +11,5 @@ loop-j-preserved c =
     let l = c.loop-j in
     (omega arith, passed_turn _ _ _ _ l.j _ _ l.invariant.1 c.entry-in-loop-j.ensures)
 
-returns : tie.Need-returns
+pub returns : goal.returns
 returns c z = let l = c.loop-j in passed_done _ _ _ _ l.j (omega arith) (l.invariant.1 z)
