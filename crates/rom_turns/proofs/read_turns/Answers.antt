@@ -5,13 +5,8 @@ use Rattle.rom_turns.proofs.read_turns.Goals as goal
 pub write_words-requires : goal.write_words-requires
 write_words-requires c = let p = c.requires in turn-first (p.1 0 p.0)
 
-<<<<<<< HEAD
-others-same-requires : tie.Need-others-same-requires
-others-same-requires c κs d l = turn-long _ (c.requires.1 d l) c.write_words.auto.output
-=======
 pub others_same-requires : goal.others_same-requires
 others_same-requires c d l = turn-long _ (c.requires.1 d l) c.write_words.auto.output
->>>>>>> 45ca16381106ab16e41e497126752a3db147f43c
 
 pub returns : goal.returns
 returns c = record { wrote = c.write_words.ensures; same_turn = c.others_same.ensures }
