@@ -27,7 +27,6 @@ use Rattle.cs_checked.specs.Design.Selects.{pins_fault}
 use borrow.Author.Rules.{rules}
 use Rattle.cs_checked.proofs.active_fault.Goals as goal
 
-
 -- where no line is active, the lack of one is the last fault
 lacking : (f : FirstFault) (actives : List Listed) (n m : ℕ) → n ≡ m + length actives
     → or_else (or_else f (first_fault actives)) (fault_if (leb n m) NoSelectLine) ≡ or_else f (first_fault (or_no_active actives))

@@ -1,11 +1,10 @@
 -- `push_ignored` meets its contract. The loop's invariant: the ignored lines passed are listed. Assumes nothing.
 use mathlib.Core.Path.{◌≡◌, refl, ◌∙◌, ap}
-use Prim.Native.Nat.{ℕ, ◌+◌, ◌-◌}
+use Prim.Native.Nat.{ℕ, ◌+◌}
 use native.Mathlib.Nat.{add-zero}
 use native.Mathlib.Omega.{arith}
 use Rattle.lists.proofs.Lists.{mapped_length}
 use Rattle.listing.proofs.Pushed.{behind-none, behind-turn, behind_to}
-use Rattle.cs_pins.specs.Pins.{kind_listed}
 use Rattle.cs_checked.specs.Checked.{ignored_listed}
 use borrow.Author.Rules.{rules}
 use Rattle.cs_checked.proofs.push_ignored.Goals as goal
@@ -24,4 +23,4 @@ returns c =
     let v = c.loop-k in
     let a = c.args in
     let e : v.k ≡ a.d.multi.num_ignored = omega arith in
-    (behind_to v.invariant.4 (ap (λ (x : ℕ). a.count + x) e) e, omega arith)
+    (behind_to v.invariant.4 (ap (λ (x : ℕ). a.before.count + x) e) e, omega arith)
