@@ -1,8 +1,7 @@
 -- `read_roms` meets its contract. The loop's invariant: the words of the ROMs passed are read. Assumes nothing.
 use mathlib.Core.Path.{◌≡◌, refl, ◌∙◌}
-use Prim.Native.Nat.{◌-◌}
 use native.Mathlib.Omega.{arith}
-use borrow.Author.Tests.{eqb-true, not-false}
+use borrow.Author.Tests.{eqb-true}
 use Rattle.lists.proofs.Loops.{zero_one}
 use Rattle.word_read.proofs.Words.{read-own, read-on, read-rest, read_none, read-long, all_read}
 use Rattle.word_read.proofs.read_roms.Goals as goal
@@ -16,22 +15,16 @@ read_rom-requires c =
     record { read_in = read-long _ c.requires l.1; place = c.loop-k-test.true; before = read-own l.2 }
 
 pub shape_of-output-then-not-read_rom : goal.shape_of-output-then-not-read_rom
-shape_of-output-then-not-read_rom c = c.read_rom.auto.1.1.1.1.1.0 ∙ c.loop-k.invariant.1
+shape_of-output-then-not-read_rom c = c.read_rom.auto.output ∙ c.loop-k.invariant.1
 
 pub returns-then-not-read_rom : goal.returns-then-not-read_rom
 returns-then-not-read_rom c = record { output_unchanged = c.read_rom.ensures.output_unchanged ∙ read-rest c.loop-k.invariant.2; all_read = λ z. absurd (zero_one cc) }
-
-pub overflow_add-m : goal.overflow_add-m
-overflow_add-m c =
-    let l = c.loop-k in
-    let h = c.requires.reading in
-    record { fits = omega (arith, l.invariant.2.within, h.extents-1 l.k c.loop-k-test.true, h.few) }
 
 pub loop-k-preserved : goal.loop-k-preserved
 loop-k-preserved c =
     let l = c.loop-k in
     let read = c.read_rom in
-    (omega arith, read.auto.1.1.1.1.1.0 ∙ l.invariant.1, read-on _ _ _ l.invariant.2 (read.ensures.1 (not-false _ c.if-not-read_rom.false)))
+    (omega arith, read.auto.output ∙ l.invariant.1, read-on _ _ _ l.invariant.2 (read.ensures.words_read c.if-not-read_rom.false))
 
 pub returns : goal.returns
 returns c =
