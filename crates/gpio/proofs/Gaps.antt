@@ -1,6 +1,5 @@
 -- The gap of a set, GPIO by GPIO. Assumes nothing.
 use mathlib.Core.Path.{◌≡◌, refl, sym, ◌∙◌, ap}
-use mathlib.Core.Bool.{true}
 use mathlib.Core.Logic.{◌⊎◌, inl, inr}
 use Prim.Native.Nat.{ℕ, zero, suc, ◌+◌, ◌-◌, ◌*◌, ◌/◌, ◌%◌, ◌^◌, ◌≤◌, ◌<◌}
 use native.Mathlib.Nat.{add-zero, pow-suc, zero-div, lt_of_lt_of_le, lt_of_not-le}
@@ -13,7 +12,7 @@ use lib.Pow.{high, high_ones, ones_lt, ones_split, pow_mono, shl-shr, shr_lt, sh
 use borrow.Author.Tests.{eq-eqb, eqb-true}
 use Rattle.lists.proofs.Loops.{zero_one}
 use Rattle.bits.proofs.Or.{bit-half}
-use Rattle.gpio.specs.Set.{lowest, end, width, size, gapless, gap}
+use Rattle.gpio.specs.Set.{lowest, end, width, size, gap}
 use Rattle.gpio.specs.Law.{In, SetLaw}
 use Rattle.gpio.proofs.Members.{held, held-zero, held_same, held_low, held_high, held-most, lowest-held}
 

@@ -1,5 +1,5 @@
 -- What stands in a buffer that bytes were laid over. Assumes nothing.
-use Rattle.std.specs.Prelude.{ℕ, ◌+◌, ◌-◌, ◌<◌, ◌≤◌, ◌≡◌, List, ◌⊎◌, length, get_or}
+use Rattle.std.specs.Prelude.{ℕ, ◌+◌, ◌<◌, ◌≤◌, ◌≡◌, List, ◌⊎◌, length, get_or}
 use Rattle.laid_bytes.specs.Laid.{laid}
 
 pub record LaidLaw (buffer : List ℕ) (at : ℕ) (bytes : List ℕ) : Type 0 where

@@ -6,9 +6,9 @@ use native.Mathlib.Nat.{lt_of_not-le}
 use native.Mathlib.Omega.{arith}
 use lib.Dec.{leb, ltb}
 use lib.IntN.{ℤ, pos, negsuc, ◌+ℤ◌}
-use borrow.Author.Tests.{leb-true, leb-false, le-leb, ltb-true, ltb-false, lt-ltb, le-ltb}
+use borrow.Author.Tests.{leb-true, le-leb, ltb-false, lt-ltb, le-ltb}
 use Rattle.lists.proofs.Bools.{both}
-use Rattle.slot.specs.SlotContext.{raised_of, on_socket, socket_of}
+use Rattle.slot.specs.SlotContext.{raised_of, socket_of}
 use Rattle.slot.specs.Law.{SocketLaw}
 use Rattle.slot.specs.declared.slot_context.Socket.{Socket}
 use Rattle.slot.specs.declared.slot_context.Socket.TheVariants.{On, Off}

@@ -1,6 +1,6 @@
 -- `gather` meets its contract. The loop's invariant: the bits of the positions passed are in place. Assumes nothing.
 use mathlib.Core.Path.{◌≡◌}
-use Prim.Native.Nat.{ℕ, ◌+◌, ◌-◌, ◌*◌, ◌%◌, ◌^◌, ◌<◌}
+use Prim.Native.Nat.{ℕ, ◌+◌, ◌*◌, ◌%◌, ◌^◌, ◌<◌}
 use native.Mathlib.Nat.{lt_of_lt_of_le}
 use native.Mathlib.Omega.{arith}
 use lib.Pow.{pow_mono}
@@ -9,7 +9,6 @@ use Rattle.bits.proofs.Bit.{bit_lt, bit_shl}
 use Rattle.bits.proofs.Gathered.{gather_none, gather-turn, gather-done, gather_lt}
 use Rattle.lists.proofs.Clauses.{with_bound}
 use Rattle.bits.proofs.gather.Goals as goal
-
 
 -- one turn, with the bit shifted in 32 bits
 turn : (p : ℕ → ℕ) (i k at b g : ℕ) → k < 32 → at ≡ p k → b ≡ bit i at → g ≡ gather k p i → g + b * 2 ^ k % 2 ^ 32 ≡ gather (k + 1) p i

@@ -1,6 +1,5 @@
 -- `scatter` meets its contract. The loop's invariant: the bits passed are at their positions. Assumes nothing.
 use mathlib.Core.Path.{◌∙◌}
-use Prim.Native.Nat.{◌-◌}
 use native.Mathlib.Omega.{arith}
 use Rattle.bits.proofs.Scattered.{scatter-none, scatter-turn, scatter-done}
 use Rattle.lists.proofs.Clauses.{with_bound}

@@ -1,6 +1,5 @@
 -- `copy_padded` meets its contract. The invariant: the first k bytes are in place. Assumes nothing.
 use mathlib.Core.Path.{refl}
-use Prim.Native.Nat.{◌-◌}
 use native.Mathlib.Omega.{arith}
 use Rattle.lists.proofs.Tab.{filled_none, filled_turn, filled}
 use Rattle.fields.proofs.copy_padded.Goals as goal

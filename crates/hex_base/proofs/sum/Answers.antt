@@ -1,5 +1,5 @@
 -- `sum` meets its contract. The loop's invariant: s is the sum of the bytes passed, modulo 256. Assumes nothing.
-use Rattle.std.proofs.Common.{◌-◌, refl, arith}
+use Rattle.std.proofs.Common.{refl, arith}
 use Rattle.hex_base.proofs.Sums.{sum-none, sum-turn, sum_done}
 use Rattle.hex_base.proofs.sum.Goals as goal
 

@@ -1,6 +1,5 @@
 -- `put` meets its contract. The loop's invariant: the bytes passed are laid over the buffer's. Assumes nothing.
 use mathlib.Core.Path.{refl, ◌∙◌}
-use Prim.Native.Nat.{◌-◌}
 use native.Mathlib.Omega.{arith}
 use lib.ListN.{length-set}
 use Rattle.laid_bytes.proofs.Laids.{laid_none, laid-turn, laid_done}

@@ -1,6 +1,6 @@
 -- `lines_at` meets its contract. The loop's invariant: the lines passed are each at their position. Assumes nothing.
 use mathlib.Core.Path.{◌∙◌, ap}
-use Prim.Native.Nat.{ℕ, ◌-◌, min}
+use Prim.Native.Nat.{ℕ, min}
 use native.Mathlib.Omega.{arith}
 use Rattle.running_address.proofs.Tables.{listed-none, listed-turn, listed-all}
 use Rattle.running_address.proofs.lines_at.Goals as goal

@@ -1,5 +1,4 @@
 -- `moves` meets its contract. The loop's invariant: below t stand the lines that move, from there on those at each position. Assumes nothing.
-use Prim.Native.Nat.{◌-◌}
 use native.Mathlib.Omega.{arith}
 use Rattle.running_address.proofs.Tables.{joined-first, joined-turn, joined-all}
 use Rattle.running_address.proofs.moves.Goals as goal

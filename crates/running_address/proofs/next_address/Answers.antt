@@ -6,7 +6,6 @@ use lib.Count.{count_trailing_zeros, trailing_le}
 use Rattle.running_address.proofs.Address.{next_by_table}
 use Rattle.running_address.proofs.next_address.Goals as goal
 
-
 -- the place, whatever the number is
 place-fits : (x : ℕ) → count_trailing_zeros 32 x < 2 ^ 64
 place-fits x = omega (arith, trailing_le 32 x)

@@ -7,7 +7,6 @@ use Rattle.lists.specs.Tab.{tab}
 use Rattle.lists.proofs.Tab.{tab_cong}
 use Rattle.word_read.proofs.lows_of.Goals as goal
 
-
 lowest : (f : ℕ → ℕ) (table : List ℕ) → table ≡ tab 256 (λ q. f (q * 2 ^ 0)) → table ≡ tab 256 f
 lowest f table e = e ∙ tab_cong (λ q. f (q * 2 ^ 0)) f 256 (λ q l. ap f (mul-one q))
 

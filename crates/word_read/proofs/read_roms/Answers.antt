@@ -1,8 +1,7 @@
 -- `read_roms` meets its contract. The loop's invariant: the words of the ROMs passed are read. Assumes nothing.
 use mathlib.Core.Path.{◌≡◌, refl, ◌∙◌}
-use Prim.Native.Nat.{◌-◌}
 use native.Mathlib.Omega.{arith}
-use borrow.Author.Tests.{eqb-true, not-false}
+use borrow.Author.Tests.{eqb-true}
 use Rattle.lists.proofs.Loops.{zero_one}
 use Rattle.word_read.proofs.Words.{read-own, read-on, read-rest, read_none, read-long, all_read}
 use Rattle.word_read.proofs.read_roms.Goals as goal
@@ -20,12 +19,6 @@ shape_of-output-then-not-read_rom c = c.read_rom.auto.output ∙ c.loop-k.invari
 
 pub returns-then-not-read_rom : goal.returns-then-not-read_rom
 returns-then-not-read_rom c = record { output_unchanged = c.read_rom.ensures.output_unchanged ∙ read-rest c.loop-k.invariant.2; all_read = λ z. absurd (zero_one cc) }
-
-pub overflow_add-m : goal.overflow_add-m
-overflow_add-m c =
-    let l = c.loop-k in
-    let h = c.requires.reading in
-    record { fits = omega (arith, l.invariant.2.within, h.extents-1 l.k c.loop-k-test.true, h.few) }
 
 pub loop-k-preserved : goal.loop-k-preserved
 loop-k-preserved c =

@@ -6,7 +6,6 @@ use Rattle.words.specs.Words.{chip_word_from}
 use Rattle.words.specs.declared.ByteOrder.TheVariants.{HighFirst}
 use Rattle.words.proofs.high_word_at.Given as goal
 
-
 -- the first k bytes, as a word that fits them
 pub record Taken (b : List ℕ) (at w k v : ℕ) : Type 0 where
   pub within : k ≤ w

@@ -1,6 +1,6 @@
 -- `pad_word` meets its contract. The loop's invariant: the pad word of k bytes. Assumes nothing.
 use mathlib.Core.Path.{◌≡◌, refl}
-use Prim.Native.Nat.{ℕ, ◌+◌, ◌*◌, ◌-◌, ◌^◌, ◌<◌}
+use Prim.Native.Nat.{ℕ, ◌+◌, ◌*◌, ◌^◌, ◌<◌}
 use native.Mathlib.Numerals.{add-one}
 use native.Mathlib.Omega.{arith}
 use Rattle.words.specs.Words.{pad_word}
@@ -8,7 +8,6 @@ use Rattle.words.proofs.Words.{pad_lt, word-short}
 use Rattle.lists.proofs.Clauses.{with_bound}
 use Rattle.words.proofs.pad_word.Goals.{In-loop-k}
 use Rattle.words.proofs.pad_word.Goals as goal
-
 
 begin : (pad : ℕ) → 0 ≡ pad_word 0 pad
 unfolding pad_word

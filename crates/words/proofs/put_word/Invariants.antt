@@ -6,7 +6,6 @@ use lib.ListN.{length, take, drop}
 use Rattle.words.specs.Words.{bytes_of}
 use Rattle.words.proofs.put_word.Given as goal
 
-
 -- k bytes are written: with the bytes that are left behind them it would be the whole
 pub record Written (old : List ℕ) (at w x : ℕ) (out : List ℕ) (rest k : ℕ) : Type 0 where
   pub within : k ≤ w

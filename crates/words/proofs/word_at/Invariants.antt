@@ -5,7 +5,6 @@ use Prim.Native.Nat.{ℕ, ◌+◌, ◌*◌, ◌-◌, ◌^◌, ◌≤◌, ◌<◌
 use Rattle.words.specs.Words.{word_from}
 use Rattle.words.proofs.word_at.Given as goal
 
-
 -- the bytes from k on, as a word that fits them
 pub record Taken (b : List ℕ) (at w k v : ℕ) : Type 0 where
   pub within : k ≤ w

@@ -9,7 +9,6 @@ use Rattle.gpio.specs.Set.{lowest, end, width, gap}
 use Rattle.gpio.proofs.Sets.{ones_shifted, run_fits}
 use Rattle.gpio.proofs.set.gap.Goals as goal
 
-
 -- nothing from the lowest to the highest
 gap-none : (s w : ℕ) → w ≡ width s → w ≡ 0 → s ≡ gap s
 gap-none s w p q =

@@ -1,5 +1,4 @@
 -- `all_between` meets its contract. The loop's invariant: `ok` says whether each entry passed is in range. Assumes nothing.
-use Prim.Native.Nat.{◌-◌}
 use native.Mathlib.Omega.{arith}
 use Rattle.lists.specs.Each.{each}
 use Rattle.lists.proofs.Each.{each_none, each_turn}

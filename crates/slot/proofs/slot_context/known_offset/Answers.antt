@@ -2,7 +2,7 @@
 use mathlib.Core.Path.{◌≡◌, refl, sym, ◌∙◌, ap}
 use mathlib.Core.Bool.{Bool, true, false, cond}
 use mathlib.Core.List.{List}
-use Prim.Native.Nat.{ℕ, ◌+◌, ◌<◌, ◌-◌}
+use Prim.Native.Nat.{ℕ, ◌+◌, ◌<◌}
 use native.Mathlib.Numerals.{add-one}
 use native.Mathlib.Omega.{arith}
 use lib.ListN.{length, drop, get_or}
@@ -13,7 +13,6 @@ use Rattle.slot.specs.declared.slot_context.OffsetAnswer.{OffsetAnswer}
 use Rattle.slot.specs.declared.slot_context.OffsetAnswer.TheVariants.{Offset}
 use Rattle.slot.specs.SlotContext.{is_for, offset_from, known_pairs}
 use Rattle.slot.proofs.slot_context.known_offset.Goals as goal
-
 
 turn : (ps : List KnownPair) (k chip board : ℕ) (d : KnownPair) (t : Bool) (whole : OffsetAnswer) → k < length ps
     → t ≡ is_for (get_or ps k d) chip board → offset_from (drop k ps) chip board ≡ whole

@@ -1,7 +1,7 @@
 -- `raised` meets its contract, by cases on the offset's sign. Assumes nothing.
 use mathlib.Core.Path.{◌≡◌, refl, sym, ◌∙◌, ap}
 use mathlib.Core.Bool.{Bool, true, false, ◌||◌, or-false}
-use Prim.Native.Nat.{ℕ, suc, ◌+◌, ◌-◌, ◌<◌, ◌≤◌}
+use Prim.Native.Nat.{ℕ, suc, ◌-◌, ◌<◌, ◌≤◌}
 use native.Mathlib.Omega.{arith}
 use lib.Dec.{ltb}
 use lib.IntN.{ℤ, pos, negsuc, ◌+ℤ◌}
@@ -12,7 +12,6 @@ use mir.Facts.{to_z-of_z}
 use borrow.Author.Tests.{ltb-true, ltb-false, le-leb, lt-leb, le-ltb}
 use Rattle.slot.specs.SlotContext.{raised_of}
 use Rattle.slot.proofs.slot_context.raised.Goals as goal
-
 
 -- whether an offset is not -4 to 4
 abbrev outside : ℤ → Bool

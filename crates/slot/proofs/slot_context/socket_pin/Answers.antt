@@ -7,7 +7,6 @@ use Rattle.slot.specs.declared.slot_context.Socket.TheVariants.{On, Off}
 use Rattle.slot.specs.SlotContext.{on_socket}
 use Rattle.slot.proofs.slot_context.socket_pin.Goals as goal
 
-
 below : (n board : ℕ) → n < 5 → Off ≡ on_socket (n - 4) board
 below n board h = rw (lt-leb 1 (n - 4) (omega arith))
 
