@@ -4,7 +4,7 @@ use mathlib.Core.Bool.{true, false}
 use mathlib.Core.List.{List}
 use Prim.Native.Nat.{ℕ, ◌≤◌, ◌<◌}
 use native.Mathlib.Omega.{arith}
-use borrow.Author.Tests.{not-true, not-false, le-leb, lt-leb}
+use borrow.Author.Tests.{le-leb, lt-leb}
 use Rattle.slot.specs.declared.description.Description.{Description}
 use Rattle.refusal.specs.declared.Refusal.{Refusal}
 use Rattle.refusal.specs.declared.Refusal.TheVariants.{OutOfDomain}
@@ -19,7 +19,6 @@ use Rattle.addr_layout.specs.Layout.{addr_refused}
 use Rattle.addr_layout.specs.Search.{addr_best, addr_answer_of, after_faults, addr_answer}
 use Rattle.addr_layout.specs.declared.layout.AddrAnswer.{AddrAnswer}
 use Rattle.addr_layout.proofs.derive_addr_layout.Goals as goal
-
 
 few-lines : (d : Description) → description_in d ≡ true → lines d ≤ 24
 few-lines d e = omega (arith, (chip0_in d e).address-pins)
@@ -41,15 +40,15 @@ module _ (d : Description) (ls : List Listed) (bits : ℕ) (din : description_in
   searched f r h e i j = j ∙ (rw (← e, i)) ∙ past-domain h
 
 pub returns-then-not-description_in : goal.returns-then-not-description_in
-returns-then-not-description_in c = c.refused.ensures ∙ outside c.args.d (sym c.description_in.ensures ∙ not-true _ c.if-not-description_in.true)
+returns-then-not-description_in c = c.refused.ensures ∙ outside c.args.d (sym c.description_in.ensures ∙ c.if-not-description_in.true)
 
 pub list-l-requires : goal.list-l-requires
-list-l-requires c = few-lines c.args.d (sym c.description_in.ensures ∙ not-false _ c.if-not-description_in.false)
+list-l-requires c = few-lines c.args.d (sym c.description_in.ensures ∙ c.if-not-description_in.false)
 
 pub returns-then-bits-gt16 : goal.returns-then-bits-gt16
 returns-then-bits-gt16 c =
     c.refused-then-bits-gt16.ensures
-    ∙ too_many c.args.d _ _ (sym c.description_in.ensures ∙ not-false _ c.if-not-description_in.false) c.list-l.ensures.0
+    ∙ too_many c.args.d _ _ (sym c.description_in.ensures ∙ c.if-not-description_in.false) c.list-l.ensures.0
     c.choice_bits-bits.ensures.value c.if-bits-gt16.true
 
 pub search-requires : goal.search-requires
@@ -57,7 +56,7 @@ search-requires c =
     let list = c.list-l.ensures in
     record {
       pins = omega (arith, list.1);
-      address-lines = few-lines c.args.d (sym c.description_in.ensures ∙ not-false _ c.if-not-description_in.false);
+      address-lines = few-lines c.args.d (sym c.description_in.ensures ∙ c.if-not-description_in.false);
       listed = list.0;
       counted = c.choice_bits-bits.ensures.value;
       few_bits = c.if-bits-gt16.false;
@@ -66,10 +65,10 @@ search-requires c =
 pub returns-in-Of : goal.returns-in-Of
 returns-in-Of c =
     c.refused-in-Of.ensures
-    ∙ faulty c.args.d _ _ (sym c.description_in.ensures ∙ not-false _ c.if-not-description_in.false) c.list-l.ensures.0
+    ∙ faulty c.args.d _ _ (sym c.description_in.ensures ∙ c.if-not-description_in.false) c.list-l.ensures.0
     c.choice_bits-bits.ensures.value _ _ c.if-bits-gt16.false c.first_fault.ensures c.in-Of.is
 
 pub returns-in-None : goal.returns-in-None
 returns-in-None c =
-    searched c.args.d _ _ (sym c.description_in.ensures ∙ not-false _ c.if-not-description_in.false) c.list-l.ensures.0 c.choice_bits-bits.ensures.value _ _ c.if-bits-gt16.false
+    searched c.args.d _ _ (sym c.description_in.ensures ∙ c.if-not-description_in.false) c.list-l.ensures.0 c.choice_bits-bits.ensures.value _ _ c.if-bits-gt16.false
     c.first_fault.ensures c.in-None.is c.search.ensures
