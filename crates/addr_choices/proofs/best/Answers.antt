@@ -2,38 +2,29 @@
 use mathlib.Core.Path.{◌≡◌, refl, sym, ◌∙◌, ap}
 use mathlib.Core.Bool.{true, false}
 use mathlib.Core.List.{List}
-use Prim.Native.Nat.{ℕ, ◌+◌, ◌*◌, ◌^◌, ◌<◌, ◌-◌}
+use Prim.Native.Nat.{ℕ, ◌+◌, ◌*◌, ◌^◌, ◌<◌}
 use native.Mathlib.Omega.{arith}
 use native.Mathlib.Nat.{zero-mul}
-use lib.ListN.{length, get_or, take}
+use lib.ListN.{length, get_or}
 use Rattle.gpio.specs.Design.Span.{spans_joined}
-use Rattle.lists.specs.Tab.{tab}
 use Rattle.gpio.specs.declared.span.Span.{Span}
 use Rattle.lists.proofs.Shifts.{shifted_one}
 use Rattle.lists.proofs.Tab.{get_or-begins}
 use Rattle.listing.specs.Design.Packed.{list_of}
 use Rattle.listing.specs.declared.Listed.{Listed}
 use Rattle.search.specs.Search.{best}
-use Rattle.search.specs.declared.Trial.{Trial}
 use Rattle.search.proofs.Rows.{row_first, row_fits, rows_turn, rows_done}
-use Rattle.addr_choices.specs.Choices.{choice_span, span_trial}
+use Rattle.addr_choices.specs.Choices.{span_trial}
 use Rattle.addr_choices.specs.declared.Spanning.{Spanning}
 use Rattle.addr_choices.specs.Design.Parts.{part_span, past_spans}
 use Rattle.addr_choices.proofs.Parts.{parts_join}
+use Rattle.addr_choices.proofs.best.Invariants.{Lows, trials}
 use Rattle.addr_choices.proofs.best.Goals as goal
 
-
 module _ (ls : List Listed) (f : Spanning) (s : ℕ) where
-  -- the table of low spans
-  abbrev Lows : List Span → Type 0
-  Lows lows = take (2 ^ s) lows ≡ tab (2 ^ s) (λ q. part_span ls f true s q)
-
-  abbrev trials : ℕ → Trial
-  trials c = span_trial (choice_span ls f c)
-
   -- a choice of a row spans what its two parts span
-  row_trial : (lows : List Span) (high : Span) (row q : ℕ) → Lows lows → high ≡ part_span ls f false s (row * 2 ^ s) → q < 2 ^ s
-      → span_trial (spans_joined (get_or lows q past_spans) high) ≡ trials (row * 2 ^ s + q)
+  row_trial : (lows : List Span) (high : Span) (row q : ℕ) → Lows ls f s lows → high ≡ part_span ls f false s (row * 2 ^ s) → q < 2 ^ s
+      → span_trial (spans_joined (get_or lows q past_spans) high) ≡ trials ls f s (row * 2 ^ s + q)
   row_trial lows high row q t e l = ap span_trial (rw (get_or-begins (part_span ls f true s) lows (2 ^ s) q past_spans t l, e) (sym (parts_join ls f row s q l (length ls))))
 
 pub loop-row-init : goal.loop-row-init

@@ -1,6 +1,5 @@
 -- `best_in_row` meets its contract. The loop's invariant: `found` is the best of what was found before and of the choices passed. Assumes nothing.
 use mathlib.Core.Path.{refl, ◌∙◌}
-use Prim.Native.Nat.{◌-◌}
 use native.Mathlib.Omega.{arith}
 use Rattle.lists.proofs.Loops.{at_count}
 use Rattle.search.specs.Design.Rows.{best_onward}

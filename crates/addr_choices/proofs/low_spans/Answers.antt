@@ -1,13 +1,12 @@
 -- `low_spans` meets its contract. The loop's invariant: the spans of the numbers passed are in place. Assumes nothing.
 use mathlib.Core.Path.{◌≡◌, refl}
-use Prim.Native.Nat.{ℕ, ◌-◌}
+use Prim.Native.Nat.{ℕ}
 use native.Mathlib.Omega.{arith}
 use lib.ListN.{take}
 use mathlib.Core.List.{List}
 use Rattle.lists.specs.Tab.{tab}
 use Rattle.gpio.specs.declared.span.Span.{Span}
 use Rattle.lists.proofs.Tab.{filled_none, filled_turn}
-use Rattle.addr_choices.specs.Design.Parts.{part_span}
 use Rattle.lists.proofs.Shifts.{shifted_one}
 use Rattle.search.proofs.Rows.{row-short}
 use Rattle.addr_choices.proofs.low_spans.Goals as goal

@@ -2,7 +2,7 @@
 use mathlib.Core.Path.{◌≡◌, refl}
 use mathlib.Core.Bool.{Bool, ◌&&◌, cond}
 use mathlib.Core.List.{List}
-use Prim.Native.Nat.{ℕ, ◌+◌, ◌<◌, ◌-◌}
+use Prim.Native.Nat.{ℕ, ◌+◌, ◌<◌}
 use native.Mathlib.Numerals.{add-one}
 use native.Mathlib.Omega.{arith}
 use lib.ListN.{length, length-take, length-map}
@@ -24,7 +24,6 @@ use Rattle.addr_choices.specs.Design.Parts.{span_part_at}
 use borrow.Author.Rules.{rules}
 use Rattle.addr_choices.proofs.part_span.Goals as goal
 
-
 wider : (ls : List Listed) (f : Spanning) (split c k r t : ℕ) (low : Bool) (s s' : Span) (g : Candidates) (p : Picked) (b : Bool) → r ≡ rest_at ls c k → t ≡ bit_of ls k → g ≡ pin_at ls k
     → p ≡ record { gpio = chosen g r; rest = left_by g r } → b ≡ in_part low split t → s ≡ span_part_at ls f low split c k → s' ≡ cond (spanned f k && b) (widened s p.gpio) s
     → s' ≡ span_part_at ls f low split c (k + 1)
@@ -37,7 +36,7 @@ loop-k-init c = (omega arith, omega arith, refl, omega arith, search (mapped_len
 
 pub loop-k-preserved : goal.loop-k-preserved
 loop-k-preserved c =
-    let l = c.args.t1 in
+    let l = c.args.l in
     let v = c.loop-k in
     let pick = c.pick-picked.ensures in
     let h : v.k < l.count = omega arith in
@@ -56,5 +55,5 @@ pub returns : goal.returns
 returns c =
     let a = c.args in
     let v = c.loop-k in
-    let e : v.k ≡ length (list_of a.t1) = simp (length-take, length-map) (omega arith) in
-    at_count (span_part_at (list_of a.t1) a.every a.low a.split a.choice) v.k _ v.s-1 e v.invariant.7
+    let e : v.k ≡ length (list_of a.l) = simp (length-take, length-map) (omega arith) in
+    at_count (span_part_at (list_of a.l) a.every a.low a.split a.choice) v.k _ v.s e v.invariant.7

@@ -10,7 +10,7 @@ use Rattle.addr_choices.proofs.part_span.Given as goal
 abbrev pub invariant-loop-k : goal.invariant-loop-k
 invariant-loop-k l =
     (l.k ≤ l.count) × (l.count ≤ 30) × (l.count ≡ l.l.count) × (l.bit ≤ l.k) × (length l.l.pins ≡ 30) × (l.rest ≡ rest_at (list_of l.l) l.choice l.k)
-    × (l.bit ≡ bit_of (list_of l.l) l.k) × (l.s ≡ span_part_at (list_of l.l) (record { in_range = l.in_range; l.lines = l.lines; fixed = l.initial.s }) l.low l.split l.choice l.k)
+    × (l.bit ≡ bit_of (list_of l.l) l.k) × (l.s ≡ span_part_at (list_of l.l) (record { in_range = l.in_range; lines = l.lines; fixed = l.initial.s }) l.low l.split l.choice l.k)
 
 abbrev pub decreases-loop-k : goal.decreases-loop-k
 decreases-loop-k l = l.count - l.k

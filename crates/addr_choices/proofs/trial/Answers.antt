@@ -9,7 +9,6 @@ use Rattle.search.specs.declared.Trial.TheVariants.{Misfit}
 use Rattle.addr_choices.specs.Choices.{padded_pins, span_trial}
 use Rattle.addr_choices.proofs.trial.Goals as goal
 
-
 -- more pins than a window has GPIOs past its base
 too_wide : (s : Span) → 48 < padded_pins s → Misfit ≡ span_trial s
 unfolding span_trial
@@ -22,10 +21,10 @@ pub returns-then-fits : goal.returns-then-fits
 unfolding span_trial
 returns-then-fits c =
     let e = c.pins-n.ensures in
-    rw (← e, sym c.fits2.ensures ∙ c.if-fits.true)
+    rw (← e, sym c.fits.ensures ∙ c.if-fits.true)
 
 pub returns : goal.returns
 unfolding span_trial
 returns c =
     let e = c.pins-n.ensures in
-    rw (← e, sym c.fits2.ensures ∙ c.if-fits.false)
+    rw (← e, sym c.fits.ensures ∙ c.if-fits.false)

@@ -4,7 +4,7 @@ use mathlib.Core.Bool.{true, false}
 use mathlib.Core.List.{List}
 use Prim.Native.Nat.{ℕ, ◌≤◌, ◌<◌}
 use native.Mathlib.Omega.{arith}
-use borrow.Author.Tests.{not-true, not-false, le-leb, lt-leb}
+use borrow.Author.Tests.{le-leb, lt-leb}
 use Rattle.slot.specs.declared.description.Description.{Description}
 use Rattle.refusal.specs.declared.Refusal.{Refusal}
 use Rattle.refusal.specs.declared.Refusal.TheVariants.{OutOfDomain}
@@ -19,7 +19,6 @@ use Rattle.addr_layout.specs.Layout.{addr_refused}
 use Rattle.addr_layout.specs.Search.{addr_best, addr_answer_of, after_faults, addr_answer}
 use Rattle.addr_layout.specs.declared.layout.AddrAnswer.{AddrAnswer}
 use Rattle.addr_layout.proofs.derive_addr_layout.Goals as goal
-
 
 few-lines : (d : Description) → description_in d ≡ true → lines d ≤ 24
 few-lines d e = omega (arith, (chip0_in d e).address-pins)

@@ -17,9 +17,7 @@ use Rattle.addr_layout.specs.Layouts.{addr_layout_of}
 use Rattle.addr_layout.specs.Search.{addr_best, addr_answer_of}
 use Rattle.addr_layout.specs.declared.layout.AddrOutcome.TheVariants.{LaidOut}
 use Rattle.addr_layout.specs.declared.layout.AddrAnswer.{AddrAnswer}
-use Rattle.addr_layout.proofs.search.Goals.{After-best}
 use Rattle.addr_layout.proofs.search.Goals as goal
-
 
 -- a choice's trial, of the pins as the code listed them
 abbrev trial : List Listed → Spanning → ℕ → Trial
@@ -33,26 +31,24 @@ best_is d ls every bits found el ee eb e = rw (e, eb, el, ee)
 abbrev laid : Description → List Listed → ℕ → AddrAnswer
 laid d ls c = record { outcome = LaidOut; layout = addr_layout_of d ls c }
 
-best-at : (c : After-best) → c.best.result ≡ addr_best c.args.d
-best-at c =
-    best_is c.args.d (list_of c.args.l) _ _ _ c.requires.listed c.every_choice-every.ensures c.requires.counted c.best.ensures
-
 pub laid_out-requires : goal.laid_out-requires
 laid_out-requires c =
     let every = c.every_choice-every in
-    let best_is = sym c.best.ensures ∙ c.choice-1.given.1 in
+    let found = sym c.best.ensures ∙ c.in-At.is in
     record {
       pins = c.requires.pins;
       address-lines = c.requires.address-lines;
       spanning = every.ensures;
-      fits = rw every.ensures at (found-best (trial (list_of c.args.l) every.result) _ _ _ best_is).fits;
+      fits = rw every.ensures at (found-best (trial (list_of c.args.l) every.result) _ _ _ found).fits;
     }
 
 pub returns-in-Nothing : goal.returns-in-Nothing
 returns-in-Nothing c =
-    c.refused.ensures ∙ ap (addr_answer_of c.args.d) (sym c.in-Nothing.is ∙ best-at c.before.before.before)
+    let best = best_is c.args.d (list_of c.args.l) _ _ _ c.requires.listed c.every_choice-every.ensures c.requires.counted c.best.ensures in
+    c.refused.ensures ∙ ap (addr_answer_of c.args.d) (sym c.in-Nothing.is ∙ best)
 
 pub returns-in-At : goal.returns-in-At
 returns-in-At c =
-    c.laid_out.ensures ∙ ap (λ (ls : List Listed). laid c.args.d ls c.choice-1.given.0.0) c.requires.listed
-    ∙ ap (addr_answer_of c.args.d) (sym c.in-At.is ∙ best-at c.before.before.before.before)
+    let best = best_is c.args.d (list_of c.args.l) _ _ _ c.requires.listed c.every_choice-every.ensures c.requires.counted c.best.ensures in
+    c.laid_out.ensures ∙ ap (λ (ls : List Listed). laid c.args.d ls c.in-At.choice) c.requires.listed
+    ∙ ap (addr_answer_of c.args.d) (sym c.in-At.is ∙ best)

@@ -30,7 +30,6 @@ use Rattle.addr_layout.specs.declared.layout.AddrLayout.{AddrLayout}
 use Rattle.addr_layout.specs.Design.Laying.{laid_from, Laying}
 use Rattle.addr_layout.proofs.layouts.laid_out.Goals as goal
 
-
 abbrev score_of : Trial → ℕ
 score_of (Score s) = s
 score_of Misfit = 0

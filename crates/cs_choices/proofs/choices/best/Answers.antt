@@ -1,6 +1,5 @@
 -- `best` meets its contract. The loop's invariant: `found` is the best of the choices of the rows passed. Assumes nothing.
 use mathlib.Core.Path.{◌≡◌, refl, ap}
-use Prim.Native.Nat.{◌-◌}
 use native.Mathlib.Nat.{zero-mul}
 use native.Mathlib.Omega.{arith}
 use lib.ListN.{length}

@@ -1,7 +1,7 @@
 -- `low_parts` meets its contract. The loop's invariant: the GPIOs of the numbers passed are in place. Assumes nothing.
 use mathlib.Core.Path.{◌≡◌, refl}
 use mathlib.Core.List.{List}
-use Prim.Native.Nat.{ℕ, ◌-◌}
+use Prim.Native.Nat.{ℕ}
 use native.Mathlib.Omega.{arith}
 use lib.ListN.{take}
 use Rattle.lists.specs.Tab.{tab}
@@ -10,7 +10,6 @@ use Rattle.lists.proofs.Tab.{filled_none, filled_turn}
 use Rattle.search.proofs.Rows.{row-short}
 use Rattle.cs_choices.specs.declared.choices.Sets.{Sets}
 use Rattle.cs_choices.proofs.choices.low_parts.Goals as goal
-
 
 done : (out : List Sets) (f : ℕ → Sets) (q n m : ℕ) → q ≡ n → n ≡ m → take q out ≡ tab q f → take m out ≡ tab m f
 done out f q n m e h i = rw (e, h) at i

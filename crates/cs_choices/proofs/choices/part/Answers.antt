@@ -2,7 +2,7 @@
 use mathlib.Core.Path.{◌≡◌, refl}
 use mathlib.Core.Bool.{Bool, ◌&&◌, cond}
 use mathlib.Core.List.{List}
-use Prim.Native.Nat.{ℕ, ◌+◌, ◌<◌, ◌-◌}
+use Prim.Native.Nat.{ℕ, ◌+◌, ◌<◌}
 use native.Mathlib.Numerals.{add-one}
 use native.Mathlib.Omega.{arith}
 use lib.Dec.{leb}
@@ -18,7 +18,6 @@ use Rattle.listing.proofs.Walked.{pin_taken, gpio_taken, rest_left, bit_served}
 use Rattle.cs_choices.specs.Design.Parts.{set_part_at}
 use borrow.Author.Rules.{rules}
 use Rattle.cs_choices.proofs.choices.part.Goals as goal
-
 
 more : (ls : List Listed) (from split c k t g : ℕ) (low b : Bool) (s s' : ℕ) → g ≡ gpio_at ls c k → t ≡ bit_of ls k → b ≡ in_part low split t
     → s ≡ set_part_at ls from low split c k → s' ≡ cond (leb from k && b) (with s g) s → s' ≡ set_part_at ls from low split c (k + 1)
@@ -39,14 +38,14 @@ loop-k-init c = (omega arith, c.requires, omega arith, search (mapped_length, ru
 pub with_if-s-requires : goal.with_if-s-requires
 with_if-s-requires c =
     let v = c.loop-k in
-    let l = c.args.t1 in
+    let l = c.args.l in
     let h : v.k < l.count = omega arith in
     gpio-small _ v.invariant.1.gpios _ _ _ (gpio_taken _ _ _ _ _ _ v.invariant.4 (pin_taken l.pins l.count v.k _ h c.listed-pin.ensures) c.pick-picked.ensures)
 
 pub loop-k-preserved : goal.loop-k-preserved
 loop-k-preserved c =
     let v = c.loop-k in
-    let l = c.args.t1 in
+    let l = c.args.l in
     let h : v.k < l.count = omega arith in
     let pick = c.pick-picked.ensures in
     let g = pin_taken l.pins l.count v.k _ h c.listed-pin.ensures in (

@@ -13,7 +13,6 @@ use Rattle.cs_choices.specs.declared.choices.Sets.{Sets}
 use borrow.Author.Rules.{rules}
 use Rattle.cs_choices.proofs.choices.parts.Goals as goal
 
-
 both : (ls : List Listed) (n m split c x y : ℕ) (low : Bool) → m ≡ length ls → x ≡ set_part_at ls 0 low split c n → y ≡ set_part_at ls n low split c m
     → ◌≡◌ {A = Sets} (record { data_gpios = x; select_gpios = y }) (parts_of ls n low split c)
 both ls n m split c x y low e p q =

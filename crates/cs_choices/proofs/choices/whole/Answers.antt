@@ -15,7 +15,6 @@ use Rattle.cs_choices.proofs.Parts.{data-whole, select-whole}
 use borrow.Author.Rules.{rules}
 use Rattle.cs_choices.proofs.choices.whole.Goals as goal
 
-
 sets_are : (ls : List Listed) (n excess c : ℕ) (s : Sets) → n ≤ length ls → s ≡ parts_of ls n false 0 c
     → ◌≡◌ {A = Sets} (record { data_gpios = s.data_gpios; select_gpios = bit_or s.select_gpios excess }) (sets_of ls n excess c)
 sets_are ls n excess c s h e = rw (e, data-whole ls n c, select-whole ls n c h excess)

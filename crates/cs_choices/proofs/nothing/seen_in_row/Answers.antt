@@ -1,6 +1,6 @@
 -- `seen_in_row` meets its contract. The loop's invariant: `seen` is what was seen before and in the choices passed. Assumes nothing.
 use mathlib.Core.Path.{◌≡◌, refl}
-use Prim.Native.Nat.{ℕ, ◌+◌, ◌-◌}
+use Prim.Native.Nat.{ℕ, ◌+◌}
 use native.Mathlib.Numerals.{add-one}
 use native.Mathlib.Omega.{arith}
 use Rattle.cs_choices.specs.Design.Seen.{seen_with, seen_onward}
@@ -8,7 +8,6 @@ use Rattle.cs_choices.specs.declared.nothing.Seen.{Seen}
 use Rattle.cs_verdict.specs.declared.Verdict.{Verdict}
 use borrow.Author.Rules.{rules}
 use Rattle.cs_choices.proofs.nothing.seen_in_row.Goals as goal
-
 
 module _ (ignored : ℕ) (before : Seen) (row : ℕ → Verdict) (k : ℕ) (seen : Seen) (e : seen ≡ seen_onward ignored before row k) where
   turn : (v : Verdict) (later : Seen) → v ≡ row k → later ≡ seen_with ignored seen v → later ≡ seen_onward ignored before row (k + 1)

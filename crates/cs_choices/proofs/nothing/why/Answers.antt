@@ -1,7 +1,7 @@
 -- `why` meets its contract. The loop's invariant: `seen` is what the choices of the rows passed show. Assumes nothing.
 use mathlib.Core.Path.{◌≡◌, refl, sym}
 use mathlib.Core.List.{List}
-use Prim.Native.Nat.{ℕ, ◌*◌, ◌+◌, ◌^◌, ◌<◌, ◌-◌}
+use Prim.Native.Nat.{ℕ, ◌*◌, ◌+◌, ◌^◌, ◌<◌}
 use native.Mathlib.Nat.{zero-mul}
 use native.Mathlib.Omega.{arith}
 use lib.ListN.{length}
@@ -20,7 +20,6 @@ use Rattle.cs_choices.proofs.Rows.{rows_begun, row_passed, count_is, choices-fit
 use Rattle.cs_choices.proofs.Seen.{shown, why-shown}
 use borrow.Author.Rules.{rules}
 use Rattle.cs_choices.proofs.nothing.why.Goals as goal
-
 
 module _ (ls : List Listed) (f : Fixed) (ignored : ℕ) where
   turn : (each : ℕ → Verdict) (row k count : ℕ) (seen later : Seen) → count ≡ 2 ^ k
