@@ -8,4 +8,4 @@ pub returns : goal.returns
 returns c =
     let n = c.listed in
     let reached = shifted_one n.result 64 (omega arith) in
-    let most = pow_mono {i = n.result} {j = 32} n.ensures.1 in record { value = rw (c.word_bytes.ensures, reached, n.ensures.0, c.rom_at-rom.ensures) at c.lower.ensures; upper_bound = omega (arith, c.lower.ensures) }
+    let most = pow_mono {i = n.result} {j = 32} n.ensures.upper_bound in record { value = rw (c.word_bytes.ensures, reached, n.ensures.value, c.rom_at-rom.ensures) at c.lower.ensures; upper_bound = omega (arith, c.lower.ensures) }
