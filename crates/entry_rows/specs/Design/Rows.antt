@@ -1,6 +1,6 @@
 -- How the entries are read: rows of 256, and the tables of what eight bits come to. No answer is defined by it: `collected_of` says what
 -- the entries come to. Assumes nothing.
-use Rattle.std.specs.Prelude.{◌≡◌, ℕ, ◌+◌, ◌*◌, ◌/◌, ◌%◌, ◌≤◌, ◌<◌, List, get_or}
+use Rattle.std.specs.Prelude.{◌≡◌, ℕ, ◌*◌, ◌/◌, ◌%◌, ◌≤◌, List}
 use Rattle.lists.specs.Tab.{tab}
 use Rattle.entry_words.specs.Design.Reading.{part_by}
 use Rattle.entry_words.specs.declared.Map.{Map}

@@ -1,5 +1,4 @@
 -- `words_before` meets its contract. The invariant: `words` is those of the ROMs passed. Assumes nothing.
-use Prim.Native.Nat.{◌-◌}
 use native.Mathlib.Omega.{arith}
 use Rattle.lists.proofs.Loops.{at_count}
 use Rattle.stored_slot.specs.Words.{words_before}

@@ -7,7 +7,6 @@ use Rattle.stored_slot.specs.Words.{x_at, pick_gpio}
 use Rattle.stored_slot.specs.declared.stored.StoredSlot.{StoredSlot}
 use Rattle.stored_slot.proofs.lines.multi_gpio.Goals as goal
 
-
 -- past the first line
 later : (s : StoredSlot) (k : ℕ) → (k ≡ 0 → ⊥) → x_at s (k - 1) ≡ pick_gpio s Multi k
 later s zero h = absurd (h refl)

@@ -1,18 +1,12 @@
 -- `first_fault` meets its contract. The invariant: `fault` is that of the ROMs passed. Assumes nothing.
-use Prim.Native.Nat.{◌-◌}
 use native.Mathlib.Omega.{arith}
 use Rattle.lists.proofs.Loops.{at-count_of}
 use Rattle.refusal.specs.First.{first_of}
 use Rattle.refusal.proofs.Firsts.{first-none, first-turn}
-use Rattle.stored_slot.specs.Faults.{rom_fault}
 use Rattle.stored_slot.proofs.roms.first_fault.Goals as goal
 
 pub loop-k-init : goal.loop-k-init
 loop-k-init c = (omega arith, first-none _)
-
--- the number of ROMs, the slot's last field, is a byte
-pub overflow_add-k : goal.overflow_add-k
-overflow_add-k c = omega (arith, c.well-formed.0.1.1.1.1.1.1.1.1.1.1.1.1.1.1)
 
 pub loop-k-preserved : goal.loop-k-preserved
 loop-k-preserved c =
