@@ -10,7 +10,6 @@ use Rattle.lists.proofs.Bools.{and_left}
 use Rattle.description_record.specs.Record.{record_size, well_formed}
 use Rattle.description_record.proofs.description_at.Goals as goal
 
-
 long : (b : List ℕ) → well_formed b ≡ true → record_size ≤ length b
 unfolding well_formed
 long b e =

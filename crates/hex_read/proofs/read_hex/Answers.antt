@@ -16,8 +16,8 @@ returns-in-Sound c =
     let f = c.before.before.before.before.before.before in
     let j = f.before.before.before.before in
     sound-read _ _ _ _ _ (sym j.too_long.ensures ∙ j.if-too_long.false) f.judge.ensures f.in-Sound.is c.fill.ensures c.store.ensures
+
 pub store-requires : goal.store-requires
 store-requires c =
     let f = c.before.before.before in
     sound-all _ f.args.chip.now _ _ f.judge.ensures c.in-Sound.is c.fill.ensures
-

@@ -8,7 +8,6 @@ use lib.ListN.{length, drop, get_or, set, replicate, length-set, length-replicat
 use lib.Seq.{drop-cons, set_at, append_snoc}
 use Rattle.lent_buffers.proofs.fill.Goals as goal
 
-
 module _ (byte : ℕ) (old : List ℕ) where
   turn : (k : ℕ) (now : List ℕ) → k < length old → now ≡ replicate k byte ++ drop k old → set now k byte ≡ replicate (k + 1) byte ++ drop (k + 1) old
   turn k now l e =

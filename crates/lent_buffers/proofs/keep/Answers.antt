@@ -13,7 +13,6 @@ use Rattle.words.specs.Words.{bytes_of, word_from}
 use Rattle.lent_buffers.specs.Design.Buffers.{kept, keep_word}
 use Rattle.lent_buffers.proofs.keep.Goals as goal
 
-
 module _ (w f value : ℕ) (output marks : List ℕ) where
   new : (written : List ℕ) → get_or marks f 0 ≡ 0 → f < length marks → written ≡ take (f * w) output ++ bytes_of w value ++ drop (f * w + w) output
       → kept true written (set marks f 1) ≡ keep_word w f value output marks

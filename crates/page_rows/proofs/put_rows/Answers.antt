@@ -23,9 +23,9 @@ put_row-requires c =
 pub returns : goal.returns
 returns c =
     at_count (λ n. laid c.args.page.now 0 (joined n (λ g. row_text g (get_or c.args.roles.now g 0)))) _ _ _ (omega arith) c.loop-gpio.invariant.2
+
 pub loop-gpio-preserved : goal.loop-gpio-preserved
 loop-gpio-preserved c =
     let v = c.loop-gpio in
     let p = c.put_row in
     (omega arith, p.auto.page ∙ v.invariant.1, rows_turn _ _ _ _ v.gpio _ v.invariant.2 p.ensures c.entry.ensures)
-

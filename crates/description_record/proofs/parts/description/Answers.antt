@@ -5,7 +5,6 @@ use borrow.Author.Rules.{sfits_of}
 use Rattle.description_record.specs.Record.{described}
 use Rattle.description_record.proofs.parts.description.Goals as goal
 
-
 pub returns : goal.returns
 unfolding described
 returns c = rw (

@@ -10,7 +10,6 @@ use borrow.Author.Rules.{rules}
 use borrow.Author.Tests.{le-leb, lt-leb}
 use Rattle.description_record.proofs.parts.pin_offset.Goals as goal
 
-
 up : (n : ℕ) → n ≤ 4 → to_z w8 n ≡ pos n
 up zero h = refl
 up (suc zero) h = refl

@@ -27,6 +27,7 @@ loop-rest-smaller c =
 
 pub returns : goal.returns
 returns c = no_line c.loop-rest.rest.now _ _ _ _ (omega arith) c.loop-rest.invariant.1
+
 -- the end record
 pub returns-then-is_end : goal.returns-then-is_end
 returns-then-is_end c =
@@ -47,4 +48,3 @@ loop-rest-preserved c =
       line-sound _ _ _ _ _ _ _ _ _ f refl c.upper_after-upper.ensures (sym t.line_fault.ensures ∙ c.in-None.is)
           (sym c.is_end.ensures ∙ c.if-is_end.false) v.invariant.1,
     )
-

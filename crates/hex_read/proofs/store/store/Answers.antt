@@ -32,6 +32,6 @@ loop-rest-preserved c =
       rest-sound _ _ _ _ _ _ _ f refl c.upper_after-upper.ensures v.invariant.1,
       line-stored _ _ _ _ _ _ _ _ _ f refl c.upper_after-upper.ensures c.store_line.ensures v.invariant.2,
     )
+
 pub returns : goal.returns
 returns c = let v = c.loop-rest in all-stored v.rest.now _ _ _ (omega arith) v.invariant.2
-

@@ -86,7 +86,7 @@ returns c =
 
 pub scrambled-entry-requires : goal.scrambled-entry-requires
 scrambled-entry-requires c = (
-      (let h : c.args.bytes ≤ 2 = rw c.requires.bytes_are c.requires.wiring_in.bytes in h),
-      c.raw-word.ensures.upper_bound,
-      byte-tables _ _ _ _ _ c.requires.tables,
-    )
+  (let h : c.args.bytes ≤ 2 = rw c.requires.bytes_are c.requires.wiring_in.bytes in h),
+  c.raw-word.ensures.upper_bound,
+  byte-tables _ _ _ _ _ c.requires.tables,
+)
