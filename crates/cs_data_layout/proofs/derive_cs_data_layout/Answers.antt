@@ -1,7 +1,6 @@
 -- `derive_cs_data_layout` meets its contract. Assumes nothing.
 use mathlib.Core.Path.{◌≡◌, sym, ◌∙◌}
 use mathlib.Core.Bool.{Bool, true, false, ◌&&◌}
-use borrow.Author.Tests.{not-true, not-false}
 use Rattle.lists.proofs.Bools.{and_left, and_right}
 use Rattle.slot.specs.declared.description.Description.{Description}
 use Rattle.refusal.specs.declared.Refusal.{Refusal}
@@ -16,7 +15,6 @@ use Rattle.cs_data_layout.specs.declared.layout.GivenLayout.{GivenLayout}
 use Rattle.cs_data_layout.specs.declared.layout.CsDataAnswer.{CsDataAnswer}
 use Rattle.cs_data_layout.proofs.Searched.{handed_in, qualifiers_in_lem}
 use Rattle.cs_data_layout.proofs.derive_cs_data_layout.Goals as goal
-
 
 module _ (d : Description) (a : GivenLayout) (p q : Bool) (ep : p ≡ cs_search_in d) (eq : q ≡ given_in d a) where
   outside : p && q ≡ false → cs_data_refused OutOfDomain ≡ cs_data_answer d a
@@ -34,9 +32,8 @@ module _ (d : Description) (a : GivenLayout) (p q : Bool) (ep : p ≡ cs_search_
 
 pub returns-then-not-pins-given_in : goal.returns-then-not-pins-given_in
 returns-then-not-pins-given_in c =
-    let given = c.before.before.before in
-    let a = given.args in
-    c.refused.ensures ∙ outside a.d a.addr_layout _ _ given.number_pins-pins.ensures.verdict c.given_in.ensures c.if-not-pins-given_in.true
+    let a = c.args in
+    c.refused.ensures ∙ outside a.d a.addr_layout _ _ c.number_pins-pins.ensures.verdict c.given_in.ensures c.if-not-pins-given_in.true
 
 pub earlier-requires : goal.earlier-requires
 earlier-requires c =
@@ -45,24 +42,18 @@ earlier-requires c =
 
 pub search-requires : goal.search-requires
 search-requires c =
-    let early = c.before.before.before in
-    let given = early.before.before.before in
-    let a = given.args in
-    let w = within a.d a.addr_layout _ _ given.number_pins-pins.ensures.verdict early.given_in.ensures early.if-not-pins-given_in.false _ c.earlier.ensures in
-    let none = sym c.earlier.ensures ∙ c.enum_told-1.given.1 in
-    rw c.handed.ensures (record { description = w.0; pins = given.number_pins-pins.ensures; handed = record { layout = handed_in a.d a.addr_layout w.1; qualifiers = qualifiers_in_lem a.d a.addr_layout w.1 none } })
+    let a = c.args in
+    let w = within a.d a.addr_layout _ _ c.number_pins-pins.ensures.verdict c.given_in.ensures c.if-not-pins-given_in.false _ c.earlier.ensures in
+    let none = sym c.earlier.ensures ∙ c.in-None.is in
+    rw c.handed.ensures (record { description = w.0; pins = c.number_pins-pins.ensures; handed = record { layout = handed_in a.d a.addr_layout w.1; qualifiers = qualifiers_in_lem a.d a.addr_layout w.1 none } })
 
 pub returns-in-Of : goal.returns-in-Of
 returns-in-Of c =
-    let early = c.before.before.before.before in
-    let given = early.before.before.before in
-    let a = given.args in
+    let a = c.args in
     c.refused-in-Of.ensures
-    ∙ refused_early a.d a.addr_layout _ _ given.number_pins-pins.ensures.verdict early.given_in.ensures early.if-not-pins-given_in.false _ c.earlier.ensures _ c.in-Of.is
+    ∙ refused_early a.d a.addr_layout _ _ c.number_pins-pins.ensures.verdict c.given_in.ensures c.if-not-pins-given_in.false _ c.earlier.ensures _ c.in-Of.is
 
 pub returns-in-None : goal.returns-in-None
 returns-in-None c =
-    let early = c.before.before.before.before in
-    let given = early.before.before.before in
-    let a = given.args in
-    searched a.d a.addr_layout _ _ given.number_pins-pins.ensures.verdict early.given_in.ensures early.if-not-pins-given_in.false _ c.earlier.ensures _ _ c.in-None.is c.handed.ensures c.search.ensures
+    let a = c.args in
+    searched a.d a.addr_layout _ _ c.number_pins-pins.ensures.verdict c.given_in.ensures c.if-not-pins-given_in.false _ c.earlier.ensures _ _ c.in-None.is c.handed.ensures c.search.ensures

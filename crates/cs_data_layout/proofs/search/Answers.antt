@@ -6,7 +6,6 @@ use native.Mathlib.Omega.{arith}
 use lib.ListN.{length}
 use Rattle.slot.specs.declared.description.Chip.{Chip}
 use Rattle.slot.specs.declared.description.Description.{Description}
-use Rattle.domain.specs.Domain.{description_in}
 use Rattle.domain.proofs.Bounds.{chip0_in}
 use Rattle.listing.specs.Listing.{twos}
 use Rattle.listing.specs.Design.Packed.{list_of}
@@ -26,9 +25,7 @@ use Rattle.cs_data_layout.specs.declared.layout.CsDataOutcome.TheVariants.{LaidO
 use Rattle.cs_data_layout.specs.declared.layout.CsDataAnswer.{CsDataAnswer}
 use Rattle.cs_data_layout.proofs.Bounds.{described, few-twos, few-lines}
 use Rattle.cs_data_layout.proofs.Searched.{data-numbered, best_is, none_is, fixed_is}
-use Rattle.cs_data_layout.proofs.search.Goals.{After-best, After-chip0-chip, After-qualifier_set}
 use Rattle.cs_data_layout.proofs.search.Goals as goal
-
 
 -- the listing has the data pins, and its candidates are GPIOs
 listed : (d : Description) (l : Numbering) (n : ℕ) → cs_search_in d ≡ true → NumberedBy d l → n ≡ num_data d → PinsIn l.list n
@@ -47,65 +44,59 @@ found : (d : Description) (h : AddrLayout) (l : Listing) (g : Found) (c s : ℕ)
     → r ≡ record { outcome = LaidOut; layout = cs_data_layout_of d h (list_of l) c } → r ≡ cs_data_answer_of d h (cs_best d h)
 found d h l g c s r e i j k = rw (← e, i, ← j) k
 
-data_number : (c : After-chip0-chip) → c.chip0-chip.result.num_data_pins ≡ num_data c.args.d
-data_number c = ap (λ (x : Chip). x.num_data_pins) c.chip0-chip.ensures
-
-pins-listed : (c : After-chip0-chip) → PinsIn c.args.pins.list c.chip0-chip.result.num_data_pins
-pins-listed c = let p = c.requires in listed c.args.d c.args.pins _ p.description p.pins (data_number c)
-
-described-at : (c : After-qualifier_set) → description_in c.args.d ≡ true
-described-at c = described c.args.d c.requires.description
-
--- what no choice changes
-fixed_at : (c : After-qualifier_set) → ◌≡◌ {A = Fixed} (record { multi = c.is_multi.result; num_data = c.chip0-chip.result.num_data_pins; excess = c.excess_set.result; qualifiers = c.qualifier_set.result }) (fixed_of c.args.d c.args.h)
-fixed_at c = let a = c.args in fixed_is a.d a.h _ _ _ _ c.is_multi.ensures (data_number c.before.before.before.before.before) c.excess_set.ensures c.qualifier_set.ensures
-
--- what the search found, and beside what
-best-at : (c : After-best) → c.best.result ≡ cs_best c.args.d c.args.h
-best-at c =
-    let a = c.args in
-    best_is a.d a.h (list_of a.pins.list) _ _ (c.requires.pins.list c.requires.description) (fixed_at c.before) c.requires.pins.bits _ c.best.ensures
-
 pub best-requires : goal.best-requires
 best-requires c =
-    let chip = c.before.before.before.before.before in
-    let a = chip.args in
-    let p = chip.requires in
-    record { pins = pins-listed chip; few_bits = few a.d a.pins.list _ p.description (p.pins.list p.description) p.pins.bits }
+    let a = c.args in
+    let p = c.requires in
+    let number : c.chip0-chip.result.num_data_pins ≡ num_data a.d = ap (λ (x : Chip). x.num_data_pins) c.chip0-chip.ensures in
+    record { pins = listed a.d a.pins _ p.description p.pins number; few_bits = few a.d a.pins.list _ p.description (p.pins.list p.description) p.pins.bits }
 
 pub ignored_set-requires : goal.ignored_set-requires
-ignored_set-requires c = described-at c.before.before.before
+ignored_set-requires c = described c.args.d c.requires.description
 
 pub why-requires : goal.why-requires
-why-requires c = best-requires c.before.before.before.before κs
+why-requires c =
+    let a = c.args in
+    let p = c.requires in
+    let number : c.chip0-chip.result.num_data_pins ≡ num_data a.d = ap (λ (x : Chip). x.num_data_pins) c.chip0-chip.ensures in
+    record { pins = listed a.d a.pins _ p.description p.pins number; few_bits = few a.d a.pins.list _ p.description (p.pins.list p.description) p.pins.bits }
 
 pub laid_out-requires : goal.laid_out-requires
 laid_out-requires c =
-    let q = c.before.before.before.before in
-    let chip = q.before.before.before.before.before in
-    let a = chip.args in
-    let bounds = chip0_in a.d (described-at q) in
+    let a = c.args in
+    let p = c.requires in
+    let number : c.chip0-chip.result.num_data_pins ≡ num_data a.d = ap (λ (x : Chip). x.num_data_pins) c.chip0-chip.ensures in
+    let bounds = chip0_in a.d (described a.d p.description) in
     record {
       lines = record {
         data-pins = bounds.data-pins.1;
         control_lines = bounds.control_lines;
-        excess-lines = omega (arith, few-lines a.h chip.requires.handed.layout);
+        excess-lines = omega (arith, few-lines a.h p.handed.layout);
         qualifiers = c.qualifier_set.ensures;
       };
-      pins = pins-listed chip;
-      data_number = data_number chip;
-      excess = q.excess_set.ensures;
+      pins = listed a.d a.pins _ p.description p.pins number;
+      data_number = number;
+      excess = c.excess_set.ensures;
     }
 
 pub returns-in-Nothing : goal.returns-in-Nothing
 returns-in-Nothing c =
-    let best = c.before.before.before.before.before in
-    let a = best.args in
-    nothing a.d a.h c.best.result _ (best-at best) c.in-Nothing.is
-    (none_is a.d a.h (list_of a.pins.list) _ _ (best.requires.pins.list best.requires.description) (fixed_at best.before) best.requires.pins.bits _ _ _ c.ignored_set.ensures c.why.ensures c.none_fits.ensures)
+    let a = c.args in
+    let p = c.requires in
+    let number : c.chip0-chip.result.num_data_pins ≡ num_data a.d = ap (λ (x : Chip). x.num_data_pins) c.chip0-chip.ensures in
+    -- what no choice changes
+    let fixed : ◌≡◌ {A = Fixed} (record { multi = c.is_multi.result; num_data = c.chip0-chip.result.num_data_pins; excess = c.excess_set.result; qualifiers = c.qualifier_set.result }) (fixed_of a.d a.h) =
+    fixed_is a.d a.h _ _ _ _ c.is_multi.ensures number c.excess_set.ensures c.qualifier_set.ensures in
+    let best : c.best.result ≡ cs_best a.d a.h = best_is a.d a.h (list_of a.pins.list) _ _ (p.pins.list p.description) fixed p.pins.bits _ c.best.ensures in
+    nothing a.d a.h c.best.result _ best c.in-Nothing.is
+    (none_is a.d a.h (list_of a.pins.list) _ _ (p.pins.list p.description) fixed p.pins.bits _ _ _ c.ignored_set.ensures c.why.ensures c.none_fits.ensures)
 
 pub returns-in-At : goal.returns-in-At
 returns-in-At c =
-    let best = c.before.before.before.before in
-    let a = best.args in
-    found a.d a.h a.pins.list _ _ _ _ (best-at best) c.in-At.is (best.requires.pins.list best.requires.description) c.laid_out.ensures
+    let a = c.args in
+    let p = c.requires in
+    let number : c.chip0-chip.result.num_data_pins ≡ num_data a.d = ap (λ (x : Chip). x.num_data_pins) c.chip0-chip.ensures in
+    let fixed : ◌≡◌ {A = Fixed} (record { multi = c.is_multi.result; num_data = c.chip0-chip.result.num_data_pins; excess = c.excess_set.result; qualifiers = c.qualifier_set.result }) (fixed_of a.d a.h) =
+    fixed_is a.d a.h _ _ _ _ c.is_multi.ensures number c.excess_set.ensures c.qualifier_set.ensures in
+    let best : c.best.result ≡ cs_best a.d a.h = best_is a.d a.h (list_of a.pins.list) _ _ (p.pins.list p.description) fixed p.pins.bits _ c.best.ensures in
+    found a.d a.h a.pins.list _ _ _ _ best c.in-At.is (p.pins.list p.description) c.laid_out.ensures

@@ -8,7 +8,6 @@ use Rattle.cs_data_layout.specs.Layout.{line}
 use Rattle.cs_data_layout.specs.Choices.{num_commoned, commoned_line}
 use Rattle.cs_data_layout.proofs.layouts.commoned_line.Goals as goal
 
-
 with_kind : (d : Description) (gpio k n kind : ℕ) → n ≡ num_commoned d → k < n → kind ≡ get_or d.multi.commoned k 0 → line kind gpio ≡ commoned_line d (λ j. gpio) k
 with_kind d gpio k n kind e l f = rw (← e, lt-ltb k n l, f)
 

@@ -1,7 +1,7 @@
 -- `commoned_lines` meets its contract. The loop's invariant: the lines passed are in place. Assumes nothing.
 use mathlib.Core.Path.{◌≡◌, refl, ◌∙◌}
 use mathlib.Core.List.{List}
-use Prim.Native.Nat.{ℕ, ◌+◌, ◌-◌}
+use Prim.Native.Nat.{ℕ, ◌+◌}
 use lib.ListN.{get_or}
 use Rattle.lists.proofs.Tab.{filled_none, filled_turn, filled}
 use Rattle.slot.specs.declared.description.Description.{Description}
@@ -19,10 +19,9 @@ loop-k-init c = (filled_none refl, search rules)
 
 pub loop-k-preserved : goal.loop-k-preserved
 loop-k-preserved c =
-    let p = c.before.before.before.before in
     let i = c.loop-k.invariant in
-    let a = p.args in
-    (filled_turn i.0 c.loop-k-test.true (of_entry a.d a.t2 a.at c.loop-k.k _ _ c.commoned_line.ensures c.entry.ensures), i.1)
+    let a = c.args in
+    (filled_turn i.0 c.loop-k-test.true (of_entry a.d a.gpios a.at c.loop-k.k _ _ c.commoned_line.ensures c.entry.ensures), i.1)
 
 pub returns : goal.returns
 returns c = filled c.loop-k.invariant.0 c.loop-k-test.false

@@ -1,6 +1,5 @@
 -- `data_lines` meets its contract. The loop's invariant: the GPIOs of the lines passed are in place. Assumes nothing.
 use mathlib.Core.Path.{refl}
-use Prim.Native.Nat.{◌-◌}
 use Rattle.lists.proofs.Tab.{filled_none, filled_turn, filled}
 use Rattle.cs_data_layout.proofs.layouts.data_lines.Goals as goal
 

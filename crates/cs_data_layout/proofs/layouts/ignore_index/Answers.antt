@@ -8,7 +8,6 @@ use Rattle.cs_data_layout.specs.Choices.{ignore_index}
 use Rattle.cs_data_layout.specs.declared.layout.IgnoreIndex.TheVariants.{At}
 use Rattle.cs_data_layout.proofs.layouts.ignore_index.Goals as goal
 
-
 -- the missing GPIO, counted from the lowest select
 at-missing : (s missing-set missing low at : ℕ) → gapless s ≡ false → missing-set ≡ gap s → missing ≡ lowest missing-set → low ≡ lowest s → at ≡ missing - low
     → At at ≡ ignore_index s

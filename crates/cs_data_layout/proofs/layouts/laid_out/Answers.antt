@@ -24,7 +24,6 @@ use Rattle.cs_data_layout.specs.declared.layout.CsDataLayout.{CsDataLayout}
 use Rattle.cs_data_layout.specs.declared.layout.CsDataOutcome.TheVariants.{LaidOut}
 use Rattle.cs_data_layout.proofs.layouts.laid_out.Goals as goal
 
-
 module _ (ls : List Listed) (c : ℕ) where
   -- the resolved pins read as those of the list, past the array's end too
   gpio-read : (k : ℕ) (t : Bool) → ltb k 30 ≡ t → length ls ≤ 30 → get_or (tab 30 (λ j. gpio_at ls c j)) k 0 ≡ gpio_at ls c k

@@ -23,23 +23,15 @@ use Rattle.cs_data_layout.specs.declared.layout.SelectLine.{SelectLine}
 use Rattle.cs_data_layout.specs.declared.layout.Qualifiers.{Qualifiers}
 use Rattle.cs_data_layout.specs.declared.layout.CsDataLayout.{CsDataLayout}
 use borrow.Author.Rules.{rules}
-use Rattle.cs_data_layout.proofs.layouts.layout.Goals.{After-select_roles-roles}
 use Rattle.cs_data_layout.proofs.layouts.layout.Goals as goal
-
 
 -- the chip's data pins are those of chip 0
 data-few : (d : Description) (chip : Chip) → chip ≡ chip0 d → num_data d ≤ 16 → chip.num_data_pins ≤ 16
 data-few d chip e h = rw e h
 
-few : (c : After-select_roles-roles) → (c.chip0-chip.result.num_data_pins ≤ 16) × (c.select_roles-roles.result.count ≤ 8)
-few c = let chip = c.before.before in (data-few chip.args.d _ c.chip0-chip.ensures chip.requires.data-pins, c.select_roles-roles.ensures.1)
-
 -- as many roles as the array counts
-roles_counted : (c : After-select_roles-roles) → c.select_roles-roles.result.count ≡ length (select_roles c.args.d)
-roles_counted c =
-    let r = c.select_roles-roles.result in
-    let long : length r.roles ≡ 8 = search rules in
-    sym (length-take-le r.count r.roles (omega arith)) ∙ ap length c.select_roles-roles.ensures.0
+roles_counted : (d : Description) (r : Roles) → length r.roles ≡ 8 → roles_of r ≡ select_roles d → r.count ≤ 8 → r.count ≡ length (select_roles d)
+roles_counted d r long e few = sym (length-take-le r.count r.roles (omega arith)) ∙ ap length e
 
 -- the layout from what the calls give
 made : (d : Description) (h : AddrLayout) (gpios : List ℕ) (s : Sets) (q : ℕ) (chip : Chip) (roles : Roles) (base low pin low2 pin2 w n : ℕ) (lines : List ℕ)
@@ -66,34 +58,23 @@ made d h gpios s q chip roles base low pin low2 pin2 w n lines ignored selects c
     rw (e15, e14, e13, e12, e11, e10, e9, e8, e7, e6, e5, e4, e2, e3, e1, e0)
 
 pub select_lines-requires : goal.select_lines-requires
-select_lines-requires c = let f = few c.before.before.before.before.before.before.before.before.before in (f.1, omega arith)
+select_lines-requires c =
+    let few : c.chip0-chip.result.num_data_pins ≤ 16 = data-few c.args.d _ c.chip0-chip.ensures c.requires.data-pins in
+    (c.select_roles-roles.ensures.1, omega arith)
 
 pub overflow_add-data : goal.overflow_add-data
 overflow_add-data c =
-    let f = few c.before.before.before.before.before.before.before.before.before.before.before.before.before in
+    let few : c.chip0-chip.result.num_data_pins ≤ 16 = data-few c.args.d _ c.chip0-chip.ensures c.requires.data-pins in
     record { fits = omega arith }
 
 pub commoned_lines-requires : goal.commoned_lines-requires
 commoned_lines-requires c =
-    let f = few c.before.before.before.before.before.before.before.before.before.before.before.before.before in
+    let few : c.chip0-chip.result.num_data_pins ≤ 16 = data-few c.args.d _ c.chip0-chip.ensures c.requires.data-pins in
     omega arith
 
 pub returns : goal.returns
 returns c =
-    let count = c.before in
-    let commoned = count.before in
-    let selects = commoned.before.before.before.before in
-    let ignored = selects.before in
-    let w = ignored.before in
-    let above2 = w.before in
-    let low2 = above2.before in
-    let lines = low2.before in
-    let above = lines.before in
-    let low = above.before in
-    let base = low.before in
-    let roles = base.before.before in
-    let chip = roles.before.before in
-    let a = chip.args in
-    made a.d a.h a.gpios a.s a.q roles.chip0-chip.result base.select_roles-roles.result _ _ _ _ _ _ _ _ _ _ _ _ chip.requires.qualifiers roles.chip0-chip.ensures base.select_roles-roles.ensures.0
-    (roles_counted roles) low.base-base.ensures above.lowest.ensures.value lines.above.ensures.value low2.data_lines.ensures above2.lowest-2.ensures.value w.above-2.ensures.value ignored.width.ensures.value selects.ignore_index.ensures
-    commoned.select_lines.ensures count.commoned_lines.ensures c.commoned_count.ensures c.qualifiers.ensures
+    let a = c.args in
+    made a.d a.h a.gpios a.s a.q c.chip0-chip.result c.select_roles-roles.result _ _ _ _ _ _ _ _ _ _ _ _ c.requires.qualifiers c.chip0-chip.ensures c.select_roles-roles.ensures.0
+    (roles_counted a.d c.select_roles-roles.result (search rules) c.select_roles-roles.ensures.0 c.select_roles-roles.ensures.1) c.base-base.ensures c.lowest.ensures.value c.above.ensures.value c.data_lines.ensures c.lowest-2.ensures.value c.above-2.ensures.value c.width.ensures.value c.ignore_index.ensures
+    c.select_lines.ensures c.commoned_lines.ensures c.commoned_count.ensures c.qualifiers.ensures

@@ -9,7 +9,6 @@ use Rattle.cs_data_layout.specs.declared.layout.Qualifiers.{Qualifiers}
 use borrow.Author.Rules.{rules}
 use Rattle.cs_data_layout.proofs.layouts.qualifiers.Goals as goal
 
-
 some : (set base low pin w : ℕ) → (set ≡ 0 → ⊥) → low ≡ lowest set → pin ≡ low - base → w ≡ width set
     → ◌≡◌ {A = Qualifiers} (Qualifiers.Present pin w (set / 2 ^ low % 0x100)) (qualifiers_from set base)
 some set base low pin w n el ep ew = rw (ne_eqb set 0 n, ep, ew, el)

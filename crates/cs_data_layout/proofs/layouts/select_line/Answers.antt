@@ -12,7 +12,6 @@ use Rattle.cs_data_layout.specs.Choices.{excess_gpio, select_line}
 use borrow.Author.Rules.{rules}
 use Rattle.cs_data_layout.proofs.layouts.select_line.Goals as goal
 
-
 module _ (roles : List ℕ) (n k : ℕ) (h : AddrLayout) (gpio : ℕ) (long : n ≤ length roles) where
   with-role : (role : ℕ) → k < n → role ≡ get_or roles k 0 → line role gpio ≡ select_line (take n roles) h (λ j. gpio) k
   with-role role l e = rw (length-take-le n roles long, lt-ltb k n l, get_or-take n roles k 0 l, e)

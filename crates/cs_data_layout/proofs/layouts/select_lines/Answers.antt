@@ -2,7 +2,7 @@
 use mathlib.Core.Path.{◌≡◌, refl, ◌∙◌}
 use mathlib.Core.Bool.{Bool, true, false, cond}
 use mathlib.Core.List.{List}
-use Prim.Native.Nat.{ℕ, ◌+◌, ◌-◌, ◌≤◌}
+use Prim.Native.Nat.{ℕ, ◌+◌, ◌≤◌}
 use native.Mathlib.Omega.{arith}
 use lib.Dec.{ltb}
 use lib.ListN.{length, get_or, take}
@@ -39,11 +39,10 @@ loop-k-init c = (begun_none, omega arith, c.num_lines-count.ensures.1, search ru
 
 pub loop-k-preserved : goal.loop-k-preserved
 loop-k-preserved c =
-    let p = c.before.before.before.before in
     let i = c.loop-k.invariant in
-    let a = p.args in (
+    let a = c.args in (
       begun_turn i.0 (omega arith)
-          (of_entry (take a.r.count a.r.roles) a.h a.t3 a.at c.loop-k.k _ _ c.select_line.ensures c.entry.ensures),
+          (of_entry (take a.r.count a.r.roles) a.h a.gpios a.at c.loop-k.k _ _ c.select_line.ensures c.entry.ensures),
       omega arith,
       i.2,
       i.3,
@@ -52,7 +51,6 @@ loop-k-preserved c =
 
 pub returns : goal.returns
 returns c =
-    let p = c.before in
-    let a = p.args in
+    let a = c.args in
     let long : length a.r.roles ≡ 8 = search rules in
-    done a.r.roles a.r.count a.h (λ j. get_or a.t3 (a.at + j) 0) (omega arith) _ _ _ _ c.loop-k.invariant.0 (omega arith) refl p.num_lines-count.ensures.0
+    done a.r.roles a.r.count a.h (λ j. get_or a.gpios (a.at + j) 0) (omega arith) _ _ _ _ c.loop-k.invariant.0 (omega arith) refl c.num_lines-count.ensures.0

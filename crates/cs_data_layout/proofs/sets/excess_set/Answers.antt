@@ -1,7 +1,7 @@
 -- `excess_set` meets its contract. The loop's invariant: `s` has the GPIOs of the lines passed. Assumes nothing.
 use mathlib.Core.Path.{◌≡◌, refl}
 use mathlib.Core.Bool.{true}
-use Prim.Native.Nat.{ℕ, ◌<◌, ◌-◌}
+use Prim.Native.Nat.{ℕ, ◌<◌}
 use native.Mathlib.Omega.{arith}
 use Rattle.lists.proofs.Loops.{at-count_of}
 use Rattle.gpio.specs.Set.{set_of}
@@ -11,7 +11,6 @@ use Rattle.addr_layout.specs.declared.layout.AddrLayout.{AddrLayout}
 use Rattle.cs_data_layout.specs.Choices.{excess_gpio}
 use Rattle.cs_data_layout.proofs.Bounds.{few-lines, excess_in}
 use Rattle.cs_data_layout.proofs.sets.excess_set.Goals as goal
-
 
 small : (h : AddrLayout) (k g : ℕ) → layout_in h ≡ true → k < h.num_excess → g ≡ excess_gpio h k → g < 64
 small h k g e l i = omega (arith, excess_in h e k l, i)

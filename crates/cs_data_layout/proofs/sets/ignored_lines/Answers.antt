@@ -1,7 +1,7 @@
 -- `ignored_lines` meets its contract. The loop's invariant: `s` has the candidates of the lines passed. Assumes nothing.
 use mathlib.Core.Path.{◌≡◌, refl, ◌∙◌}
 use mathlib.Core.Bool.{true}
-use Prim.Native.Nat.{ℕ, ◌+◌, ◌-◌}
+use Prim.Native.Nat.{ℕ, ◌+◌}
 use native.Mathlib.Numerals.{add-one}
 use native.Mathlib.Omega.{arith}
 use lib.ListN.{get_or}
@@ -14,11 +14,10 @@ use Rattle.cs_pins.proofs.InDomain.{kind_in}
 use Rattle.cs_data_layout.specs.Choices.{with_candidates, ignored_at}
 use Rattle.cs_data_layout.proofs.sets.ignored_lines.Goals as goal
 
-
 line_in : (d : Description) (kind : ℕ) (l : Listed) → description_in d ≡ true → l ≡ kind_listed d kind → candidates_in l.gpios ≡ true
 line_in d kind l e h = rw h (kind_in d e kind)
 
-turn : (d : Description) (k kind s t : ℕ) (l : Listed) → s ≡ ignored_at d k → kind ≡ get_or d.multi-1.ignored k 0 → l ≡ kind_listed d kind → t ≡ with_candidates s l.gpios
+turn : (d : Description) (k kind s t : ℕ) (l : Listed) → s ≡ ignored_at d k → kind ≡ get_or d.multi.ignored k 0 → l ≡ kind_listed d kind → t ≡ with_candidates s l.gpios
     → t ≡ ignored_at d (k + 1)
 unfolding ignored_at
 turn d k kind s t l e h i j = rw (j, i, h, e, add-one)

@@ -1,14 +1,12 @@
 -- `qualifier_set` meets its contract. The loop's invariant: `s` has the GPIOs of the qualifiers passed, and those still to come are GPIOs. Assumes nothing.
 use mathlib.Core.Path.{◌≡◌, refl}
-use Prim.Native.Nat.{ℕ, ◌≤◌, ◌<◌, ◌-◌}
+use Prim.Native.Nat.{ℕ, ◌≤◌, ◌<◌}
 use native.Mathlib.Omega.{arith}
 use Rattle.lists.proofs.Loops.{at-count_of}
 use Rattle.gpio.specs.Set.{set_of}
 use Rattle.gpio.proofs.Sets.{set-turn}
-use Rattle.domain.specs.Domain.{qualifier_gpio}
 use Rattle.cs_data_layout.proofs.Bounds.{qualifier_line_in}
 use Rattle.cs_data_layout.proofs.sets.qualifier_set.Goals as goal
-
 
 small : (f : ℕ → ℕ) (n k g : ℕ) → ((j : ℕ) → j < n → f j ≤ 47) → k < n → g ≡ f k → g < 64
 small f n k g e l i = omega (arith, e k l, i)

@@ -11,7 +11,6 @@ use Rattle.gpio.specs.declared.candidates.Candidates.TheVariants.{One, Two}
 use Rattle.lists.proofs.Bools.{and_left, and_right}
 use Rattle.cs_data_layout.proofs.sets.with_candidates.Goals as goal
 
-
 one-small : (c : Candidates) (g : ℕ) → candidates_in c ≡ true → c ≡ One g → g < 64
 one-small c g e h = omega (arith, leb-true g 47 (rw h at e))
 
@@ -21,7 +20,7 @@ two-small c g h e i =
     (omega (arith, leb-true g 47 (and_left (gpio_in g) (gpio_in h) both)), omega (arith, leb-true h 47 (and_right (gpio_in g) (gpio_in h) both)))
 
 pub with-requires : goal.with-requires
-with-requires c = one-small _ _ c.requires c.gpios-1.given.1
+with-requires c = one-small _ _ c.requires c.in-One.is
 
 pub with-requires-in-Two : goal.with-requires-in-Two
 with-requires-in-Two c = (two-small _ _ _ c.requires c.in-Two.is).0
