@@ -9,5 +9,5 @@ use Rattle.build_args.proofs.images.span_at.Goals as goal
 
 pub returns-then-k-ge4 : goal.returns-then-k-ge4
 returns-then-k-ge4 c =
-    let e : length c.args.t1 ≡ 4 = search (mapped_length, rules) in
-    rw (get_or-eq_default c.args.t1 no_span {n = c.args.k} (omega arith))
+    let e : length c.args.spans ≡ 4 = search (mapped_length, rules) in
+    rw (get_or-eq_default c.args.spans no_span {n = c.args.k} (omega arith))

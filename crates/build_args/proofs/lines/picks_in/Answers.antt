@@ -1,10 +1,8 @@
 -- `picks_in` meets its contract. The invariant: `ok` says whether the lines passed have positions. Assumes nothing.
-use Prim.Native.Nat.{◌-◌}
 use native.Mathlib.Omega.{arith}
 use Rattle.lists.specs.Each.{each}
 use Rattle.lists.proofs.Each.{each_none, each_turn}
 use Rattle.lists.proofs.Loops.{at-count_of}
-use Rattle.build_args.specs.Picks.{pick_of}
 use Rattle.build_args.specs.Faults.{picks_in}
 use Rattle.build_args.proofs.lines.picks_in.Goals as goal
 
