@@ -1,7 +1,7 @@
 -- `parts` meets its contract. The loop's invariant: the tables of the maps passed stand one behind the other. Assumes nothing.
 use mathlib.Core.Path.{◌≡◌, refl, sym, ◌∙◌, ap}
 use mathlib.Core.List.{List}
-use Prim.Native.Nat.{ℕ, ◌+◌, ◌-◌, ◌*◌, ◌/◌, ◌%◌, ◌≤◌, ◌<◌}
+use Prim.Native.Nat.{ℕ, ◌+◌, ◌*◌, ◌/◌, ◌%◌, ◌≤◌, ◌<◌}
 use native.Mathlib.Decide.{dec_lt}
 use native.Mathlib.Omega.{arith}
 use lib.ListN.{length, get_or}
@@ -53,7 +53,7 @@ pub loop-k-preserved : goal.loop-k-preserved
 loop-k-preserved c =
     let called = c.before.before.before.before in
     let l = called.loop-k in
-    turn _ _ _ _ _ l.k l.invariant (omega arith) c.put_table.auto.0 c.byte_table-table.ensures c.put_table.ensures
+    turn _ _ _ _ _ l.k l.invariant (omega arith) c.put_table.auto.out c.byte_table-table.ensures c.put_table.ensures
 
 pub returns : goal.returns
 returns c = done _ _ _ _ c.loop-k.invariant c.loop-k-test.false
