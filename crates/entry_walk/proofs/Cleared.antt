@@ -1,7 +1,7 @@
 -- Cleared buffers hold what no entry tells. Assumes nothing.
 use mathlib.Core.Path.{◌≡◌, refl, ◌∙◌}
 use mathlib.Core.List.{List, ◌++◌}
-use Prim.Native.Nat.{ℕ, zero, suc, ◌+◌, ◌*◌}
+use Prim.Native.Nat.{ℕ, zero, suc, ◌*◌}
 use native.Mathlib.Nat.{zero-mul, suc-mul}
 use lib.ListN.{length, drop, replicate, length-replicate, get_or-replicate, replicate-append-replicate}
 use Rattle.lists.specs.Tab.{joined}

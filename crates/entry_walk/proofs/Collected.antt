@@ -13,7 +13,6 @@ use Rattle.marked_words.specs.Design.Served.{served_by}
 use Rattle.entry_words.specs.declared.Outcome.{Outcome}
 use Rattle.entry_words.specs.declared.Outcome.TheVariants.{Whole, Disagrees, Missing}
 use Rattle.entry_rows.specs.declared.Walked as walked
-use Rattle.entry_words.proofs.Whole.{whole-marks}
 use Rattle.lists.proofs.First.{first_cong}
 use Rattle.entry_rows.proofs.Step.{mark-at}
 use Rattle.entry_rows.specs.Design.Held.{Held, Read}

@@ -1,5 +1,4 @@
 -- `names` meets its contract. The loop's invariant: whether one of the entries passed names the GPIO. Assumes nothing.
-use Prim.Native.Nat.{◌-◌}
 use native.Mathlib.Omega.{arith}
 use Rattle.forced_bits.proofs.Loops.{names-none, names-turn, names-done}
 use Rattle.forced_bits.proofs.names.Goals as goal

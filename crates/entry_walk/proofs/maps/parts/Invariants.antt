@@ -7,7 +7,6 @@ use Rattle.entry_words.specs.Design.Reading.{part_by}
 use Rattle.entry_words.specs.declared.Map.{Map}
 use Rattle.entry_walk.proofs.maps.parts.Given as goal
 
-
 pub record Standing (maps : List Map) (unit : ℕ) (out : List ℕ) (k : ℕ) : Type 0 where
   pub within : k ≤ 5
   pub long : length out ≡ 1280

@@ -1,6 +1,5 @@
 -- `parts_of` meets its contract. The loop's invariant: what the maps passed say is in place. Assumes nothing.
 use mathlib.Core.Path.{refl}
-use Prim.Native.Nat.{◌-◌}
 use native.Mathlib.Omega.{arith}
 use Rattle.lists.proofs.Tab.{filled_none, filled_turn, filled}
 use Rattle.entry_walk.proofs.maps.parts_of.Goals as goal

@@ -5,7 +5,6 @@ use Prim.Native.Nat.{ℕ, ◌+◌, ◌-◌, ◌≤◌, ◌<◌}
 use lib.ListN.{length, get_or}
 use Rattle.entry_walk.proofs.maps.put_table.Given as goal
 
-
 pub record Passed (at : ℕ) (table old out : List ℕ) (q : ℕ) : Type 0 where
   pub within : q ≤ 256
   pub long : length out ≡ length old
