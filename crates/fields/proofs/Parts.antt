@@ -10,19 +10,15 @@ use lib.Dec.{eqb}
 use lib.ListN.{length, take, drop, get_or, length-append, length-take, length-drop, drop_of_length-le}
 use Rattle.lists.specs.Tab.{tab}
 use Rattle.lists.proofs.Tab.{tab_is}
-use lib.Seq.{take_at, drop_at, take_all, take-length, drop-drop}
+use lib.Seq.{take_at, drop_at, take_all, drop-drop}
 
 -- what stands from a on holds the part
 pub room : (part now : List ℕ) (a k : ℕ) → length part ≡ k → a + k ≤ length now → length part ≤ length (take (length now - a) (drop a now))
 room part now a k e h = simp (length-take, length-drop) (omega arith)
 
--- a part copied to the front
-pub first_part : (part old new : List ℕ) → new ≡ take (length part) part ++ drop (length part) old → new ≡ part ++ drop (length part) old
-first_part part old new e = rw take-length at e
-
 module _ (front part old now lent : List ℕ) (a k : ℕ) (ea : length front ≡ a) (ek : length part ≡ k) (h : a + k ≤ length old)
     (e : now ≡ front ++ drop a old)
-    (el : lent ≡ take (length part) part ++ drop (length part) (take (length now - a) (drop a now))) where
+    (el : lent ≡ part ++ drop (length part) (take (length now - a) (drop a now))) where
   same_length : length now ≡ length old
   same_length = rw (e, length-append, ea, length-drop) (omega arith)
 
@@ -37,23 +33,23 @@ module _ (front part old now lent : List ℕ) (a k : ℕ) (ea : length front ≡
   next_part =
       let all : take (length old - a) (drop a old) ≡ drop a old = take_all (length old - a) (drop a old) (simp length-drop (omega arith)) in
       let none = drop_of_length-le (drop a old) {i = length old - a} (simp length-drop (omega arith)) in
-      rw (el, before, behind, same_length, all, none, take-length, ek, drop-drop, append-nil) (simp append_assoc)
+      rw (el, before, behind, same_length, all, none, ek, drop-drop, append-nil) (simp append_assoc)
 
 -- a record of three parts, each copied behind those before it: one, two and three are what the copies left of the bytes lent to them
 module _ (h g t old head one two three : List ℕ) (a b k : ℕ) (ea : length h ≡ a) (eb : length g ≡ b) (ek : length t ≡ k)
     (room : a + b + k ≤ length old) (eh : head ≡ h)
-    (e1 : one ≡ take (length head) head ++ drop (length head) old)
-    (e2 : two ≡ take (length g) g ++ drop (length g) (take (length one - a) (drop a one))) where
+    (e1 : one ≡ head ++ drop (length head) old)
+    (e2 : two ≡ g ++ drop (length g) (take (length one - a) (drop a one))) where
   abbrev both : List ℕ
   both = put_mid a (length one - a) one two
 
   heads : one ≡ h ++ drop a old
-  heads = rw (eh, ea) at (first_part head old one e1)
+  heads = rw (eh, ea) at e1
 
   boths : both ≡ (h ++ g) ++ drop (a + b) old
   boths = next_part h g old one two a b ea eb (omega arith) heads e2
 
-  pub three_parts : three ≡ take (length t) t ++ drop (length t) (take (length both - (a + b)) (drop (a + b) both))
+  pub three_parts : three ≡ t ++ drop (length t) (take (length both - (a + b)) (drop (a + b) both))
       → put_mid (a + b) (length both - (a + b)) both three ≡ (h ++ g ++ t) ++ drop (a + b + k) old
   three_parts e3 = next_part (h ++ g) t old both three (a + b) k (rw (length-append, ea, eb)) ek room boths e3
 

@@ -12,7 +12,7 @@ pub loop-k-init : goal.loop-k-init
 loop-k-init c = (search (mapped_length, rules), filled_none refl)
 
 pub loop-k-preserved : goal.loop-k-preserved
-loop-k-preserved c = let v = c.loop-k in (v.invariant.0, pair_turn c.args.t1.select_lines _ v.invariant.1 (omega arith))
+loop-k-preserved c = let v = c.loop-k in (v.invariant.0, pair_turn c.args.l.select_lines _ v.invariant.1 (omega arith))
 
 pub returns : goal.returns
 returns c = filled c.loop-k.invariant.1 (omega arith)
