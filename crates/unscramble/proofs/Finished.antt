@@ -14,7 +14,6 @@ use Rattle.slot.specs.declared.description.ChipSetType.{ChipSetType}
 use Rattle.refusal.specs.First.{or_else, answered}
 use Rattle.refusal.specs.declared.Answer.{Answer}
 use Rattle.refusal.specs.declared.Answer.TheVariants.{Done}
-use Rattle.refusal.specs.declared.first.FirstFault.TheVariants.{None}
 use Rattle.picks.specs.Picks.{chips_fit}
 use Rattle.entry_words.specs.Design.Kept.{output_after, outcome_of}
 use Rattle.entry_words.specs.Design.Reading.{word_by, value_by}
@@ -25,8 +24,7 @@ use Rattle.entry_words.specs.Design.Collected.{marks_held, held_by, collected_of
 use Rattle.entry_words.specs.declared.Outcome.{Outcome}
 use Rattle.entry_words.specs.declared.Outcome.TheVariants.{Whole, Disagrees, Missing}
 use Rattle.entry_words.proofs.Cong.{output-length, marks_cong, output_cong, outcome_cong}
-use Rattle.stored_slot.specs.Stored.{stored_in, rom_at, word_bytes, stored_pins, data_lines}
-use Rattle.stored_slot.specs.Faults.{roms_fault}
+use Rattle.stored_slot.specs.Stored.{rom_at, word_bytes, stored_pins, data_lines}
 use Rattle.stored_slot.specs.Words.{all_words}
 use Rattle.unscramble.specs.Design.Place.{outcome_fault}
 use Rattle.unscramble.proofs.WordAt.{word_at, said_at}

@@ -9,9 +9,7 @@ use Rattle.stored_slot.specs.Stored.{stored_data_base, rom_at}
 use Rattle.stored_slot.specs.declared.stored.Rom.{Rom}
 use Rattle.stored_slot.specs.declared.stored.StoredSlot.{StoredSlot}
 use Rattle.unscramble.specs.Design.Reading.{place_map, data_map}
-use borrow.Author.Rules.{rules}
-use Rattle.unscramble.proofs.reading.data_map.Statement.{statement}
-use Rattle.unscramble.proofs.reading.data_map.Tie as tie
+use Rattle.unscramble.proofs.reading.data_map.Goals as goal
 
 -- what the order makes of the map of a ROM from a base, by what all three are
 module _ (s : StoredSlot) (k base : ℕ) (rom : Rom) (map : Map) (r : rom ≡ rom_at s k) (b : base ≡ stored_data_base s)
@@ -26,28 +24,12 @@ module _ (s : StoredSlot) (k base : ℕ) (rom : Rom) (map : Map) (r : rom ≡ ro
   high : (order : ByteOrder) (result : Map) → order ≡ HighFirst → result ≡ ordered_map HighFirst map → result ≡ data_map order s k
   high order result e h = rw (e, h) (ap (ordered_map HighFirst) place_is)
 
-returns : tie.Need-returns
-returns c =
-    let p = c.before.before in
-    let a = p.before.before.before.before.args in
-    low a.s a.k _ _ _ p.before.before.before.rom-at.ensures p.before.data-base.ensures p.Place-map.ensures _ c.enum_told.given.1
+pub returns-in-LowFirst : goal.returns-in-LowFirst
+returns-in-LowFirst c =
+    let a = c.args in
+    low a.s a.k _ _ _ c.rom_at-rom.ensures c.data_base.ensures c.place_map-map.ensures _ c.in-LowFirst.is
 
-returns-2 : tie.Need-returns-2
-returns-2 c =
-    let p = c.before.before.before in
-    let a = p.before.before.before.before.args in
-    high a.s a.k _ _ _ p.before.before.before.rom-at.ensures p.before.data-base.ensures p.Place-map.ensures _ _ c.before.enum-told2.given.1 c.high-first.ensures
-
-pub data_map_spec : {M : Type 1} → statement M
-data_map_spec =
-    tie.close
-    (tie.spec
-    (λ c κs. search rules)
-    (λ c κs. search rules)
-    (λ c. search rules)
-    (λ c κs. search rules)
-    (λ c. search rules)
-    (λ c. search rules)
-    (λ c κs. search rules)
-    returns
-    returns-2)
+pub returns-in-HighFirst : goal.returns-in-HighFirst
+returns-in-HighFirst c =
+    let a = c.args in
+    high a.s a.k _ _ _ c.rom_at-rom.ensures c.data_base.ensures c.place_map-map.ensures _ _ c.in-HighFirst.is c.high_first.ensures
