@@ -1,0 +1,49 @@
+-- `onerom_build_rom_image` meets its contract. Assumes nothing.
+use mathlib.Core.Path.{ap, ◌∙◌}
+use Prim.Native.Nat.{ℕ}
+use Rattle.slot.specs.declared.description.Description.{Description}
+use Rattle.refusal.specs.declared.Refusal.{Refusal}
+use Rattle.refusal.specs.declared.Refusal.TheVariants.{OutOfDomain}
+use Rattle.lists.proofs.Bools.{and_left}
+use Rattle.addr_record.proofs.Long.{formed-long}
+use Rattle.rom_image.specs.Build.{Built}
+use Rattle.calls.specs.Order.{order_at}
+use Rattle.calls.specs.Calls.{returned, build_from, build_refused, build_call, build_result}
+use Rattle.onerom.proofs.Records.{taken, no_record, passed, formed, not-formed}
+use Rattle.onerom.proofs.onerom_build_rom_image.Goals.{Start}
+use Rattle.onerom.proofs.onerom_build_rom_image.Goals as goal
+
+-- what a described slot comes to, and what a refusal leaves
+abbrev builds : (s : Start) → Description → Built
+builds s d = build_from (order_at s.args.order) d s.args.addr_layout.now s.args.cs_data_layout.now s.args.spans.now s.args.images.now s.args.table.now
+
+abbrev refuse : (s : Start) → Refusal → Built
+refuse s why = build_refused why s.args.table.now
+
+pub returns-then-not-formed : goal.returns-then-not-formed
+unfolding build_call
+returns-then-not-formed c =
+    ap (λ (r : ℕ). returned r c.args.table.now) c.packed.ensures
+    ∙ ap build_result (not-formed _ (refuse c.before.before.before.before.before.before.before.before.before OutOfDomain) _ _ c.formed.ensures c.if-not-formed.true)
+
+-- the address layout has the length of a record
+pub hand_over-requires : goal.hand_over-requires
+hand_over-requires c =
+    formed-long c.args.addr_layout.now
+    (and_left _ _ (and_left _ _ (and_left _ _ (passed _ _ c.formed.ensures c.if-not-formed.false))))
+
+pub returns-in-Done : goal.returns-in-Done
+unfolding build_call
+returns-in-Done c =
+    c.hand_over.ensures
+    ∙ ap build_result
+    (taken (builds c.before.before.before.before.before.before.before.before.before.before.before.before.before.before.before) (refuse c.before.before.before.before.before.before.before.before.before.before.before.before.before.before.before) c.args.description.now _ c.decode-decoded.ensures c.in-Done.is
+    ∙ formed _ _ _ _ c.formed.ensures c.if-not-formed.false)
+
+pub returns-in-Refused : goal.returns-in-Refused
+unfolding build_call
+returns-in-Refused c =
+    ap (λ (r : ℕ). returned r c.args.table.now) c.packed-in-Refused.ensures
+    ∙ ap build_result
+    (no_record (builds c.before.before.before.before.before.before.before.before.before.before.before.before.before) (refuse c.before.before.before.before.before.before.before.before.before.before.before.before.before) c.args.description.now _ c.decode-decoded.ensures _ c.in-Refused.is
+    ∙ formed _ _ _ _ c.formed.ensures c.if-not-formed.false)

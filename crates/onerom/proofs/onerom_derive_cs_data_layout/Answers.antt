@@ -1,0 +1,55 @@
+-- `onerom_derive_cs_data_layout` meets its contract. Assumes nothing.
+use mathlib.Core.Path.{◌≡◌, ap, ◌∙◌}
+use mathlib.Core.Bool.{Bool, false, not}
+use mathlib.Core.List.{List}
+use Prim.Native.Nat.{ℕ}
+use Rattle.description_record.specs.Record.{described, well_formed, decoded_of}
+use Rattle.slot.specs.declared.description.Description.{Description}
+use Rattle.refusal.specs.declared.Refusal.TheVariants.{OutOfDomain}
+use Rattle.cs_data_layout.specs.Search.{cs_data_answer}
+use Rattle.cs_data_layout.specs.declared.layout.CsDataAnswer.{CsDataAnswer}
+use Rattle.cs_data_layout.specs.declared.layout.GivenLayout.{GivenLayout}
+use Rattle.addr_record.specs.AddrRecord.{given_at}
+use Rattle.calls.specs.Calls.{returned, search_result, call_refused, if_record, cs_data_found, cs_data_call}
+use Rattle.onerom.proofs.Records.{described_so, not-described, passed, formed, not-formed}
+use Rattle.onerom.proofs.onerom_derive_cs_data_layout.Goals as goal
+
+
+searched : (b l buffer : List ℕ) (t : Bool) → t ≡ well_formed b → not t ≡ false → (d : Description) → d ≡ described b → (g : GivenLayout) → g ≡ given_at l
+    → (a : CsDataAnswer) → a ≡ cs_data_answer d g
+    → cs_data_found a buffer ≡ if_record (λ d. cs_data_found (cs_data_answer d (given_at l)) buffer) (λ why. call_refused why buffer) (decoded_of b)
+searched b l buffer t e n d ed g eg a q =
+    rw (q, ed, eg) (described_so (λ d. cs_data_found (cs_data_answer d (given_at l)) buffer) (λ why. call_refused why buffer) b t e n)
+
+pub returns-then-not-given_formed : goal.returns-then-not-given_formed
+unfolding cs_data_call
+returns-then-not-given_formed c =
+    ap (λ (r : ℕ). returned r c.args.layout.now) c.packed.ensures
+    ∙ ap search_result (not-formed _ (call_refused OutOfDomain c.args.layout.now) _ _ c.given_formed.ensures c.if-not-given_formed.true)
+
+pub returns-then-not-formed : goal.returns-then-not-formed
+unfolding cs_data_call
+returns-then-not-formed c =
+    let g = c.before.before.before.before in
+    ap (λ (r : ℕ). returned r g.args.layout.now) c.packed-then-not-formed.ensures
+    ∙ ap search_result
+    (not-described (λ d. cs_data_found (cs_data_answer d (given_at g.args.addr_layout.now)) g.args.layout.now) (λ why. call_refused why g.args.layout.now) g.args.description.now _ c.formed.ensures c.if-not-formed.true
+    ∙ formed _ _ _ _ c.given_formed.ensures c.if-not-given_formed.false)
+
+pub description_at-d-requires : goal.description_at-d-requires
+description_at-d-requires c = passed _ _ c.formed.ensures c.if-not-formed.false
+
+pub given_at-requires : goal.given_at-requires
+given_at-requires c = passed _ _ c.given_formed.ensures c.if-not-given_formed.false
+
+pub returns : goal.returns
+unfolding cs_data_call
+returns c =
+    let f = c.before.before.before.before.before.before.before.before in
+    let g = f.before.before in
+    c.hand_over.ensures
+    ∙ ap search_result
+    (searched g.args.description.now g.args.addr_layout.now g.args.layout.now _ c.formed.ensures
+    c.if-not-formed.false _ c.description_at-d.ensures _
+    c.given_at.ensures _ c.derive_cs_data_layout.ensures
+    ∙ formed _ _ _ _ f.given-formed.ensures f.if-not-given_formed.false)
