@@ -1,4 +1,5 @@
 -- `onerom_build_rom_image` meets its contract. Assumes nothing.
+use mathlib.Core.Bool.{not}
 use mathlib.Core.Path.{ap, ◌∙◌}
 use Prim.Native.Nat.{ℕ}
 use Rattle.slot.specs.declared.description.Description.{Description}
@@ -24,13 +25,13 @@ pub returns-then-not-formed : goal.returns-then-not-formed
 unfolding build_call
 returns-then-not-formed c =
     ap (λ (r : ℕ). returned r c.args.table.now) c.packed.ensures
-    ∙ ap build_result (not-formed _ (refuse c.before.before.before.before.before.before.before.before.before OutOfDomain) _ _ c.formed.ensures c.if-not-formed.true)
+    ∙ ap build_result (not-formed _ (refuse c.before.before.before.before.before.before.before.before.before OutOfDomain) _ _ c.formed.ensures (ap not c.if-not-formed.true))
 
 -- the address layout has the length of a record
 pub hand_over-requires : goal.hand_over-requires
 hand_over-requires c =
     formed-long c.args.addr_layout.now
-    (and_left _ _ (and_left _ _ (and_left _ _ (passed _ _ c.formed.ensures c.if-not-formed.false))))
+    (and_left _ _ (and_left _ _ (and_left _ _ (passed _ _ c.formed.ensures (ap not c.if-not-formed.false)))))
 
 pub returns-in-Done : goal.returns-in-Done
 unfolding build_call
@@ -38,7 +39,7 @@ returns-in-Done c =
     c.hand_over.ensures
     ∙ ap build_result
     (taken (builds c.before.before.before.before.before.before.before.before.before.before.before.before.before.before.before) (refuse c.before.before.before.before.before.before.before.before.before.before.before.before.before.before.before) c.args.description.now _ c.decode-decoded.ensures c.in-Done.is
-    ∙ formed _ _ _ _ c.formed.ensures c.if-not-formed.false)
+    ∙ formed _ _ _ _ c.formed.ensures (ap not c.if-not-formed.false))
 
 pub returns-in-Refused : goal.returns-in-Refused
 unfolding build_call
@@ -46,4 +47,4 @@ returns-in-Refused c =
     ap (λ (r : ℕ). returned r c.args.table.now) c.packed-in-Refused.ensures
     ∙ ap build_result
     (no_record (builds c.before.before.before.before.before.before.before.before.before.before.before.before.before) (refuse c.before.before.before.before.before.before.before.before.before.before.before.before.before) c.args.description.now _ c.decode-decoded.ensures _ c.in-Refused.is
-    ∙ formed _ _ _ _ c.formed.ensures c.if-not-formed.false)
+    ∙ formed _ _ _ _ c.formed.ensures (ap not c.if-not-formed.false))

@@ -25,15 +25,15 @@ returns-then-not-formed c =
     ap (λ (r : ℕ). returned r c.args.layout.now) c.packed.ensures
     ∙ ap search_result
     (not-described (λ d. addr_found (addr_answer d) c.args.layout.now) (λ why. call_refused why c.args.layout.now) c.args.description.now _
-    c.formed.ensures c.if-not-formed.true)
+    c.formed.ensures (ap not c.if-not-formed.true))
 
 pub description_at-d-requires : goal.description_at-d-requires
-description_at-d-requires c = passed _ _ c.formed.ensures c.if-not-formed.false
+description_at-d-requires c = passed _ _ c.formed.ensures (ap not c.if-not-formed.false)
 
 pub returns : goal.returns
 returns c =
     let f = c.before.before.before.before.before.before.before in
     c.hand_over.ensures
     ∙ ap search_result
-    (searched f.args.description.now f.args.layout.now _ c.formed.ensures c.if-not-formed.false _
+    (searched f.args.description.now f.args.layout.now _ c.formed.ensures (ap not c.if-not-formed.false) _
     c.description_at-d.ensures _ c.derive_addr_layout.ensures)

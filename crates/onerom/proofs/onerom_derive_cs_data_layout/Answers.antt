@@ -25,7 +25,7 @@ pub returns-then-not-given_formed : goal.returns-then-not-given_formed
 unfolding cs_data_call
 returns-then-not-given_formed c =
     ap (λ (r : ℕ). returned r c.args.layout.now) c.packed.ensures
-    ∙ ap search_result (not-formed _ (call_refused OutOfDomain c.args.layout.now) _ _ c.given_formed.ensures c.if-not-given_formed.true)
+    ∙ ap search_result (not-formed _ (call_refused OutOfDomain c.args.layout.now) _ _ c.given_formed.ensures (ap not c.if-not-given_formed.true))
 
 pub returns-then-not-formed : goal.returns-then-not-formed
 unfolding cs_data_call
@@ -33,14 +33,14 @@ returns-then-not-formed c =
     let g = c.before.before.before.before in
     ap (λ (r : ℕ). returned r g.args.layout.now) c.packed-then-not-formed.ensures
     ∙ ap search_result
-    (not-described (λ d. cs_data_found (cs_data_answer d (given_at g.args.addr_layout.now)) g.args.layout.now) (λ why. call_refused why g.args.layout.now) g.args.description.now _ c.formed.ensures c.if-not-formed.true
-    ∙ formed _ _ _ _ c.given_formed.ensures c.if-not-given_formed.false)
+    (not-described (λ d. cs_data_found (cs_data_answer d (given_at g.args.addr_layout.now)) g.args.layout.now) (λ why. call_refused why g.args.layout.now) g.args.description.now _ c.formed.ensures (ap not c.if-not-formed.true)
+    ∙ formed _ _ _ _ c.given_formed.ensures (ap not c.if-not-given_formed.false))
 
 pub description_at-d-requires : goal.description_at-d-requires
-description_at-d-requires c = passed _ _ c.formed.ensures c.if-not-formed.false
+description_at-d-requires c = passed _ _ c.formed.ensures (ap not c.if-not-formed.false)
 
 pub given_at-requires : goal.given_at-requires
-given_at-requires c = passed _ _ c.given_formed.ensures c.if-not-given_formed.false
+given_at-requires c = passed _ _ c.given_formed.ensures (ap not c.if-not-given_formed.false)
 
 pub returns : goal.returns
 unfolding cs_data_call
@@ -50,6 +50,6 @@ returns c =
     c.hand_over.ensures
     ∙ ap search_result
     (searched g.args.description.now g.args.addr_layout.now g.args.layout.now _ c.formed.ensures
-    c.if-not-formed.false _ c.description_at-d.ensures _
+    (ap not c.if-not-formed.false) _ c.description_at-d.ensures _
     c.given_at.ensures _ c.derive_cs_data_layout.ensures
-    ∙ formed _ _ _ _ f.given-formed.ensures f.if-not-given_formed.false)
+    ∙ formed _ _ _ _ f.given-formed.ensures (ap not f.if-not-given_formed.false))

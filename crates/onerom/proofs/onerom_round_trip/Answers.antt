@@ -33,18 +33,18 @@ not_done why e = zero_one cc
 
 pub returns-then-not-formed : goal.returns-then-not-formed
 unfolding trip_call
-returns-then-not-formed c = record { marks_after = ap (says c.before.before.before.before.before.before.before.before.before) c.packed.ensures ∙ ap trip_result (not-formed _ (refuse c.before.before.before.before.before.before.before.before.before OutOfDomain) _ _ c.formed.ensures c.if-not-formed.true); call_demanded = λ is_record formed-so. absurd (neither (c.formed.ensures ∙ formed-so) c.if-not-formed.true) }
+returns-then-not-formed c = record { marks_after = ap (says c.before.before.before.before.before.before.before.before.before) c.packed.ensures ∙ ap trip_result (not-formed _ (refuse c.before.before.before.before.before.before.before.before.before OutOfDomain) _ _ c.formed.ensures (ap not c.if-not-formed.true)); call_demanded = λ is_record formed-so. absurd (neither (c.formed.ensures ∙ formed-so) (ap not c.if-not-formed.true)) }
 
 pub returns-in-Done : goal.returns-in-Done
 unfolding trip_call
 returns-in-Done c = record { marks_after = c.hand_over.ensures.marks_after
           ∙ ap trip_result
           (taken (trips c.before.before.before.before.before.before.before.before.before.before.before.before.before.before.before.before.before.before.before.before.before) (refuse c.before.before.before.before.before.before.before.before.before.before.before.before.before.before.before.before.before.before.before.before.before) c.args.description.now _ c.decode.ensures c.enum_told.given.1
-          ∙ formed _ _ _ _ c.formed.ensures c.if-not-formed.false); call_demanded = λ is_record formed-so. rw c.decode.ensures at c.hand_over.ensures.trip_demanded }
+          ∙ formed _ _ _ _ c.formed.ensures (ap not c.if-not-formed.false)); call_demanded = λ is_record formed-so. rw c.decode.ensures at c.hand_over.ensures.trip_demanded }
 
 pub returns-in-Refused : goal.returns-in-Refused
 unfolding trip_call
 returns-in-Refused c = record { marks_after = ap (says c.before.before.before.before.before.before.before.before.before.before.before.before.before) c.packed-in-Refused.ensures
           ∙ ap trip_result
           (no_record (trips c.before.before.before.before.before.before.before.before.before.before.before.before.before) (refuse c.before.before.before.before.before.before.before.before.before.before.before.before.before) c.args.description.now _ c.decode.ensures _ c.in-Refused.is
-          ∙ formed _ _ _ _ c.formed.ensures c.if-not-formed.false); call_demanded = λ is_record formed-so. absurd (not_done _ (sym c.in-Refused.is ∙ ap (λ (y : Decoded). y.answer) c.decode.ensures ∙ is_record)) }
+          ∙ formed _ _ _ _ c.formed.ensures (ap not c.if-not-formed.false)); call_demanded = λ is_record formed-so. absurd (not_done _ (sym c.in-Refused.is ∙ ap (λ (y : Decoded). y.answer) c.decode.ensures ∙ is_record)) }

@@ -1,4 +1,5 @@
 -- `onerom_unscramble_slot` meets its contract. Assumes nothing.
+use mathlib.Core.Bool.{not}
 use mathlib.Core.Path.{ap, ◌∙◌}
 use Prim.Native.Nat.{ℕ}
 use Rattle.refusal.specs.declared.Refusal.TheVariants.{OutOfDomain}
@@ -13,7 +14,7 @@ unfolding read_back_call
 returns-then-not-formed c =
     ap (λ (r : ℕ). read_returned r c.args.output.now c.args.marks.now) c.packed.ensures
     ∙ ap read_result
-    (not-formed _ (read_refused OutOfDomain c.args.output.now c.args.marks.now) _ _ c.formed.ensures c.if-not-formed.true)
+    (not-formed _ (read_refused OutOfDomain c.args.output.now c.args.marks.now) _ _ c.formed.ensures (ap not c.if-not-formed.true))
 
 pub returns : goal.returns
 unfolding read_back_call
@@ -21,4 +22,4 @@ returns c =
     let t = c.before.before.before.before in
     c.hand_over.ensures
     ∙ ap read_result
-    (formed (read_from (order_at t.args.order) t.args.slot.now t.args.stored.now t.args.output.now t.args.marks.now) _ _ _ t.formed.ensures t.if-not-formed.false)
+    (formed (read_from (order_at t.args.order) t.args.slot.now t.args.stored.now t.args.output.now t.args.marks.now) _ _ _ t.formed.ensures (ap not t.if-not-formed.false))

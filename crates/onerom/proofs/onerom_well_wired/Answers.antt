@@ -1,5 +1,6 @@
 -- `onerom_well_wired` meets its contract. Assumes nothing.
-use mathlib.Core.Path.{◌∙◌}
+use mathlib.Core.Bool.{not}
+use mathlib.Core.Path.{◌∙◌, ap}
 use Prim.Native.Nat.{ℕ}
 use Rattle.slot.specs.declared.description.Description.{Description}
 use Rattle.refusal.specs.declared.Refusal.{Refusal}
@@ -19,23 +20,23 @@ refuse why = packed why
 
 pub returns-then-not-formed : goal.returns-then-not-formed
 unfolding wired_call
-returns-then-not-formed c = c.packed.ensures ∙ not-formed _ (refuse OutOfDomain) _ _ c.formed.ensures c.if-not-formed.true
+returns-then-not-formed c = c.packed.ensures ∙ not-formed _ (refuse OutOfDomain) _ _ c.formed.ensures (ap not c.if-not-formed.true)
 
 -- the layout has the length of a record
 pub tested-requires : goal.tested-requires
 tested-requires c =
-    formed-long c.args.addr_layout.now (passed _ _ c.formed.ensures c.if-not-formed.false)
+    formed-long c.args.addr_layout.now (passed _ _ c.formed.ensures (ap not c.if-not-formed.false))
 
 pub returns-in-Done : goal.returns-in-Done
 unfolding wired_call
 returns-in-Done c =
     c.tested.ensures
     ∙ taken (tests c.before.before.before.before.before.before.before.before) refuse _ _ c.decode-decoded.ensures c.in-Done.is
-    ∙ formed _ _ _ _ c.formed.ensures c.if-not-formed.false
+    ∙ formed _ _ _ _ c.formed.ensures (ap not c.if-not-formed.false)
 
 pub returns-in-Refused : goal.returns-in-Refused
 unfolding wired_call
 returns-in-Refused c =
     c.packed-in-Refused.ensures
     ∙ no_record (tests c.before.before.before.before.before.before.before.before.before) refuse _ _ c.decode-decoded.ensures _ c.in-Refused.is
-    ∙ formed _ _ _ _ c.formed.ensures c.if-not-formed.false
+    ∙ formed _ _ _ _ c.formed.ensures (ap not c.if-not-formed.false)

@@ -51,25 +51,25 @@ module _ (order : ByteOrder) (b : BuildArgs) (images lent : List ℕ) (ok : Bool
 
 pub returns-then-not-in_domain : goal.returns-then-not-in_domain
 returns-then-not-in_domain c =
-    outside c.args.order c.args.b c.args.images.now c.args.table.now _ c.in_domain.ensures c.if-not-in_domain.true
+    outside c.args.order c.args.b c.args.images.now c.args.table.now _ c.in_domain.ensures (ap not c.if-not-in_domain.true)
 
 pub build_fault-requires : goal.build_fault-requires
 build_fault-requires c =
-    inside c.args.order c.args.b c.args.images.now c.args.table.now _ c.in_domain.ensures c.if-not-in_domain.false
+    inside c.args.order c.args.b c.args.images.now c.args.table.now _ c.in_domain.ensures (ap not c.if-not-in_domain.false)
 
 pub fill-requires : goal.fill-requires
 fill-requires c =
     record {
-      domain = inside c.args.order c.args.b c.args.images.now c.args.table.now _ c.in_domain.ensures c.if-not-in_domain.false;
-      no_fault = sym c.build_fault.ensures ∙ c.enum_told-1.given.1;
+      domain = inside c.args.order c.args.b c.args.images.now c.args.table.now _ c.in_domain.ensures (ap not c.if-not-in_domain.false);
+      no_fault = sym c.build_fault.ensures ∙ c.in-None.is;
     }
 
 pub returns-in-Of : goal.returns-in-Of
 returns-in-Of c =
     refused-for c.args.order c.args.b c.args.images.now c.args.table.now _ c.in_domain.ensures
-    _ _ c.if-not-in_domain.false c.build_fault.ensures c.in-Of.is
+    _ _ (ap not c.if-not-in_domain.false) c.build_fault.ensures c.in-Of.is
 
 pub returns-in-None : goal.returns-in-None
 returns-in-None c =
     made c.args.order c.args.b c.args.images.now c.args.table.now _ c.in_domain.ensures
-    _ _ c.if-not-in_domain.false c.build_fault.ensures c.in-None.is c.fill.ensures
+    _ _ (ap not c.if-not-in_domain.false) c.build_fault.ensures c.in-None.is c.fill.ensures
