@@ -2,6 +2,4 @@
 use Rattle.marked_words.proofs.clear_both.Goals as goal
 
 pub returns : goal.returns
-returns c =
-    let second = c.before.before in
-    record { output_after = second.fill.ensures; marks_after = c.fill-2.ensures }
+returns c = record { output_after = c.fill.ensures; marks_after = c.fill-2.ensures }

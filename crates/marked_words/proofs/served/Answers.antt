@@ -19,9 +19,7 @@ module _ (w words f g : ℕ) (output marks : List ℕ) (e : f ≡ g) where
 
 pub returns-then-f-r : goal.returns-then-f-r
 returns-then-f-r c =
-    let cleared = c.before.before.before.before in
-    let then = cleared.before.before.before in
-    missing _ _ _ _ _ _ then.first_missing-f.ensures _ _ cleared.if-f-r.true c.clear_both.ensures.output_after c.clear_both.ensures.marks_after
+    missing _ _ _ _ _ _ c.first_missing-f.ensures _ _ c.if-f-r.true c.clear_both.ensures.output_after c.clear_both.ensures.marks_after
 
 pub returns : goal.returns
 returns c = whole _ _ _ _ _ _ c.first_missing-f.ensures c.if-f-r.false

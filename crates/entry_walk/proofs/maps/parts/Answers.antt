@@ -51,8 +51,7 @@ put_table-requires c =
 
 pub loop-k-preserved : goal.loop-k-preserved
 loop-k-preserved c =
-    let called = c.before.before.before.before in
-    let l = called.loop-k in
+    let l = c.loop-k in
     turn _ _ _ _ _ l.k l.invariant (omega arith) c.put_table.auto.out c.byte_table-table.ensures c.put_table.ensures
 
 pub returns : goal.returns

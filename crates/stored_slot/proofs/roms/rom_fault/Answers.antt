@@ -5,23 +5,19 @@ use Rattle.stored_slot.proofs.roms.rom_fault.Goals as goal
 pub returns : goal.returns
 unfolding rom_fault
 returns c =
-    let counted = c.before.before.before in
-    let values = counted.before.before in
-    let lines = values.before.before.before in
-    let missing = lines.before.before.before.before in
     rw (
       c.or_else-3.ensures,
       c.or_else-2.ensures,
       c.or_else.ensures,
       c.fault_if-count.ensures,
-      counted.listed.ensures.value,
-      counted.fault_if-data.ensures,
-      values.map_within-2.ensures,
-      values.data_base.ensures,
-      values.fault_if-lines.ensures,
-      lines.map_within.ensures,
-      lines.addr_base.ensures,
-      lines.fault_if-missing.ensures,
-      missing.word_bytes-width.ensures,
-      missing.rom_at-rom.ensures,
+      c.listed.ensures.value,
+      c.fault_if-data.ensures,
+      c.map_within-2.ensures,
+      c.data_base.ensures,
+      c.fault_if-lines.ensures,
+      c.map_within.ensures,
+      c.addr_base.ensures,
+      c.fault_if-missing.ensures,
+      c.word_bytes-width.ensures,
+      c.rom_at-rom.ensures,
     )
