@@ -27,6 +27,4 @@ module _ (order : ByteOrder) (b : BuildArgs) (table output marks : List ℕ) whe
       ∙ ap (λ (x : StoredSlot). unscrambled order x (take size table) output marks) e)
 
 pub returns : goal.returns
-returns c = let k = c.before.before.before.before in
-    let t = k.before.before.before.before.before in
-    read t.args.order t.args.b t.args.table.now t.args.output.now t.args.marks.now _ _ _ _ _ _ k.stored_slot.ensures k.table-size.ensures.0 c.unscramble_slot.ensures refl
+returns c = read c.args.order c.args.b c.args.table.now c.args.output.now c.args.marks.now _ _ _ _ _ _ c.stored_slot.ensures c.table_size-size.ensures.value c.unscramble_slot.ensures refl

@@ -11,21 +11,13 @@ use Rattle.rom_image.specs.Build.{Built}
 use Rattle.calls.specs.Order.{order_at}
 use Rattle.calls.specs.Calls.{returned, build_from, build_refused, build_call, build_result}
 use Rattle.onerom.proofs.Records.{taken, no_record, passed, formed, not-formed}
-use Rattle.onerom.proofs.onerom_build_rom_image.Goals.{Start}
 use Rattle.onerom.proofs.onerom_build_rom_image.Goals as goal
-
--- what a described slot comes to, and what a refusal leaves
-abbrev builds : (s : Start) → Description → Built
-builds s d = build_from (order_at s.args.order) d s.args.addr_layout.now s.args.cs_data_layout.now s.args.spans.now s.args.images.now s.args.table.now
-
-abbrev refuse : (s : Start) → Refusal → Built
-refuse s why = build_refused why s.args.table.now
 
 pub returns-then-not-formed : goal.returns-then-not-formed
 unfolding build_call
 returns-then-not-formed c =
     ap (λ (r : ℕ). returned r c.args.table.now) c.packed.ensures
-    ∙ ap build_result (not-formed _ (refuse c.before.before.before.before.before.before.before.before.before OutOfDomain) _ _ c.formed.ensures (ap not c.if-not-formed.true))
+    ∙ ap build_result (not-formed _ ((λ (why : Refusal). build_refused why c.args.table.now) OutOfDomain) _ _ c.formed.ensures (ap not c.if-not-formed.true))
 
 -- the address layout has the length of a record
 pub hand_over-requires : goal.hand_over-requires
@@ -38,7 +30,7 @@ unfolding build_call
 returns-in-Done c =
     c.hand_over.ensures
     ∙ ap build_result
-    (taken (builds c.before.before.before.before.before.before.before.before.before.before.before.before.before.before.before) (refuse c.before.before.before.before.before.before.before.before.before.before.before.before.before.before.before) c.args.description.now _ c.decode-decoded.ensures c.in-Done.is
+    (taken ((λ (d : Description). build_from (order_at c.args.order) d c.args.addr_layout.now c.args.cs_data_layout.now c.args.spans.now c.args.images.now c.args.table.now)) ((λ (why : Refusal). build_refused why c.args.table.now)) c.args.description.now _ c.decode-decoded.ensures c.in-Done.is
     ∙ formed _ _ _ _ c.formed.ensures (ap not c.if-not-formed.false))
 
 pub returns-in-Refused : goal.returns-in-Refused
@@ -46,5 +38,5 @@ unfolding build_call
 returns-in-Refused c =
     ap (λ (r : ℕ). returned r c.args.table.now) c.packed-in-Refused.ensures
     ∙ ap build_result
-    (no_record (builds c.before.before.before.before.before.before.before.before.before.before.before.before.before) (refuse c.before.before.before.before.before.before.before.before.before.before.before.before.before) c.args.description.now _ c.decode-decoded.ensures _ c.in-Refused.is
+    (no_record ((λ (d : Description). build_from (order_at c.args.order) d c.args.addr_layout.now c.args.cs_data_layout.now c.args.spans.now c.args.images.now c.args.table.now)) ((λ (why : Refusal). build_refused why c.args.table.now)) c.args.description.now _ c.decode-decoded.ensures _ c.in-Refused.is
     ∙ formed _ _ _ _ c.formed.ensures (ap not c.if-not-formed.false))

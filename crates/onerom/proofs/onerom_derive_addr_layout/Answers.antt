@@ -32,8 +32,7 @@ description_at-d-requires c = passed _ _ c.formed.ensures (ap not c.if-not-forme
 
 pub returns : goal.returns
 returns c =
-    let f = c.before.before.before.before.before.before.before in
     c.hand_over.ensures
     ∙ ap search_result
-    (searched f.args.description.now f.args.layout.now _ c.formed.ensures (ap not c.if-not-formed.false) _
+    (searched c.args.description.now c.args.layout.now _ c.formed.ensures (ap not c.if-not-formed.false) _
     c.description_at-d.ensures _ c.derive_addr_layout.ensures)

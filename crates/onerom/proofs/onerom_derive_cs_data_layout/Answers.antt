@@ -30,10 +30,9 @@ returns-then-not-given_formed c =
 pub returns-then-not-formed : goal.returns-then-not-formed
 unfolding cs_data_call
 returns-then-not-formed c =
-    let g = c.before.before.before.before in
-    ap (λ (r : ℕ). returned r g.args.layout.now) c.packed-then-not-formed.ensures
+    ap (λ (r : ℕ). returned r c.args.layout.now) c.packed-then-not-formed.ensures
     ∙ ap search_result
-    (not-described (λ d. cs_data_found (cs_data_answer d (given_at g.args.addr_layout.now)) g.args.layout.now) (λ why. call_refused why g.args.layout.now) g.args.description.now _ c.formed.ensures (ap not c.if-not-formed.true)
+    (not-described (λ d. cs_data_found (cs_data_answer d (given_at c.args.addr_layout.now)) c.args.layout.now) (λ why. call_refused why c.args.layout.now) c.args.description.now _ c.formed.ensures (ap not c.if-not-formed.true)
     ∙ formed _ _ _ _ c.given_formed.ensures (ap not c.if-not-given_formed.false))
 
 pub description_at-d-requires : goal.description_at-d-requires
@@ -45,11 +44,9 @@ given_at-requires c = passed _ _ c.given_formed.ensures (ap not c.if-not-given_f
 pub returns : goal.returns
 unfolding cs_data_call
 returns c =
-    let f = c.before.before.before.before.before.before.before.before in
-    let g = f.before.before in
     c.hand_over.ensures
     ∙ ap search_result
-    (searched g.args.description.now g.args.addr_layout.now g.args.layout.now _ c.formed.ensures
+    (searched c.args.description.now c.args.addr_layout.now c.args.layout.now _ c.formed.ensures
     (ap not c.if-not-formed.false) _ c.description_at-d.ensures _
     c.given_at.ensures _ c.derive_cs_data_layout.ensures
-    ∙ formed _ _ _ _ f.given-formed.ensures (ap not f.if-not-given_formed.false))
+    ∙ formed _ _ _ _ c.given_formed.ensures (ap not c.if-not-given_formed.false))

@@ -19,7 +19,6 @@ returns-then-not-formed c =
 pub returns : goal.returns
 unfolding read_back_call
 returns c =
-    let t = c.before.before.before.before in
     c.hand_over.ensures
     ∙ ap read_result
-    (formed (read_from (order_at t.args.order) t.args.slot.now t.args.stored.now t.args.output.now t.args.marks.now) _ _ _ t.formed.ensures (ap not t.if-not-formed.false))
+    (formed (read_from (order_at c.args.order) c.args.slot.now c.args.stored.now c.args.output.now c.args.marks.now) _ _ _ c.formed.ensures (ap not c.if-not-formed.false))

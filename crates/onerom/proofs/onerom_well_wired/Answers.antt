@@ -9,11 +9,7 @@ use Rattle.addr_record.proofs.Long.{formed-long}
 use Rattle.calls.specs.Packed.{packed}
 use Rattle.onerom.specs.Wired.{wired_from, wired_call}
 use Rattle.onerom.proofs.Records.{taken, no_record, passed, formed, not-formed}
-use Rattle.onerom.proofs.onerom_well_wired.Goals.{Start}
 use Rattle.onerom.proofs.onerom_well_wired.Goals as goal
-
-abbrev tests : (s : Start) → Description → ℕ
-tests s d = wired_from d s.args.addr_layout.now
 
 abbrev refuse : Refusal → ℕ
 refuse why = packed why
@@ -31,12 +27,12 @@ pub returns-in-Done : goal.returns-in-Done
 unfolding wired_call
 returns-in-Done c =
     c.tested.ensures
-    ∙ taken (tests c.before.before.before.before.before.before.before.before) refuse _ _ c.decode-decoded.ensures c.in-Done.is
+    ∙ taken ((λ (d : Description). wired_from d c.args.addr_layout.now)) refuse _ _ c.decode-decoded.ensures c.in-Done.is
     ∙ formed _ _ _ _ c.formed.ensures (ap not c.if-not-formed.false)
 
 pub returns-in-Refused : goal.returns-in-Refused
 unfolding wired_call
 returns-in-Refused c =
     c.packed-in-Refused.ensures
-    ∙ no_record (tests c.before.before.before.before.before.before.before.before.before) refuse _ _ c.decode-decoded.ensures _ c.in-Refused.is
+    ∙ no_record ((λ (d : Description). wired_from d c.args.addr_layout.now)) refuse _ _ c.decode-decoded.ensures _ c.in-Refused.is
     ∙ formed _ _ _ _ c.formed.ensures (ap not c.if-not-formed.false)

@@ -10,13 +10,10 @@ use Rattle.onerom.specs.Trip.{trip_result}
 use Rattle.onerom.proofs.trip.hand_over.Goals as goal
 
 pub returns : goal.returns
-returns c = let t = c.before.before.before.before.before.before.before in
-    let p = t.before.before.before.before in
-    let n = p.before in
-    record { marks_after = rw c.result.ensures
+returns c = record { marks_after = rw c.result.ensures
           (ap trip_result
           (c.round_trip.ensures.marks_after
-          ∙ ap (λ (x : List ImageSpan). round_trip_of p.order-at.result n.args.d n.args.images.now x n.args.table.now n.args.output.now n.args.marks.now) t.spans-at.ensures
-          ∙ ap (λ (o : ByteOrder). round_trip_of o n.args.d n.args.images.now (spans_at n.args.spans.now) n.args.table.now n.args.output.now n.args.marks.now) p.order-at.ensures)); trip_demanded = λ x y ok wired room.
+          ∙ ap (λ (x : List ImageSpan). round_trip_of c.order_at.result c.args.d c.args.images.now x c.args.table.now c.args.output.now c.args.marks.now) c.spans_at.ensures
+          ∙ ap (λ (o : ByteOrder). round_trip_of o c.args.d c.args.images.now (spans_at c.args.spans.now) c.args.table.now c.args.output.now c.args.marks.now) c.order_at.ensures)); trip_demanded = λ x y ok wired room.
           rw c.result.ensures
-          (ap read_result (rw (t.spans-at.ensures, p.order-at.ensures) at c.round_trip.ensures.as_demanded x y ok wired room)) }
+          (ap read_result (rw (c.spans_at.ensures, c.order_at.ensures) at c.round_trip.ensures.as_demanded x y ok wired room)) }

@@ -25,18 +25,14 @@ returns-then-not-package_in c =
 
 pub returns-then-well_wired : goal.returns-then-well_wired
 returns-then-well_wired c =
-    let w = c.before in
-    let p = w.before.before.before in
     by true _ _ _
-    (c.well_wired.ensures ∙ ap (λ (l : AddrLayout). wired p.args.d l) w.layout_at.ensures)
+    (c.well_wired.ensures ∙ ap (λ (l : AddrLayout). wired c.args.d l) c.layout_at.ensures)
     c.if-well_wired.true
-    (sym w.package-in.ensures ∙ w.if-not-package_in.false)
+    (sym c.package_in.ensures ∙ c.if-not-package_in.false)
 
 pub returns-else-well_wired : goal.returns-else-well_wired
 returns-else-well_wired c =
-    let w = c.before in
-    let p = w.before.before.before in
     by false _ _ _
-    (c.well_wired.ensures ∙ ap (λ (l : AddrLayout). wired p.args.d l) w.layout_at.ensures)
+    (c.well_wired.ensures ∙ ap (λ (l : AddrLayout). wired c.args.d l) c.layout_at.ensures)
     c.if-well_wired.false
-    (sym w.package-in.ensures ∙ w.if-not-package_in.false)
+    (sym c.package_in.ensures ∙ c.if-not-package_in.false)
