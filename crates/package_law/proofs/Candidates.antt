@@ -22,6 +22,7 @@ use Rattle.package_law.specs.Law.{CandidateOn, CandidatesLaw}
 use Rattle.package_law.specs.Law.CandidateOn.{socket, x1, x2}
 
 pin_is : (last : ℕ) (c : Candidates) → none_above last c ≡ true → (g : ℕ) → CandidateOf c g → g ≤ last
+pin_is last Absent h g e = elim e [ ]
 pin_is last (One a) h g e = rw e (leb-true a last h)
 pin_is last (Two a b) h g (inl e) = let (first, second) = both _ _ h in rw e (leb-true a last first)
 pin_is last (Two a b) h g (inr e) = let (first, second) = both (leb a last) _ h in rw e (leb-true b last second)
