@@ -11,7 +11,6 @@ use Rattle.calls.specs.Calls.{returned, search_result, call_refused, addr_found,
 use Rattle.onerom.proofs.Records.{described_so, not-described, passed}
 use Rattle.onerom.proofs.onerom_derive_addr_layout.Goals as goal
 
-
 searched : (b buffer : List ℕ) (t : Bool) → t ≡ well_formed b → not t ≡ false → (d : Description) → d ≡ described b → (a : AddrAnswer) → a ≡ addr_answer d
     → addr_found a buffer ≡ addr_call b buffer
 unfolding addr_call

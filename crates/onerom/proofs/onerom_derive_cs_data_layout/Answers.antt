@@ -14,7 +14,6 @@ use Rattle.calls.specs.Calls.{returned, search_result, call_refused, if_record, 
 use Rattle.onerom.proofs.Records.{described_so, not-described, passed, formed, not-formed}
 use Rattle.onerom.proofs.onerom_derive_cs_data_layout.Goals as goal
 
-
 searched : (b l buffer : List ℕ) (t : Bool) → t ≡ well_formed b → not t ≡ false → (d : Description) → d ≡ described b → (g : GivenLayout) → g ≡ given_at l
     → (a : CsDataAnswer) → a ≡ cs_data_answer d g
     → cs_data_found a buffer ≡ if_record (λ d. cs_data_found (cs_data_answer d (given_at l)) buffer) (λ why. call_refused why buffer) (decoded_of b)

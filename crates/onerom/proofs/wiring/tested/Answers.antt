@@ -9,7 +9,6 @@ use Rattle.addr_layout.specs.declared.layout.AddrLayout.{AddrLayout}
 use Rattle.premises.specs.Wired.{wired}
 use Rattle.onerom.proofs.wiring.tested.Goals as goal
 
-
 abbrev result : Bool → Bool → ℕ
 result p w = cond p (cond w 0 1) (packed OutOfDomain)
 
