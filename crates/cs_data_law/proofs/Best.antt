@@ -1,7 +1,6 @@
 -- The layout of the best choice of the select search, and why there is none where nothing fits. Assumes nothing.
 use mathlib.Core.Path.{◌≡◌, refl, sym, ◌∙◌, ap}
-use Prim.Native.Nat.{ℕ, suc, ◌≤◌, ◌<◌}
-use native.Mathlib.Nat.{lt_of_not-le}
+use Prim.Native.Nat.{ℕ, ◌<◌}
 use native.Mathlib.Omega.{arith}
 use Rattle.lists.proofs.Loops.{zero_one}
 use Rattle.slot.specs.declared.description.Description.{Description}
@@ -55,13 +54,6 @@ laid_not_refused r e = zero_one cc
 
 pub same_refusal : (r w : Refusal) → cs_data_refused r ≡ cs_data_refused w → r ≡ w
 same_refusal r w e = let o : Refused r ≡ Refused w = ap (λ (x : CsDataAnswer). x.outcome) e in cc
-
--- two numbers, neither of which is below the other
-pub neither-below : (b c : ℕ) → (b < c → ⊥) → (c < b → ⊥) → b ≡ c
-neither-below b c p q =
-    let l : c < suc b = lt_of_not-le (λ (h : suc b ≤ c). p h) in
-    let m : b < suc c = lt_of_not-le (λ (h : suc c ≤ b). q h) in
-    omega arith
 
 module _ (d : Description) (a : GivenLayout) (past : PastTests d a) where
   abbrev pub verdicts : ℕ → Verdict

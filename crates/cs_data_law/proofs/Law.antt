@@ -22,7 +22,14 @@ use Rattle.cs_data_layout.specs.declared.layout.CsDataOutcome.TheVariants.{LaidO
 use Rattle.cs_data_layout.specs.declared.layout.CsDataAnswer.{CsDataAnswer}
 use Rattle.cs_data_law.specs.Law.{PastTests, choices, choice, select_picked, Fit, NoneFits, seen, FirstSeen, LastRefused, WhyNone, eight, seven, nine, FoundBest, CsDataDemand}
 use Rattle.cs_data_law.proofs.Scores.{score_by}
-use Rattle.cs_data_law.proofs.Best.{number_of_lem, answers, outcome_is, best-laid, assigned, none_not_laid, by_numbers, trials, why-none, laid_not_refused, same_refusal, neither-below}
+use Rattle.cs_data_law.proofs.Best.{number_of_lem, answers, outcome_is, best-laid, assigned, none_not_laid, by_numbers, trials, why-none, laid_not_refused, same_refusal}
+
+-- two numbers, neither of which is below the other
+pub neither-below : (b c : ℕ) → (b < c → ⊥) → (c < b → ⊥) → b ≡ c
+neither-below b c p q =
+    let l : c < suc b = lt_of_not-le (λ (h : suc b ≤ c). p h) in
+    let m : b < suc c = lt_of_not-le (λ (h : suc c ≤ b). q h) in
+    omega arith
 
 module _ (d : Description) (a : GivenLayout) (past : PastTests d a) where
   some-found : (pick : ℕ → ℕ) → Assigned (numbered d) pick → Fit d a pick → (cs_data_answer d a).outcome ≡ LaidOut
