@@ -29,9 +29,9 @@ unfolding trip_call
 returns-in-Done c = record {
   marks_after = c.hand_over.ensures.marks_after
       ∙ ap trip_result
-      (taken ((λ (d : Description). trip_from (order_at c.args.order) d c.args.spans.now c.args.images.now c.args.table.now c.args.output.now c.args.marks.now)) ((λ (why : Refusal). stopped why c.args.table.now c.args.output.now c.args.marks.now)) c.args.description.now _ c.decode.ensures c.enum_told.given.1
+      (taken ((λ (d : Description). trip_from (order_at c.args.order) d c.args.spans.now c.args.images.now c.args.table.now c.args.output.now c.args.marks.now)) ((λ (why : Refusal). stopped why c.args.table.now c.args.output.now c.args.marks.now)) c.args.description.now _ c.decode-decoded.ensures c.in-Done.is
       ∙ formed _ _ _ _ c.formed.ensures (ap not c.if-not-formed.false));
-  call_demanded = λ is_record formed-so. rw c.decode.ensures at c.hand_over.ensures.trip_demanded;
+  call_demanded = λ is_record formed-so. rw c.decode-decoded.ensures at c.hand_over.ensures.trip_demanded;
 }
 
 pub returns-in-Refused : goal.returns-in-Refused
@@ -39,7 +39,7 @@ unfolding trip_call
 returns-in-Refused c = record {
   marks_after = ap ((λ (r : ℕ). trip_returned r c.args.table.now c.args.output.now c.args.marks.now)) c.packed-in-Refused.ensures
       ∙ ap trip_result
-      (no_record ((λ (d : Description). trip_from (order_at c.args.order) d c.args.spans.now c.args.images.now c.args.table.now c.args.output.now c.args.marks.now)) ((λ (why : Refusal). stopped why c.args.table.now c.args.output.now c.args.marks.now)) c.args.description.now _ c.decode.ensures _ c.in-Refused.is
+      (no_record ((λ (d : Description). trip_from (order_at c.args.order) d c.args.spans.now c.args.images.now c.args.table.now c.args.output.now c.args.marks.now)) ((λ (why : Refusal). stopped why c.args.table.now c.args.output.now c.args.marks.now)) c.args.description.now _ c.decode-decoded.ensures _ c.in-Refused.is
       ∙ formed _ _ _ _ c.formed.ensures (ap not c.if-not-formed.false));
-  call_demanded = λ is_record formed-so. absurd (not_done _ (sym c.in-Refused.is ∙ ap (λ (y : Decoded). y.answer) c.decode.ensures ∙ is_record));
+  call_demanded = λ is_record formed-so. absurd (not_done _ (sym c.in-Refused.is ∙ ap (λ (y : Decoded). y.answer) c.decode-decoded.ensures ∙ is_record));
 }
