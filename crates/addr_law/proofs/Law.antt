@@ -1,109 +1,56 @@
 -- Demand 2's law of the address search. Assumes nothing.
 use mathlib.Core.Path.{◌≡◌, refl, sym, ◌∙◌, ap, subst}
-use mathlib.Core.Bool.{true}
-use Prim.Native.Nat.{ℕ, suc, ◌^◌, ◌≤◌, ◌<◌}
+use Prim.Native.Nat.{ℕ, suc, ◌≤◌, ◌<◌}
 use native.Mathlib.Nat.{lt_of_not-le}
 use native.Mathlib.Omega.{arith}
-use lib.Dec.{leb}
-use Rattle.lists.proofs.Bools.{and_left}
-use Rattle.lists.proofs.Loops.{zero_one}
 use Rattle.slot.specs.declared.description.Description.{Description}
-use Rattle.refusal.specs.declared.Refusal.{Refusal}
 use Rattle.refusal.specs.declared.Refusal.TheVariants.{NoValidLayout}
-use Rattle.domain.specs.Domain.{description_in}
 use Rattle.listing.specs.Choice.{gpio_at}
-use Rattle.listing.specs.Law.{Assigned, Numbers}
-use Rattle.listing.specs.Listing.{twos}
-use Rattle.listing.proofs.Numbers.{numbers}
+use Rattle.listing.specs.Law.{Assigned}
 use Rattle.search.specs.Search.{best}
-use Rattle.search.specs.declared.Trial.TheVariants.{Score}
 use Rattle.search.specs.declared.Found.{Found}
 use Rattle.search.specs.declared.Found.TheVariants.{Nothing, At}
-use Rattle.search.proofs.Law.{nothing-fits, found-best}
+use Rattle.search.proofs.Law.{nothing-fits}
 use Rattle.addr_lines.specs.Lines.{addr_listed}
 use Rattle.addr_choices.specs.Choices.{addr_trial}
 use Rattle.addr_layout.specs.Layout.{addr_refused}
 use Rattle.addr_layout.specs.Layouts.{addr_layout_of}
-use Rattle.addr_layout.specs.Search.{addr_best, addr_answer_of, addr_answer}
+use Rattle.addr_layout.specs.Search.{addr_answer}
 use Rattle.addr_layout.specs.declared.layout.AddrLayout.{AddrLayout}
-use Rattle.addr_layout.specs.declared.layout.AddrOutcome.TheVariants.{LaidOut, Refused}
+use Rattle.addr_layout.specs.declared.layout.AddrOutcome.TheVariants.{LaidOut}
 use Rattle.addr_layout.specs.declared.layout.AddrAnswer.{AddrAnswer}
 use Rattle.addr_law.specs.Law.{PastTests, Fit, score_of, FoundBest, NoneFits, AddrDemand}
-use Rattle.addr_law.proofs.Fit.{fits_too, scores_fit, fit_scores}
-use Rattle.addr_law.proofs.InDomain.{listed_in}
-use Rattle.addr_law.proofs.Sound.{sound-layout}
-
-refused_not_laid : (why : Refusal) → Refused why ≡ LaidOut → ⊥
-refused_not_laid why e = zero_one cc
+use Rattle.addr_law.proofs.Best.{number_of_lem, answers, outcome_is, best-laid, by_numbers, choices, refused_not_laid}
 
 module _ (d : Description) (past : PastTests d) where
-  abbrev choices : ℕ
-  choices = 2 ^ twos (addr_listed d)
-
-  in_domain : description_in d ≡ true
-  in_domain = and_left (description_in d) (leb (twos (addr_listed d)) 16) past.domain
-
-  by_numbers : Numbers (addr_listed d)
-  by_numbers = numbers (addr_listed d) past.no_fault (listed_in d in_domain)
-
-  -- a choice of candidates that fits is a number that scores
-  number_of_lem : (pick : ℕ → ℕ) (base pins : ℕ) → Assigned (addr_listed d) pick → Fit d pick base pins
-      → (c : ℕ) × (c < choices) × (addr_trial d c ≡ Score (score_of base pins))
-  number_of_lem pick base pins a f =
-      let (c, l, m) = by_numbers.made pick a in
-      (c, l, fit_scores d c base pins (fits_too d pick (λ k. gpio_at (addr_listed d) c k) m base pins f))
-
-  answers : (f : Found) → best (addr_trial d) choices ≡ f → addr_answer d ≡ addr_answer_of d f
-  unfolding addr_best
-  answers f e =
-      let searched : addr_answer d ≡ addr_answer_of d (addr_best d) = rw (past.domain, past.no_fault) in
-      searched ∙ ap (addr_answer_of d) e
-
-  outcome_is : (f : Found) → best (addr_trial d) choices ≡ f → (addr_answer d).outcome ≡ (addr_answer_of d f).outcome
-  outcome_is f e = ap (λ (r : AddrAnswer). r.outcome) (answers f e)
-
-  -- the layout of the best choice
-  best-laid : (c s : ℕ) → best (addr_trial d) choices ≡ At c s → FoundBest d c (addr_layout_of d (addr_listed d) c)
-  best-laid c s e =
-      let b = found-best (addr_trial d) choices c s e in
-      let (fit, score) = scores_fit d c s b.fits in
-      record {
-        within = b.within;
-        layout = refl;
-        fit = fit;
-        lowest = λ pick base pins a f. let (j, l, t) = number_of_lem pick base pins a f in rw (← score) (b.lowest j (score_of base pins) l t);
-        earliest = λ j base pins l f. rw (← score) (b.earliest j (score_of base pins) l (fit_scores d j base pins f));
-        sound = sound-layout d c in_domain (by_numbers.makes_one c) fit;
-      }
-
   some-found : (pick : ℕ → ℕ) (base pins : ℕ) → Assigned (addr_listed d) pick → Fit d pick base pins → (addr_answer d).outcome ≡ LaidOut
-  some-found pick base pins a f = by (best (addr_trial d) choices) refl
+  some-found pick base pins a f = by (best (addr_trial d) (choices d past)) refl
     where
-      by : (r : Found) → best (addr_trial d) choices ≡ r → (addr_answer d).outcome ≡ LaidOut
+      by : (r : Found) → best (addr_trial d) (choices d past) ≡ r → (addr_answer d).outcome ≡ LaidOut
       by Nothing e =
-          let (c, l, t) = number_of_lem pick base pins a f in
-          absurd (nothing-fits (addr_trial d) choices e c (score_of base pins) l t)
-      by (At c s) e = outcome_is (At c s) e
+          let (c, l, t) = number_of_lem d past pick base pins a f in
+          absurd (nothing-fits (addr_trial d) (choices d past) e c (score_of base pins) l t)
+      by (At c s) e = outcome_is d past (At c s) e
 
   found : (addr_answer d).outcome ≡ LaidOut → (c : ℕ) × FoundBest d c (addr_answer d).layout
-  found o = by (best (addr_trial d) choices) refl
+  found o = by (best (addr_trial d) (choices d past)) refl
     where
-      by : (r : Found) → best (addr_trial d) choices ≡ r → (c : ℕ) × FoundBest d c (addr_answer d).layout
-      by Nothing e = absurd (refused_not_laid NoValidLayout (sym (outcome_is Nothing e) ∙ o))
-      by (At c s) e = (c, subst (λ (r : AddrAnswer). FoundBest d c r.layout) (sym (answers (At c s) e)) (best-laid c s e))
+      by : (r : Found) → best (addr_trial d) (choices d past) ≡ r → (c : ℕ) × FoundBest d c (addr_answer d).layout
+      by Nothing e = absurd (refused_not_laid NoValidLayout (sym (outcome_is d past Nothing e) ∙ o))
+      by (At c s) e = (c, subst (λ (r : AddrAnswer). FoundBest d c r.layout) (sym (answers d past (At c s) e)) (best-laid d past c s e))
 
   none-nine : NoneFits d → addr_answer d ≡ addr_refused NoValidLayout
-  none-nine none = by (best (addr_trial d) choices) refl
+  none-nine none = by (best (addr_trial d) (choices d past)) refl
     where
-      by : (r : Found) → best (addr_trial d) choices ≡ r → addr_answer d ≡ addr_refused NoValidLayout
-      by Nothing e = answers Nothing e
-      by (At c s) e = absurd (none (λ k. gpio_at (addr_listed d) c k) _ _ (by_numbers.makes_one c) (best-laid c s e).fit)
+      by : (r : Found) → best (addr_trial d) (choices d past) ≡ r → addr_answer d ≡ addr_refused NoValidLayout
+      by Nothing e = answers d past Nothing e
+      by (At c s) e = absurd (none (λ k. gpio_at (addr_listed d) c k) _ _ ((by_numbers d past).makes_one c) (best-laid d past c s e).fit)
 
   -- of two best choices neither is the earlier: that one scores higher than the other, which does not score lower
   not_earlier : (b c : ℕ) (l m : AddrLayout) → FoundBest d b l → FoundBest d c m → b < c → ⊥
   not_earlier b c l m x y h =
       let higher = y.earliest b l.gpio_base l.num_addr_pins h x.fit in
-      let lowest = x.lowest (λ k. gpio_at (addr_listed d) c k) m.gpio_base m.num_addr_pins (by_numbers.makes_one c) y.fit in
+      let lowest = x.lowest (λ k. gpio_at (addr_listed d) c k) m.gpio_base m.num_addr_pins ((by_numbers d past).makes_one c) y.fit in
       omega arith
 
   one-best : (b c : ℕ) (l m : AddrLayout) → FoundBest d b l → FoundBest d c m → l ≡ m
@@ -115,7 +62,7 @@ module _ (d : Description) (past : PastTests d) where
 
   pub addr_demand : AddrDemand d
   addr_demand = record {
-    numbers = by_numbers;
+    numbers = by_numbers d past;
     some-found = some-found;
     found-best = found;
     one-best = one-best;

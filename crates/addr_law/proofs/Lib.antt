@@ -1,4 +1,5 @@
 pub mod Fit
 pub mod Sound
 pub mod InDomain
+pub mod Best
 pub mod Law

@@ -9,4 +9,5 @@ pub mod Sound
 pub mod Selects
 pub mod Qualifiers
 pub mod Window
+pub mod Best
 pub mod Law

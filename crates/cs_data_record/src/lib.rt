@@ -6,9 +6,9 @@ ghost use Rattle.std.specs.Prelude.{◌≡◌, ◌++◌, ◌+◌, ◌≤◌, len
 ghost use Rattle.cs_data_record.specs.CsDataRecord.{cs_data_size, ignore_byte, qualifier_bytes, cs_data_head, cs_data_bytes, ignore_of, line_from, lines_from, qualifiers_at, cs_data_at, cs_data_formed};
 ghost use Rattle.cs_data_record.specs.Design.Pairs.{pairs_of};
 
-use laid_bytes::copy;
 use cs_data_layout::layout::{CsDataLayout, IgnoreIndex, Qualifiers, SelectLine};
 use fields::sixteen_at;
+use laid_bytes::copy;
 use lists::array::entry;
 
 // Bytes of a record.

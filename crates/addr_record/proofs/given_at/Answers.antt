@@ -9,7 +9,6 @@ use Rattle.addr_record.specs.AddrRecord.{layout_at}
 use Rattle.addr_record.proofs.Long.{given_long}
 use Rattle.addr_record.proofs.given_at.Goals as goal
 
-
 no_bytes : (b : List ℕ) → length b ≡ 0 → layout_at [] ≡ layout_at b
 no_bytes [] e = refl
 no_bytes (x ∷ b) e = absurd (omega arith)

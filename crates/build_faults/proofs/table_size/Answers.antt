@@ -7,7 +7,6 @@ use Rattle.lists.proofs.Shifts.{shifted_one}
 use Rattle.lists.proofs.Clauses.{with_bound}
 use Rattle.build_faults.proofs.table_size.Goals as goal
 
-
 -- words of at most two bytes
 doubled : (x w : ℕ) → x ≤ 2 ^ 31 → w ≤ 2 → x * w ≤ 2 ^ 32
 doubled x zero h l = omega arith

@@ -8,7 +8,6 @@ use Rattle.lists.proofs.Loops.{zero_one}
 use Rattle.build_args.specs.Faults.{table_size}
 use Rattle.build_faults.proofs.too_large.Goals as goal
 
-
 -- 32 pins or more: 2^32 entries or more
 wide : (pins w l : ℕ) → 31 < pins → 1 ≤ w → l ≤ 2 ^ 20 → l < 2 ^ pins * w
 wide pins zero l h p q = absurd (omega arith)

@@ -14,7 +14,6 @@ use Rattle.round_trip.specs.Stored.{stored_of}
 use Rattle.round_trip.specs.Chain.{trip, trip_read, read_of}
 use Rattle.four_calls.proofs.read_table.Goals as goal
 
-
 module _ (order : ByteOrder) (b : BuildArgs) (table output marks : List ℕ) where
   abbrev size : ℕ
   size = table_size b.description b.addr

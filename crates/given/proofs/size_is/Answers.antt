@@ -9,7 +9,6 @@ use borrow.Author.Tests.{ne_eqb}
 use Rattle.lists.proofs.Shifts.{shifted_one}
 use Rattle.given.proofs.size_is.Goals as goal
 
-
 -- 32 pins and more have more entries than a size can say
 large : (size p w : ℕ) → size < 2 ^ 32 → 32 ≤ p → 1 ≤ w → size ≡ 2 ^ p * w → ⊥
 large size p w s l h e = omega (arith, mul-le-mul (pow_mono {i = 32} {j = p} l) h, s, e)

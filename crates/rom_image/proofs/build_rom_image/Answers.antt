@@ -17,7 +17,6 @@ use Rattle.rom_image.specs.Build.{pad_byte, Built, built, build_after, build_of}
 use Rattle.refusal.specs.declared.Answer.{Answer}
 use Rattle.rom_image.proofs.build_rom_image.Goals as goal
 
-
 was : (b t : Bool) → not b ≡ t → b ≡ not t
 was true true n = sym n
 was true false n = refl

@@ -9,7 +9,6 @@ use Rattle.cs_data_layout.specs.Choices.{num_data}
 use Rattle.premises.specs.Wired.{apart}
 use Rattle.wired.proofs.data_apart.Goals as goal
 
-
 from_0 : (n : ℕ) (l : List ℕ) → apart n (λ k. get_or l (0 + k) 0) ≡ apart n (λ k. get_or l k 0)
 from_0 n l = let e : (k : ℕ) → 0 + k ≡ k = λ k. omega arith in λ i. apart n (λ k. get_or l (e k i) 0)
 
