@@ -63,11 +63,28 @@ fn ready(place: PathBuf) -> PathBuf {
     place
 }
 
+/// The folders that the library is made from. What `rt` makes stands beside them, in out/, and is none of them.
+fn sources(root: &Path) -> Vec<PathBuf> {
+    let crates = root.join("crates");
+    let folders =
+        fs::read_dir(&crates).unwrap_or_else(|why| stop(&format!("{}: {why}", crates.display())));
+    let parts = ["src", "specs", "proofs"];
+    folders
+        .flatten()
+        .flat_map(|one| parts.map(|part| one.path().join(part)))
+        .filter(|folder| folder.is_dir())
+        .collect()
+}
+
 /// The archive of the library, proved and built from the sources below `root`. `rt` proves what it
 /// stands on first, and none again that has not changed.
 fn built(root: &Path) -> PathBuf {
-    for sources in ["crates.txt", "crates"] {
-        println!("cargo:rerun-if-changed={}", root.join(sources).display());
+    println!(
+        "cargo:rerun-if-changed={}",
+        root.join("crates.txt").display()
+    );
+    for sources in sources(root) {
+        println!("cargo:rerun-if-changed={}", sources.display());
     }
     let folder = root.join("crates").join(EXPORTS);
     prove(&folder);
