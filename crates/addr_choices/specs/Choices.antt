@@ -1,13 +1,11 @@
 -- addr_layout.rs: what a choice spans, and its score. Assumes nothing.
-use Rattle.std.specs.Prelude.{ℕ, zero, suc, ◌+◌, ◌-◌, ◌*◌, Bool, ◌||◌, cond, List, leb, ltb, length}
+use Rattle.std.specs.Prelude.{ℕ, zero, suc, ◌+◌, ◌-◌, ◌*◌, Bool, ◌||◌, cond, List, leb, ltb, length, Option, Some, None}
 use Rattle.gpio.specs.Window.{fits}
 use Rattle.gpio.specs.Span.{widened}
 use Rattle.gpio.specs.declared.span.Span.{Span}
 use Rattle.slot.specs.declared.description.Description.{Description}
 use Rattle.listing.specs.Choice.{gpio_at}
 use Rattle.listing.specs.declared.Listed.{Listed}
-use Rattle.search.specs.declared.Trial.{Trial}
-use Rattle.search.specs.declared.Trial.TheVariants.{Misfit, Score}
 use Rattle.addr_lines.specs.Lines.{lines, addr_listed}
 use Rattle.addr_lines.specs.Range.{in_range}
 use Rattle.select_span.specs.Selects.{fixed_span}
@@ -40,9 +38,9 @@ padded_pins s = cond (ltb 8 (span_width s)) (span_width s) 8
 -- 01 gpio_window 1: a choice fits if one window holds its pins, counted from its base
 -- 01 addr_layout 9: the base of a choice is the lowest of the GPIOs that it spans
 -- 01 addr_layout 10: a choice scores 1000 for each pin, and its base on top
-unfoldable pub span_trial : Span → Trial
-span_trial s = cond (fits s.low (padded_pins s)) (Score (padded_pins s * 1000 + s.low)) Misfit
+unfoldable pub span_trial : Span → Option ℕ
+span_trial s = cond (fits s.low (padded_pins s)) (Some (padded_pins s * 1000 + s.low)) None
 
 -- what choice c of a description comes to
-abbrev pub addr_trial : Description → ℕ → Trial
+abbrev pub addr_trial : Description → ℕ → Option ℕ
 addr_trial d c = span_trial (choice_span (addr_listed d) (spanning_of d) c)

@@ -1,15 +1,14 @@
 // The address search's choices of candidates: the GPIOs that one spans, its score, and which choice is the best.
 #![tactic(auto)]
 
-ghost use Rattle.std.specs.Prelude.{◌≡◌, true, cond, ◌+◌, ◌^◌, ◌≤◌, get_or, take};
-ghost use Rattle.lists.specs.Tab.{tab};
+ghost use Rattle.std.specs.Prelude.{◌≡◌, cond, ◌^◌, ◌≤◌};
 ghost use Rattle.gpio.specs.Span.{widened};
 ghost use Rattle.gpio.specs.Design.Span.{spans_joined};
 ghost use Rattle.listing.specs.Design.Packed.{list_of};
-ghost use Rattle.search.specs.Search.{best};
-ghost use Rattle.search.specs.Design.Rows.{best_onward};
+ghost use Rattle.search.specs.Search.{better_of, best};
 ghost use Rattle.addr_choices.specs.Choices.{spanning_of, choice_span, span_width, padded_pins, span_trial};
-ghost use Rattle.addr_choices.specs.Design.Parts.{part_span, past_spans};
+ghost use Rattle.addr_choices.specs.Design.Parts.{part_span};
+ghost use Rattle.addr_choices.specs.Design.Laws.{row-passes};
 
 use addr_lines::num_lines;
 use addr_lines::range::in_range;
@@ -17,7 +16,8 @@ use gpio::span::Span;
 use gpio::window::Window;
 use listing::Listing;
 use listing::choice::{in_part, pick};
-use search::{Found, Trial, better, row_bits};
+use search::rows::{InRows, in_rows};
+use search::{Found, better};
 use select_span::fixed_span;
 use slot::description::Description;
 
@@ -58,8 +58,7 @@ fn part_span(l: Listing, every: Spanning, low: bool, split: u32, choice: u32) ->
     let mut s = every.fixed;
     let mut rest = choice;
     let mut bit: u32 = 0;
-    let mut k: usize = 0;
-    while k < count {
+    for k in 0..count {
         let packed = l.pins[k];
         let pin = packed.listed();
         let gpios = pin.gpios;
@@ -68,7 +67,6 @@ fn part_span(l: Listing, every: Spanning, low: bool, split: u32, choice: u32) ->
         s = widen_if(s, counts & in_part(low, split, bit), picked.gpio);
         rest = picked.rest;
         bit += listing::bits(pin);
-        k += 1;
     }
     s
 }
@@ -91,64 +89,55 @@ pub fn pins(s: Span) -> u32
 }
 
 // The score of a choice with a span, if one window holds it.
-fn trial(s: Span) -> Trial
+fn trial(s: Span) -> Option<u32>
     ensures { result ≡ span_trial s }
 {
     let n = pins(s);
     if 48 < n {
-        return Trial::Misfit;
+        return None;
     }
     if Window::fits(s.low, n as u8) {
-        return Trial::Score(n * 1000 + s.low as u32);
+        return Some(n * 1000 + s.low as u32);
     }
-    Trial::Misfit
+    None
 }
 
-// The spans of the bits below `split`.
-fn low_spans(l: Listing, every: Spanning, split: u32) -> [Span; 64]
-    requires { (l.count ≤ 30) × (split ≤ 6) }
-    ensures { take (2 ^ split) result ≡ tab (2 ^ split) (λ q. part_span (list_of l) every true split q) }
-{
-    let count = 1usize << split;
-    let mut out = [Span::empty(); 64];
-    let mut q: usize = 0;
-    while q < count {
-        out[q] = part_span(l, every, true, split, q as u32);
-        q += 1;
-    }
-    out
+// The search for the best choice.
+#[derive(Drop)]
+struct Search {
+    every: Spanning,
+    list: Listing,
 }
 
-// The better of what was found and of a row of choices from `first` on.
-fn best_in_row(before: Found, lows: [Span; 64], high: Span, first: u32, len: u32) -> Found
-    requires { (len ≤ 64) × (first + len ≤ 65536) }
-    ensures { result ≡ best_onward before (λ q. span_trial (spans_joined (get_or lows q past_spans) high)) first len }
-{
-    let mut found = before;
-    let mut q: u32 = 0;
-    while q < len {
-        let low = lows[q as usize];
-        found = better(found, first + q, trial(low.join(high)));
-        q += 1;
+impl InRows for Search {
+    type Part = Span;
+
+    type State = Option<Found>;
+
+    ghost formed = { λ s. s.list.count ≤ 30 };
+
+    ghost part_of = { λ s low split c. part_span (list_of s.list) s.every low split c };
+
+    ghost stepped = { λ s before c low high. better_of before c (span_trial (spans_joined low high)) };
+
+    ghost after = { λ s k. best (λ c. span_trial (choice_span (list_of s.list) s.every c)) k };
+
+    fn part(&self, low: bool, split: u32, choice: u32) -> Span {
+        part_span(self.list, self.every, low, split, choice)
     }
-    found
+
+    fn step(&self, before: Option<Found>, choice: u32, low: Span, high: Span) -> Option<Found> {
+        better(before, choice, trial(low.join(high)))
+    }
+
+    ghost passes = { λ s k row q f l. row-passes (list_of s.list) s.every k row q l };
 }
 
 // The best of the choices that `bits` two-candidate pins leave.
-pub fn best(every: Spanning, l: Listing, bits: u32) -> Found
+pub fn best(every: Spanning, l: Listing, bits: u32) -> Option<Found>
     requires { (l.count ≤ 30) × (bits ≤ 16) }
     ensures { result ≡ best (λ c. span_trial (choice_span (list_of l) every c)) (2 ^ bits) }
 {
-    let split = row_bits(bits);
-    let lows = low_spans(l, every, split);
-    let rows = 1u32 << (bits - split);
-    let mut found = Found::Nothing;
-    let mut row: u32 = 0;
-    while row < rows {
-        let first = row << split;
-        let high = part_span(l, every, false, split, first);
-        found = best_in_row(found, lows, high, first, 1 << split);
-        row += 1;
-    }
-    found
+    let mut lows = [Span::empty(); 64];
+    in_rows(&Search { every, list: l }, &mut lows, bits, None)
 }

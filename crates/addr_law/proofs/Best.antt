@@ -1,4 +1,5 @@
 -- The layout of the best choice of the address search. Assumes nothing.
+use Rattle.std.specs.Prelude.{Option, Some, Result, Ok, Err}
 use mathlib.Core.Path.{◌≡◌, refl, ◌∙◌, ap}
 use mathlib.Core.Bool.{true}
 use Prim.Native.Nat.{ℕ, ◌^◌, ◌<◌}
@@ -12,24 +13,21 @@ use Rattle.listing.specs.Choice.{gpio_at}
 use Rattle.listing.specs.Law.{Assigned, Numbers}
 use Rattle.listing.specs.Listing.{twos}
 use Rattle.listing.proofs.Numbers.{numbers}
-use Rattle.search.specs.Search.{best}
-use Rattle.search.specs.declared.Trial.TheVariants.{Score}
+use Rattle.search.specs.Search.{At, best}
 use Rattle.search.specs.declared.Found.{Found}
-use Rattle.search.specs.declared.Found.TheVariants.{At}
 use Rattle.search.proofs.Law.{found-best}
 use Rattle.addr_lines.specs.Lines.{addr_listed}
 use Rattle.addr_choices.specs.Choices.{addr_trial}
 use Rattle.addr_layout.specs.Layouts.{addr_layout_of}
 use Rattle.addr_layout.specs.Search.{addr_best, addr_answer_of, addr_answer}
-use Rattle.addr_layout.specs.declared.layout.AddrOutcome.TheVariants.{LaidOut, Refused}
-use Rattle.addr_layout.specs.declared.layout.AddrAnswer.{AddrAnswer}
+use Rattle.addr_layout.specs.declared.layout.AddrLayout.{AddrLayout}
 use Rattle.addr_law.specs.Law.{PastTests, Fit, score_of, FoundBest}
 use Rattle.addr_law.proofs.Fit.{fits_too, scores_fit, fit_scores}
 use Rattle.addr_law.proofs.InDomain.{listed_in}
 use Rattle.addr_law.proofs.Sound.{sound-layout}
 
-pub refused_not_laid : (why : Refusal) → Refused why ≡ LaidOut → ⊥
-refused_not_laid why e = zero_one cc
+pub refused_not_laid : (why : Refusal) (l : AddrLayout) → ◌≡◌ {A = Result AddrLayout Refusal} (Err why) (Ok l) → ⊥
+refused_not_laid why l e = zero_one cc
 
 module _ (d : Description) (past : PastTests d) where
   abbrev pub choices : ℕ
@@ -43,19 +41,16 @@ module _ (d : Description) (past : PastTests d) where
 
   -- a choice of candidates that fits is a number that scores
   pub number_of_lem : (pick : ℕ → ℕ) (base pins : ℕ) → Assigned (addr_listed d) pick → Fit d pick base pins
-      → (c : ℕ) × (c < choices) × (addr_trial d c ≡ Score (score_of base pins))
+      → (c : ℕ) × (c < choices) × (addr_trial d c ≡ Some (score_of base pins))
   number_of_lem pick base pins a f =
       let (c, l, m) = by_numbers.made pick a in
       (c, l, fit_scores d c base pins (fits_too d pick (λ k. gpio_at (addr_listed d) c k) m base pins f))
 
-  pub answers : (f : Found) → best (addr_trial d) choices ≡ f → addr_answer d ≡ addr_answer_of d f
+  pub answers : (f : Option Found) → best (addr_trial d) choices ≡ f → addr_answer d ≡ addr_answer_of d f
   unfolding addr_best
   answers f e =
       let searched : addr_answer d ≡ addr_answer_of d (addr_best d) = rw (past.domain, past.no_fault) in
       searched ∙ ap (addr_answer_of d) e
-
-  pub outcome_is : (f : Found) → best (addr_trial d) choices ≡ f → (addr_answer d).outcome ≡ (addr_answer_of d f).outcome
-  outcome_is f e = ap (λ (r : AddrAnswer). r.outcome) (answers f e)
 
   -- the layout of the best choice
   pub best-laid : (c s : ℕ) → best (addr_trial d) choices ≡ At c s → FoundBest d c (addr_layout_of d (addr_listed d) c)

@@ -1,4 +1,5 @@
 -- What a choice spans comes to a base and pins as the law has them, and scores by them. Assumes nothing.
+use Rattle.std.specs.Prelude.{Option, Some, None}
 use mathlib.Core.Path.{◌≡◌, refl, sym, ◌∙◌, ap, subst}
 use mathlib.Core.Bool.{Bool, true, false, cond}
 use mathlib.Core.Logic.{◌⊎◌, inl, inr}
@@ -19,8 +20,6 @@ use Rattle.gpio.proofs.Spans.{least_both, most_both}
 use Rattle.slot.specs.Description.{is_multi}
 use Rattle.slot.specs.declared.description.Description.{Description}
 use Rattle.listing.specs.Choice.{gpio_at}
-use Rattle.search.specs.declared.Trial.{Trial}
-use Rattle.search.specs.declared.Trial.TheVariants.{Misfit, Score}
 use Rattle.addr_lines.specs.Lines.{addr_listed}
 use Rattle.select_span.specs.Selects.{widened_first, kind_candidates, select_span, fixed_span}
 use Rattle.addr_choices.specs.Choices.{spanning_of, spanned, span_up_to, choice_span, span_width, padded_pins, span_trial, addr_trial}
@@ -107,10 +106,10 @@ tight_by P s true l p = inr (subst P (omega arith) p)
 tight_by P s false l p = inl refl
 
 -- what a base and pins come to
-abbrev trial_by : ℕ → ℕ → Trial
-trial_by base pins = cond (fits base pins) (Score (score_of base pins)) Misfit
+abbrev trial_by : ℕ → ℕ → Option ℕ
+trial_by base pins = cond (fits base pins) (Some (score_of base pins)) None
 
-scored : (base pins s : ℕ) (t : Bool) → fits base pins ≡ t → cond t (Score (score_of base pins)) Misfit ≡ Score s → (fits base pins ≡ true) × (s ≡ score_of base pins)
+scored : (base pins s : ℕ) (t : Bool) → fits base pins ≡ t → cond t (Some (score_of base pins)) None ≡ Some s → (fits base pins ≡ true) × (s ≡ score_of base pins)
 scored base pins s true e h = (e, cc)
 scored base pins s false e h = absurd (zero_one cc)
 
@@ -228,13 +227,13 @@ module _ (d : Description) (c : ℕ) where
       }
 
   -- a choice that scores fits, and one that fits scores
-  pub scores_fit : (t : ℕ) → addr_trial d c ≡ Score t → Fit d pick span.low (padded_pins span) × (t ≡ score_of span.low (padded_pins span))
+  pub scores_fit : (t : ℕ) → addr_trial d c ≡ Some t → Fit d pick span.low (padded_pins span) × (t ≡ score_of span.low (padded_pins span))
   unfolding span_trial
   scores_fit t e =
       let (w, s) = scored span.low (padded_pins span) t (fits span.low (padded_pins span)) refl e in
       (record { extent = extent (omega (arith, fits-within span.low (padded_pins span) w)); window = w }, s)
 
-  pub fit_scores : (base pins : ℕ) → Fit d pick base pins → addr_trial d c ≡ Score (score_of base pins)
+  pub fit_scores : (base pins : ℕ) → Fit d pick base pins → addr_trial d c ≡ Some (score_of base pins)
   unfolding span_trial
   fit_scores base pins f =
       let low = (within base f.extent.attained).0 in

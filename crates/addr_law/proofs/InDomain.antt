@@ -1,4 +1,5 @@
 -- In a description of the domain the candidates of the pins that the address search lists are GPIOs of the RP2350. Assumes nothing.
+use Rattle.std.specs.Prelude.{Option, Some, None}
 use mathlib.Core.Path.{◌≡◌, refl}
 use mathlib.Core.Bool.{Bool, true, false, not, cond}
 use Prim.Native.Nat.{ℕ, ◌+◌}
@@ -9,8 +10,6 @@ use Rattle.gpio.specs.Candidates.{candidates_in}
 use Rattle.gpio.specs.declared.candidates.Candidates.TheVariants.{Absent}
 use Rattle.slot.specs.Description.{is_single, chip0}
 use Rattle.slot.specs.declared.description.Description.{Description}
-use Rattle.slot.specs.declared.slot_context.Socket.{Socket}
-use Rattle.slot.specs.declared.slot_context.Socket.TheVariants.{On, Off}
 use Rattle.refusal.specs.declared.Refusal.TheVariants.{NoValidLayout}
 use Rattle.domain.specs.Domain.{description_in}
 use Rattle.domain.proofs.Bounds.{description_in_lem}
@@ -30,9 +29,9 @@ either_in false a b p q = q
 
 module _ (d : Description) (e : description_in d ≡ true) where
   -- a line on the socket, and one off it
-  at_in : (n : ℕ) (o : Socket) → candidates_in (socket_candidates d.board o) ≡ true → In (at_socket d n o)
-  at_in n (On s) h = h
-  at_in n Off h =
+  at_in : (n : ℕ) (o : Option ℕ) → candidates_in (socket_candidates d.board o) ≡ true → In (at_socket d n o)
+  at_in n (Some s) h = h
+  at_in n None h =
       let board = (description_in_lem d e).board in
       let none = listed Absent NoValidLayout in
       let second = either_in (eqb (off_before d n) 1) (x_listed d.board 2) none board.x2 refl in

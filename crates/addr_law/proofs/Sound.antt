@@ -1,4 +1,5 @@
 -- What the fields of the layout of a choice that fits keep. Assumes nothing.
+use Rattle.std.specs.Prelude.{Option, Some}
 use mathlib.Core.Path.{◌≡◌, refl, sym, ◌∙◌, ap}
 use mathlib.Core.Bool.{Bool, true, false, cond, not}
 use mathlib.Core.List.{List, ◌++◌}
@@ -13,8 +14,6 @@ use Rattle.lists.specs.Tab.{tab}
 use Rattle.lists.proofs.Tab.{tab-length, get_or-tab}
 use Rattle.gpio.specs.declared.candidates.Candidates.{Candidates}
 use Rattle.gpio.specs.declared.candidates.Candidates.TheVariants.{Absent}
-use Rattle.gpio.specs.declared.line.LineGpio.{LineGpio}
-use Rattle.gpio.specs.declared.line.LineGpio.TheVariants.{At}
 use Rattle.slot.specs.Description.{is_single}
 use Rattle.slot.specs.declared.description.Description.{Description}
 use Rattle.refusal.specs.declared.Refusal.TheVariants.{OutOfDomain}
@@ -81,7 +80,7 @@ module _ (d : Description) (c : ℕ) (e : description_in d ≡ true)
   line-spanned n l = of_pin n (omega (arith, listed-length, few)) (rw (lt-ltb n (in_range d) l)) refl
 
   -- an X pin behind the lines
-  x_laid : (k : ℕ) (x : Candidates) (used : LineGpio) → k < length xs → pin_at xs k ≡ x → used ≡ At (gpio_at (addr_listed d) c (lines d + k)) → XLaid laid x used
+  x_laid : (k : ℕ) (x : Candidates) (used : Option ℕ) → k < length xs → pin_at xs k ≡ x → used ≡ Some (gpio_at (addr_listed d) c (lines d + k)) → XLaid laid x used
   x_laid k x used l p u =
       let past : in_range d ≤ lines d + k = omega (arith, few) in
       let from : lines d ≤ lines d + k = omega arith in

@@ -1,5 +1,5 @@
 -- Demand 2's law of the address search, and what a found layout keeps. Assumes nothing.
-use Rattle.std.specs.Prelude.{◌≡◌, true, false, ◌⊎◌, ℕ, ◌+◌, ◌-◌, ◌*◌, ◌^◌, ◌≤◌, ◌<◌, length, get_or}
+use Rattle.std.specs.Prelude.{◌≡◌, true, false, ◌⊎◌, ℕ, ◌+◌, ◌-◌, ◌*◌, ◌^◌, ◌≤◌, ◌<◌, length, get_or, Option, Some, None, Ok, Err}
 use Rattle.gpio.specs.Window.{fits}
 use Rattle.gpio.specs.declared.candidates.Candidates.{Candidates}
 use Rattle.gpio.specs.declared.candidates.Candidates.TheVariants.{Absent, One, Two}
@@ -9,18 +9,13 @@ use Rattle.listing.specs.Listing.{twos, first_fault}
 use Rattle.listing.specs.Choice.{CandidateOf, gpio_at}
 use Rattle.listing.specs.Law.{Assigned, Numbers}
 use Rattle.refusal.specs.declared.Refusal.TheVariants.{NoValidLayout}
-use Rattle.refusal.specs.declared.first.FirstFault.TheVariants.{None}
 use Rattle.addr_lines.specs.Lines.{line_listed, addr_listed}
 use Rattle.addr_lines.specs.Range.{in_range}
 use Rattle.select_span.specs.Selects.{kind_candidates}
 use Rattle.addr_choices.specs.Choices.{spanning_of, spanned}
-use Rattle.addr_layout.specs.Layout.{addr_refused}
 use Rattle.addr_layout.specs.Layouts.{addr_layout_of}
 use Rattle.addr_layout.specs.Search.{addr_search_in, addr_answer}
-use Rattle.gpio.specs.declared.line.LineGpio.{LineGpio}
-use Rattle.gpio.specs.declared.line.LineGpio.TheVariants.{At}
 use Rattle.addr_layout.specs.declared.layout.AddrLayout.{AddrLayout}
-use Rattle.addr_layout.specs.declared.layout.AddrOutcome.TheVariants.{LaidOut}
 
 -- 00 Demand 2: the tests before the search are past: the description is in the domain, and every listed pin has a candidate
 pub record PastTests (d : Description) : Type 0 where
@@ -62,8 +57,8 @@ abbrev pub InWindow : AddrLayout → ℕ → Type 0
 InWindow l g = (l.gpio_base ≤ g) × (g < l.gpio_base + l.num_addr_pins)
 
 -- the GPIO of an X pin that picks: a candidate of the pin, in the window
-abbrev pub XLaid : AddrLayout → Candidates → LineGpio → Type 0
-XLaid l x used = (g : ℕ) × (used ≡ At g) × CandidateOf x g × InWindow l g
+abbrev pub XLaid : AddrLayout → Candidates → Option ℕ → Type 0
+XLaid l x used = (g : ℕ) × (used ≡ Some g) × CandidateOf x g × InWindow l g
 
 -- what a found layout's own fields keep, l being the layout of choice c
 pub record SoundLayout (d : Description) (c : ℕ) (l : AddrLayout) : Type 0 where
@@ -104,10 +99,10 @@ pub record AddrDemand (d : Description) : Type 0 where
   -- choices of candidates go by their numbers
   pub numbers : Numbers (addr_listed d)
   pub some-found : (pick : ℕ → ℕ) (base pins : ℕ) → Assigned (addr_listed d) pick → Fit d pick base pins
-      → (addr_answer d).outcome ≡ LaidOut
-  pub found-best : (addr_answer d).outcome ≡ LaidOut → (c : ℕ) × FoundBest d c (addr_answer d).layout
+      → (l : AddrLayout) × (addr_answer d ≡ Ok l)
+  pub found-best : (l : AddrLayout) → addr_answer d ≡ Ok l → (c : ℕ) × FoundBest d c l
   -- there is one such layout, so that a law which said less would not do
   pub one-best : (b c : ℕ) (l m : AddrLayout) → FoundBest d b l → FoundBest d c m → l ≡ m
   -- 01 Number 9: the answer is 9 exactly if no choice fits
-  pub none-nine : NoneFits d → addr_answer d ≡ addr_refused NoValidLayout
-  pub nine-none : addr_answer d ≡ addr_refused NoValidLayout → NoneFits d
+  pub none-nine : NoneFits d → addr_answer d ≡ Err NoValidLayout
+  pub nine-none : addr_answer d ≡ Err NoValidLayout → NoneFits d

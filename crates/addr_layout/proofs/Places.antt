@@ -1,4 +1,6 @@
 -- Each refusal of the address search is one of document 01's rows, with a place of 48 bits. Assumes nothing.
+use Rattle.std.specs.Prelude.{Option, Some, None, Err}
+use Rattle.refusal.specs.declared.Refusal.{Refusal}
 use mathlib.Core.Path.{◌≡◌, refl}
 use mathlib.Core.Bool.{Bool, true, false, not, ◌&&◌, cond}
 use Prim.Native.Nat.{ℕ, ◌+◌, ◌-◌}
@@ -13,10 +15,7 @@ use Rattle.slot.specs.Description.{is_single, chip0}
 use Rattle.slot.specs.SlotContext.{raised_of}
 use Rattle.slot.specs.declared.description.Board.{Board}
 use Rattle.slot.specs.declared.description.Description.{Description}
-use Rattle.slot.specs.declared.slot_context.Socket.TheVariants.{On, Off}
 use Rattle.refusal.specs.declared.Refusal.TheVariants.{OutOfDomain, NoValidLayout}
-use Rattle.refusal.specs.declared.first.FirstFault.{FirstFault}
-use Rattle.refusal.specs.declared.first.FirstFault.TheVariants.{None, Of}
 use Rattle.refusal.proofs.Places.{FirstRows, FirstRow, Small}
 use Rattle.domain.specs.Domain.{description_in}
 use Rattle.domain.proofs.Bounds.{description_in_lem}
@@ -24,9 +23,8 @@ use Rattle.listing.specs.Listing.{listed, x_listed, x_pins, first_fault}
 use Rattle.listing.proofs.InDomain.{pins-fit}
 use Rattle.listing.proofs.Places.{Placed, placed-append, placed-tab, placed_x, small-fault}
 use Rattle.search.specs.declared.Found.{Found}
-use Rattle.search.specs.declared.Found.TheVariants.{Nothing, At}
 use Rattle.addr_lines.specs.Lines.{first_pin, lines, line_socket, off_before, fly_lead, at_socket, line_listed, addr_listed}
-use Rattle.addr_layout.specs.Layout.{addr_refused, addr_code}
+use Rattle.addr_layout.specs.Layout.{addr_code}
 use Rattle.addr_layout.specs.Search.{addr_search_in, addr_best, addr_answer_of, after_faults, addr_answer}
 
 -- off the socket: an X pin, or no layout
@@ -41,7 +39,7 @@ over_placed b before false = omega arith
 
 module _ (d : Description) (e : description_in d ≡ true) where
   -- on the socket by the test t: one of its pins
-  on-placed : (n s : ℕ) (t : Bool) → leb 1 s && leb s d.board.pins ≡ t → FirstRow (at_socket d n (cond t (On s) Off)).fault
+  on-placed : (n s : ℕ) (t : Bool) → leb 1 s && leb s d.board.pins ≡ t → FirstRow (at_socket d n (cond t (Some s) None)).fault
   on-placed n s true h =
       omega (arith, pins-fit d.board.pins (description_in_lem d e).board.pins, leb-true s d.board.pins (and_right (leb 1 s) _ h))
   on-placed n s false h = over_placed d.board (off_before d n) (is_single d.set_type)
@@ -58,18 +56,18 @@ module _ (d : Description) (e : description_in d ≡ true) where
       (placed_x d.board (not (is_single d.set_type)) (leb 3 d.num_chips))
 
 module _ (d : Description) where
-  found-place : (x : Found) → FirstRows (addr_code (addr_answer_of d x).outcome)
-  found-place Nothing = omega arith
-  found-place (At c s) = omega arith
+  found-place : (x : Option Found) → FirstRows (addr_code (addr_answer_of d x))
+  found-place None = omega arith
+  found-place (Some f) = omega arith
 
-  after_place : (f : FirstFault) → Small f → FirstRows (addr_code (after_faults d f).outcome)
-  after_place (Of why) h = h
+  after_place : (f : Option Refusal) → Small f → FirstRows (addr_code (after_faults d f))
+  after_place (Some why) h = h
   after_place None h = found-place (addr_best d)
 
   in_place : (t : Bool) → addr_search_in d ≡ t
-      → FirstRows (addr_code (cond t (after_faults d (first_fault (addr_listed d))) (addr_refused OutOfDomain)).outcome)
+      → FirstRows (addr_code (cond t (after_faults d (first_fault (addr_listed d))) (Err OutOfDomain)))
   in_place true e = after_place (first_fault (addr_listed d)) (small-fault (addr_listed d) (listed-placed d (and_left (description_in d) _ e)))
   in_place false e = omega arith
 
-  pub addr-place : FirstRows (addr_code (addr_answer d).outcome)
+  pub addr-place : FirstRows (addr_code (addr_answer d))
   addr-place = in_place (addr_search_in d) refl

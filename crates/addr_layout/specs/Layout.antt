@@ -1,34 +1,27 @@
--- The address layout of a refused call, and the domain of a layout handed in. Assumes nothing.
-use Rattle.std.specs.Prelude.{ℕ, ◌+◌, Bool, ◌&&◌, leb, get_or, replicate}
+-- The address layout of a call that has none, and the domain of a layout handed in. Assumes nothing.
+use Rattle.std.specs.Prelude.{ℕ, ◌+◌, Bool, ◌&&◌, leb, get_or, replicate, None, Result, Ok, Err}
 use Rattle.lists.specs.Each.{each, between}
 use Rattle.gpio.specs.Candidates.{gpio_in, last_gpio}
 use Rattle.gpio.specs.Line.{line_gpio_in}
 use Rattle.refusal.specs.Refusal.{Code, success, refusal_code}
 use Rattle.refusal.specs.declared.Refusal.{Refusal}
-use Rattle.gpio.specs.declared.line.LineGpio.TheVariants.{Unused}
 use Rattle.addr_layout.specs.declared.layout.AddrLayout.{AddrLayout}
-use Rattle.addr_layout.specs.declared.layout.AddrOutcome.{AddrOutcome}
-use Rattle.addr_layout.specs.declared.layout.AddrOutcome.TheVariants.{LaidOut, Refused}
-use Rattle.addr_layout.specs.declared.layout.AddrAnswer.{AddrAnswer}
 
 abbrev pub no_layout : AddrLayout
 no_layout = record {
   gpio_base = 0;
   num_addr_pins = 0;
-  x1_gpio = Unused;
-  x2_gpio = Unused;
+  x1_gpio = None;
+  x2_gpio = None;
   gpios = replicate 24 0;
   num_lines = 0;
   num_excess = 0;
 }
 
-abbrev pub addr_refused : Refusal → AddrAnswer
-addr_refused why = record { outcome = Refused why; layout = no_layout }
-
 -- 01 Numbers 1: the code of an address search
-abbrev pub addr_code : AddrOutcome → Code
-addr_code LaidOut = success
-addr_code (Refused why) = refusal_code why
+abbrev pub addr_code : Result AddrLayout Refusal → Code
+addr_code (Ok l) = success
+addr_code (Err why) = refusal_code why
 
 -- 01 Domain 13: all address lines are those in use and the excess ones
 abbrev pub all_lines : AddrLayout → ℕ

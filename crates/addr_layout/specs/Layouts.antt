@@ -1,9 +1,7 @@
 -- addr_layout.rs: the layout that a choice makes. Assumes nothing.
-use Rattle.std.specs.Prelude.{ℕ, ◌+◌, ◌-◌, Bool, not, ◌&&◌, cond, List, leb, ltb}
+use Rattle.std.specs.Prelude.{ℕ, ◌+◌, ◌-◌, Bool, not, ◌&&◌, cond, List, leb, ltb, Option, Some, None}
 use Rattle.lists.specs.Tab.{tab}
 use Rattle.gpio.specs.declared.span.Span.{Span}
-use Rattle.gpio.specs.declared.line.LineGpio.{LineGpio}
-use Rattle.gpio.specs.declared.line.LineGpio.TheVariants.{Unused, At}
 use Rattle.slot.specs.Description.{is_single}
 use Rattle.slot.specs.declared.description.Description.{Description}
 use Rattle.listing.specs.Choice.{gpio_at}
@@ -15,8 +13,8 @@ use Rattle.addr_layout.specs.declared.layout.AddrLayout.{AddrLayout}
 
 -- the X pins that pick a bank or a chip, behind the lines
 -- 01 Shape 4: an X GPIO of a layout is unused, or is at a GPIO
-abbrev pub line_gpio : Bool → ℕ → LineGpio
-line_gpio used g = cond used (At g) Unused
+abbrev pub line_gpio : Bool → ℕ → Option ℕ
+line_gpio used g = cond used (Some g) None
 
 -- the layout of pins resolved to GPIOs, of n lines u in use
 -- 01 addr_layout 2: the lines behind those in use are the excess ones

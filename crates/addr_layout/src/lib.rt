@@ -2,7 +2,7 @@
 // they index is the smallest.
 #![tactic(auto)]
 
-pub mod layout; // the layout, and the search's answer
+pub mod layout; // the layout
 mod layouts; // the layout that a choice makes
 
 ghost use Rattle.std.specs.Prelude.{◌≡◌};
@@ -11,39 +11,37 @@ ghost use Rattle.addr_layout.specs.Design.Laying.{SearchIn};
 
 use addr_choices::{best, every_choice};
 use domain::description::description_in;
-use layout::{AddrAnswer, refused};
+use layout::AddrLayout;
 use listing::Listing;
 use refusal::Refusal;
-use refusal::first::FirstFault;
-use search::Found;
 use slot::description::Description;
 
 // The search over all choices.
-fn search(d: Description, l: Listing, bits: u32) -> AddrAnswer
+fn search(d: Description, l: Listing, bits: u32) -> Result<AddrLayout, Refusal>
     requires { SearchIn d l bits }
     ensures { result ≡ addr_answer_of d (addr_best d) }
 {
     let every = every_choice(d);
     match best(every, l, bits) {
-        Found::Nothing => refused(Refusal::NoValidLayout),
-        Found::At(choice, score) => layouts::laid_out(d, every, l, choice, score),
+        None => Err(Refusal::NoValidLayout),
+        Some(found) => Ok(layouts::laid_out(d, every, l, found)),
     }
 }
 
 // The layout with the lowest score, the earliest choice among equals, or the refusal.
-pub fn derive_addr_layout(d: Description) -> AddrAnswer
+pub fn derive_addr_layout(d: Description) -> Result<AddrLayout, Refusal>
     ensures { result ≡ addr_answer d }
 {
     if !description_in(d) {
-        return refused(Refusal::OutOfDomain);
+        return Err(Refusal::OutOfDomain);
     }
     let l = addr_lines::list(d);
     let bits = listing::choice_bits(l);
     if 16 < bits {
-        return refused(Refusal::OutOfDomain);
+        return Err(Refusal::OutOfDomain);
     }
     match listing::first_fault(l) {
-        FirstFault::Of(fault) => refused(fault),
-        FirstFault::None => search(d, l, bits),
+        Some(fault) => Err(fault),
+        None => search(d, l, bits),
     }
 }

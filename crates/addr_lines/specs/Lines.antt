@@ -1,5 +1,5 @@
 -- addr_layout.rs: the pins that the address search lists. Assumes nothing.
-use Rattle.std.specs.Prelude.{ℕ, ◌+◌, ◌-◌, Bool, true, false, not, cond, List, ◌++◌, leb, eqb, get_or}
+use Rattle.std.specs.Prelude.{ℕ, ◌+◌, ◌-◌, Bool, true, false, not, cond, List, ◌++◌, leb, eqb, get_or, Option, Some, None}
 use Rattle.lists.specs.Each.{tally}
 use Rattle.lists.specs.Tab.{tab}
 use Rattle.gpio.specs.declared.candidates.Candidates.TheVariants.{Absent}
@@ -7,8 +7,6 @@ use Rattle.slot.specs.Description.{is_single, chip0}
 use Rattle.slot.specs.declared.description.Board.{Board}
 use Rattle.slot.specs.declared.description.Description.{Description}
 use Rattle.refusal.specs.declared.Refusal.TheVariants.{NoValidLayout, UnmappedPin}
-use Rattle.slot.specs.declared.slot_context.Socket.{Socket}
-use Rattle.slot.specs.declared.slot_context.Socket.TheVariants.{On, Off}
 use Rattle.listing.specs.Listing.{listed, candidates_at, x_listed, x_pins}
 use Rattle.listing.specs.Lines.{pin_socket}
 use Rattle.listing.specs.declared.Listed.{Listed}
@@ -23,12 +21,12 @@ lines d = (chip0 d).num_address_pins - first_pin d
 
 -- the socket pin under line n, or off the socket
 -- 01 slot_context 2: line n is an address pin of chip 0
-unfoldable pub line_socket : Description → ℕ → Socket
+unfoldable pub line_socket : Description → ℕ → Option ℕ
 line_socket d n = pin_socket d (get_or (chip0 d).address_pins (first_pin d + n) 0)
 
-abbrev pub is_off : Socket → Bool
-is_off (On s) = false
-is_off Off = true
+abbrev pub is_off : Option ℕ → Bool
+is_off (Some s) = false
+is_off None = true
 
 -- the lines before line n that are off the socket
 abbrev pub off_before : Description → ℕ → ℕ
@@ -46,9 +44,9 @@ overhanging d n = cond (is_single d.set_type) (fly_lead d.board (off_before d n)
 
 -- 01 Number 3: the socket pin of a line has no GPIO
 -- 01 addr_layout 4: the pin that 3 comes with is counted on the socket
-abbrev pub at_socket : Description → ℕ → Socket → Listed
-at_socket d n (On s) = listed (candidates_at d.board s) (UnmappedPin s)
-at_socket d n Off = overhanging d n
+abbrev pub at_socket : Description → ℕ → Option ℕ → Listed
+at_socket d n (Some s) = listed (candidates_at d.board s) (UnmappedPin s)
+at_socket d n None = overhanging d n
 
 unfoldable pub line_listed : Description → ℕ → Listed
 line_listed d n = at_socket d n (line_socket d n)

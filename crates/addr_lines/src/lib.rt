@@ -15,7 +15,6 @@ use listing::Listing;
 use listing::packed::{NO_VALID_LAYOUT, Packed, UNMAPPED_PIN, pack};
 use lists::array::entry;
 use slot::description::{Board, Description};
-use slot::slot_context::Socket;
 
 // The address pin of line 0: in 16-bit mode the data side serves address pin 0.
 pub fn first_pin(d: Description) -> u8
@@ -39,7 +38,7 @@ pub fn num_lines(d: Description) -> u8
 }
 
 // The socket pin under the `n`-th address line.
-fn line_socket(d: Description, n: usize) -> Socket
+fn line_socket(d: Description, n: usize) -> Option<u8>
     requires { n ≤ 24 }
     ensures { result ≡ line_socket d n }
 {
@@ -50,13 +49,13 @@ fn line_socket(d: Description, n: usize) -> Socket
 }
 
 // 1 for a line off the socket, else 0.
-fn off(s: Socket) -> u32
+fn off(s: Option<u8>) -> u32
     ensures value { result ≡ count (is_off s) }
     ensures upper_bound { result ≤ 1 }
 {
     match s {
-        Socket::On(_) => 0,
-        Socket::Off => 1,
+        Some(_) => 0,
+        None => 1,
     }
 }
 
@@ -66,10 +65,8 @@ fn off_before(d: Description, n: usize) -> u32
     ensures { result ≡ off_before d n }
 {
     let mut passed: u32 = 0;
-    let mut k: usize = 0;
-    while k < n {
+    for k in 0..n {
         passed += off(line_socket(d, k));
-        k += 1;
     }
     passed
 }
@@ -108,11 +105,11 @@ fn line_listed(d: Description, n: usize) -> Packed
     let board = d.board;
     let s = line_socket(d, n);
     match s {
-        Socket::On(pin) => {
+        Some(pin) => {
             let gpios = listing::candidates_at(board, pin);
             pack(gpios, UNMAPPED_PIN, pin)
         }
-        Socket::Off => overhanging(d, n),
+        None => overhanging(d, n),
     }
 }
 
@@ -123,10 +120,8 @@ fn list_lines(d: Description) -> Listing
     let count = num_lines(d) as usize;
     let none = listing::none();
     let mut pins = none.pins;
-    let mut n: usize = 0;
-    while n < count {
+    for n in 0..count {
         pins[n] = line_listed(d, n);
-        n += 1;
     }
     Listing { pins, count }
 }

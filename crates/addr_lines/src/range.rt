@@ -25,11 +25,9 @@ fn reach(d: Description) -> u8
     let limit = most_entries(d);
     let mut entries: u32 = 1;
     let mut lines: u8 = 0;
-    let mut k: u8 = 0;
-    while k < 20 {
+    for k in 0u8..20 {
         entries = entries * 2;
         lines += one_if(entries <= limit);
-        k += 1;
     }
     lines
 }

@@ -1,16 +1,15 @@
 -- A record that is written is no refused one, and reads back as the layout that it was written from. Assumes nothing.
+use Rattle.std.specs.Prelude.{Option, Some, None, ℕ}
 use mathlib.Core.Path.{◌≡◌, refl}
 use mathlib.Core.Bool.{true}
 use Rattle.lists.specs.Tab.{tab}
 use Rattle.fields.proofs.Parts.{array_is, not_none}
-use Rattle.gpio.specs.declared.line.LineGpio.{LineGpio}
-use Rattle.gpio.specs.declared.line.LineGpio.TheVariants.{Unused, At}
 use Rattle.addr_layout.specs.declared.layout.AddrLayout.{AddrLayout}
 use Rattle.addr_record.specs.AddrRecord.{x_byte, x_of, layout_bytes, layout_at, layout_formed, XNamed, ValuedAddr}
 
-x_back : (x : LineGpio) → XNamed x → x_of (x_byte x) ≡ x
-x_back Unused h = refl
-x_back (At g) h = rw (not_none h)
+x_back : (x : Option ℕ) → XNamed x → x_of (x_byte x) ≡ x
+x_back None h = refl
+x_back (Some g) h = rw (not_none h)
 
 pub layout-back : (l : AddrLayout) → ValuedAddr l → layout_at (layout_bytes l) ≡ l
 unfolding layout_at layout_bytes tab

@@ -1,11 +1,8 @@
 -- The address layout record of docs/INTERFACE.md, place by place: the bytes of a layout, and the layout that bytes give.
 -- Assumes nothing.
-use Rattle.std.specs.Prelude.{◌≡◌, ℕ, ◌<◌, Bool, cond, not, ◌&&◌, ◌||◌, List, [], ◌∷◌, ◌++◌, eqb, length}
+use Rattle.std.specs.Prelude.{◌≡◌, ℕ, ◌<◌, Bool, cond, not, ◌&&◌, ◌||◌, List, [], ◌∷◌, ◌++◌, eqb, length, Option, Some, None}
 use Rattle.fields.specs.Fields.{byte_at, bytes_at, four_at, field}
-use Rattle.gpio.specs.declared.line.LineGpio.{LineGpio}
-use Rattle.gpio.specs.declared.line.LineGpio.TheVariants.{Unused, At}
 use Rattle.addr_layout.specs.declared.layout.AddrLayout.{AddrLayout}
-use Rattle.cs_data_layout.specs.declared.layout.GivenLayout.{GivenLayout}
 
 -- "36 bytes"
 abbrev pub addr_size : ℕ
@@ -13,12 +10,12 @@ addr_size = 36
 
 -- "255 none"
 -- 01 Shape 10: an X pin that has no GPIO is a byte of 255
-abbrev pub x_byte : LineGpio → ℕ
-x_byte Unused = 255
-x_byte (At g) = g
+abbrev pub x_byte : Option ℕ → ℕ
+x_byte None = 255
+x_byte (Some g) = g
 
-abbrev pub x_of : ℕ → LineGpio
-x_of x = cond (eqb x 255) Unused (At x)
+abbrev pub x_of : ℕ → Option ℕ
+x_of x = cond (eqb x 255) None (Some x)
 
 -- places 0 to 7
 abbrev pub addr_head : AddrLayout → List ℕ
@@ -46,9 +43,9 @@ layout_at b = record {
 }
 
 -- what the type and the search say of a layout: the array's length, and X GPIOs that are not the byte for none
-abbrev pub XNamed : LineGpio → Type 0
-XNamed Unused = Unit
-XNamed (At g) = g < 255
+abbrev pub XNamed : Option ℕ → Type 0
+XNamed None = Unit
+XNamed (Some g) = g < 255
 
 pub record ValuedAddr (l : AddrLayout) : Type 0 where
   pub gpios : length l.gpios ≡ 24
@@ -63,8 +60,8 @@ layout_formed b = eqb (length b) addr_size && eqb (byte_at b 6) 0 && eqb (byte_a
 abbrev pub none_given : List ℕ → Bool
 none_given b = eqb (length b) 0
 
-abbrev pub given_at : List ℕ → GivenLayout
-given_at b = record { given = not (none_given b); layout = layout_at b }
+abbrev pub given_at : List ℕ → Option AddrLayout
+given_at b = cond (none_given b) None (Some (layout_at b))
 
 abbrev pub given_formed : List ℕ → Bool
 given_formed b = none_given b || layout_formed b

@@ -2,25 +2,23 @@
 // docs/INTERFACE.md gives the place of each number.
 #![tactic(auto)]
 
-ghost use Rattle.std.specs.Prelude.{◌≡◌, true, [], ◌++◌, ◌≤◌, length, drop};
+ghost use Rattle.std.specs.Prelude.{◌≡◌, true, ◌++◌, ◌≤◌, length, drop};
 ghost use Rattle.addr_record.specs.AddrRecord.{addr_size, x_byte, x_of, addr_head, layout_bytes, layout_at, layout_formed, given_at, given_formed};
 
 use addr_layout::layout::AddrLayout;
-use cs_data_layout::layout::GivenLayout;
 use fields::{four_at, whole};
-use gpio::line::LineGpio;
 use laid_bytes::copy;
 use lists::array::entry;
 
 // Bytes of a record.
 pub const SIZE: usize = 36;
 
-fn x_byte(x: LineGpio) -> u8
+fn x_byte(x: Option<u8>) -> u8
     ensures { result ≡ x_byte x }
 {
     match x {
-        LineGpio::Unused => 255,
-        LineGpio::At(g) => g,
+        None => 255,
+        Some(g) => g,
     }
 }
 
@@ -54,13 +52,13 @@ pub fn store(l: AddrLayout, out: &mut [u8])
     copy(&inverted, &mut out[32..]);
 }
 
-fn x_of(x: u8) -> LineGpio
+fn x_of(x: u8) -> Option<u8>
     ensures { result ≡ x_of x }
 {
     if x == 255 {
-        return LineGpio::Unused;
+        return None;
     }
-    LineGpio::At(x)
+    Some(x)
 }
 
 // What a record lays out.
@@ -73,7 +71,7 @@ pub fn layout_at(b: &[u8]) -> AddrLayout
         num_addr_pins: whole::entry(b, 1),
         x1_gpio: x_of(whole::entry(b, 2)),
         x2_gpio: x_of(whole::entry(b, 3)),
-        gpios: whole::twenty_four_at(b, 8),
+        gpios: whole::bytes_at(b, 8),
         num_lines: whole::entry(b, 4),
         num_excess: whole::entry(b, 5),
     }
@@ -89,36 +87,15 @@ pub fn formed(b: &[u8]) -> bool
     (b.len() == SIZE) & (spare == 0) & (spare_2 == 0) & (inverted == 0)
 }
 
-// No bytes, read as a record: 0 at each place.
-fn nothing_at() -> AddrLayout
-    ensures { result ≡ layout_at [] }
-{
-    AddrLayout {
-        gpio_base: 0,
-        num_addr_pins: 0,
-        x1_gpio: LineGpio::At(0),
-        x2_gpio: LineGpio::At(0),
-        gpios: [0u8; 24],
-        num_lines: 0,
-        num_excess: 0,
-    }
-}
-
 // The layout that a record gives; no bytes give none.
-pub fn given_at(b: &[u8]) -> GivenLayout
+pub fn given_at(b: &[u8]) -> Option<AddrLayout>
     requires { given_formed b.now ≡ true }
     ensures { result ≡ given_at b.now }
 {
     if b.len() == 0 {
-        return GivenLayout {
-            given: false,
-            layout: nothing_at(),
-        };
+        return None;
     }
-    GivenLayout {
-        given: true,
-        layout: layout_at(b),
-    }
+    Some(layout_at(b))
 }
 
 // Whether the bytes are a record or none.

@@ -4,10 +4,11 @@
 use control::alg_preference::cs_alg_preference;
 use control::cs_config::control_line_logic;
 use gpio::window::Window;
-use multi_select::{MultiAnswer, MultiOutcome, derive_multi_cs_config};
+use multi_select::derive_multi_cs_config;
+use refusal::Refusal;
 use say::{say, say_number, say_refusal};
-use slot::description::{ControlLine, ControlLines, CsConfig, CsLogic, Setting};
-use slot::slot_context::{OffsetAnswer, raised, socket_pin_offset};
+use slot::description::{ControlLine, ControlLines, CsConfig, CsLogic, MultiCsConfig};
+use slot::slot_context::{raised, socket_pin_offset};
 use std::io;
 
 fn window(rt: &impl Print, base: u8, span: u8) -> io::Result<()> {
@@ -30,12 +31,12 @@ fn offset(rt: &impl Print, chip_pins: u8, board_pins: u8) -> io::Result<()> {
     say_number(rt, board_pins as u64)?;
     say(rt, b": ")?;
     match socket_pin_offset(chip_pins, board_pins) {
-        OffsetAnswer::Offset(by) => {
+        Ok(by) => {
             say(rt, b"4 + offset = ")?;
             say_number(rt, raised(by) as u64)?;
             say(rt, b"\n")
         }
-        OffsetAnswer::Refused(r) => say_refusal(rt, r),
+        Err(r) => say_refusal(rt, r),
     }
 }
 
@@ -48,10 +49,8 @@ fn preference(rt: &impl Print, qualifiers: bool, ignore_index: bool) -> io::Resu
 // How the six named lines are read under a chip's settings.
 fn settings(rt: &impl Print, config: CsConfig) -> io::Result<()> {
     say(rt, b"ce oe cs1 cs2 cs3 cs4:")?;
-    let mut kind: u8 = 0;
-    while kind < 6 {
+    for kind in 0u8..6 {
         say_logic(rt, control_line_logic(kind, config))?;
-        kind += 1;
     }
     say(rt, b"\n")
 }
@@ -72,11 +71,9 @@ fn say_logic(rt: &impl Print, logic: CsLogic) -> io::Result<()> {
     }
 }
 
-fn say_multi(rt: &impl Print, answer: MultiAnswer) -> io::Result<()> {
-    let outcome = answer.outcome;
-    match outcome {
-        MultiOutcome::Derived => {
-            let config = answer.config;
+fn say_multi(rt: &impl Print, derived: Result<MultiCsConfig, Refusal>) -> io::Result<()> {
+    match derived {
+        Ok(config) => {
             let commoned = config.commoned;
             let ignored = config.ignored;
             say(rt, b"multi: select ")?;
@@ -91,7 +88,7 @@ fn say_multi(rt: &impl Print, answer: MultiAnswer) -> io::Result<()> {
             say_number(rt, first(ignored) as u64)?;
             say(rt, b"\n")
         }
-        MultiOutcome::Refused(r) => {
+        Err(r) => {
             say(rt, b"multi: ")?;
             say_refusal(rt, r)
         }
@@ -190,9 +187,9 @@ fn main(rt: HostRuntime) -> io::Result<()> {
         &rt,
         CsConfig::ChipSelect {
             cs1: CsLogic::Ignore,
-            cs2: Setting::NotGiven,
-            cs3: Setting::Given(CsLogic::Ignore),
-            cs4: Setting::Given(CsLogic::ActiveHigh),
+            cs2: None,
+            cs3: Some(CsLogic::Ignore),
+            cs4: Some(CsLogic::ActiveHigh),
         },
     )?;
     multi(&rt)

@@ -1,5 +1,5 @@
 -- The domain of document 01 for a build: the description, and both layouts that are handed in. Assumes nothing.
-use Rattle.std.specs.Prelude.{ℕ, Bool, true, false, ◌&&◌, cond, leb, get_or}
+use Rattle.std.specs.Prelude.{ℕ, Bool, true, false, ◌&&◌, cond, leb, get_or, Option, Some, None}
 use Rattle.cs_roles.specs.Roles.{half_role}
 use Rattle.lists.specs.Each.{each, between}
 use Rattle.gpio.specs.Candidates.{gpio_in, last_gpio}
@@ -8,7 +8,6 @@ use Rattle.addr_layout.specs.Layout.{layout_in}
 use Rattle.cs_data_layout.specs.Layout.{line}
 use Rattle.cs_data_layout.specs.declared.layout.SelectLine.{SelectLine}
 use Rattle.cs_data_layout.specs.declared.layout.Qualifiers.{Qualifiers}
-use Rattle.cs_data_layout.specs.declared.layout.Qualifiers.TheVariants.{Absent, Present}
 use Rattle.cs_data_layout.specs.declared.layout.CsDataLayout.{CsDataLayout}
 use Rattle.build_args.specs.declared.BuildArgs.{BuildArgs}
 
@@ -25,9 +24,9 @@ unfoldable pub select_lines_in : CsDataLayout → Bool → ℕ → Bool
 select_lines_in c commoned n = each n (λ k. select_line_in (select_line_of c commoned k))
 
 -- the base pin of the qualifiers, where there are any
-abbrev pub qualifier_pin_in : Qualifiers → Bool
-qualifier_pin_in Absent = true
-qualifier_pin_in (Present pin count pattern) = gpio_in pin
+abbrev pub qualifier_pin_in : Option Qualifiers → Bool
+qualifier_pin_in None = true
+qualifier_pin_in (Some q) = gpio_in q.base_qualifier_pin
 
 -- 01 Domain 2: a data line has a GPIO of 0 to 47
 -- 01 Domain 13: there are 1 to 16 data lines, at most 30 select lines and at most 6 commoned ones

@@ -1,11 +1,11 @@
 -- What a build is refused for once it is in the domain, in the order of its tests. Assumes nothing.
-use Rattle.std.specs.Prelude.{ℕ, ◌*◌, ◌^◌, Bool, ◌&&◌, not, List, ltb, length, get_or}
+use Rattle.refusal.specs.declared.Refusal.{Refusal}
+use Rattle.std.specs.Prelude.{ℕ, ◌*◌, ◌^◌, Bool, ◌&&◌, not, List, ltb, length, get_or, Option}
 use Rattle.lists.specs.Each.{each}
 use Rattle.slot.specs.Description.{no_chip}
 use Rattle.slot.specs.declared.description.Description.{Description}
 use Rattle.refusal.specs.declared.Refusal.TheVariants.{RomTableTooLarge, InvalidConfig, BadPosition, MissingImageData, ShortImageData, ShortBuffer}
 use Rattle.refusal.specs.First.{or_else, fault_if, first_of}
-use Rattle.refusal.specs.declared.first.FirstFault.{FirstFault}
 use Rattle.addr_layout.specs.declared.layout.AddrLayout.{AddrLayout}
 use Rattle.cs_data_layout.specs.declared.layout.CsDataLayout.{CsDataLayout}
 use Rattle.build_args.specs.declared.images.ImageSpan.{ImageSpan}
@@ -42,11 +42,11 @@ unfoldable pub data_positions_in : CsDataLayout → Bool
 data_positions_in c = each c.num_data_pins (λ k. data_position_in c k)
 
 -- 01 Number 14: chip k has the mark of a chip without bytes; k is the place
-abbrev pub missing_at : List ImageSpan → ℕ → FirstFault
+abbrev pub missing_at : List ImageSpan → ℕ → Option Refusal
 missing_at spans k = fault_if (not (chip_span spans k).present) (MissingImageData k)
 
 -- 01 Number 15: chip k was given fewer bytes than its size says; k is the place
-abbrev pub short_at : Description → List ℕ → List ImageSpan → ℕ → FirstFault
+abbrev pub short_at : Description → List ℕ → List ImageSpan → ℕ → Option Refusal
 short_at d images spans k = fault_if (ltb (length (chip_bytes images (chip_span spans k))) (get_or d.chips k no_chip).size) (ShortImageData k)
 
 -- 01 Number 16: the table lent has fewer bytes than the build would write
@@ -54,7 +54,7 @@ abbrev pub too_short : Description → AddrLayout → ℕ → Bool
 too_short d a lent = ltb lent (table_size d a)
 
 -- 01 Numbers 3: address lines first (13), then the number of chips (12), then the lines that pick and the data lines (13)
-abbrev pub lines_fault : Description → AddrLayout → CsDataLayout → FirstFault
+abbrev pub lines_fault : Description → AddrLayout → CsDataLayout → Option Refusal
 lines_fault d a c =
     or_else (fault_if (not (address_in a)) BadPosition)
     (or_else (fault_if (not (chips_fit d.set_type d.num_chips)) InvalidConfig)
@@ -63,16 +63,16 @@ lines_fault d a c =
 -- 01 Number 14: of several chips without bytes the lowest answers
 -- 01 Number 15: of several chips with too few bytes the lowest answers
 -- 01 Numbers 3: 14 of all chips, then 15 of all chips
-abbrev pub images_fault : Description → List ℕ → List ImageSpan → FirstFault
+abbrev pub images_fault : Description → List ℕ → List ImageSpan → Option Refusal
 images_fault d images spans = or_else (first_of d.num_chips (missing_at spans)) (first_of d.num_chips (short_at d images spans))
 
 -- 01 Numbers 3: 14 and 15, then 16
-abbrev pub lent_fault : Description → AddrLayout → List ℕ → List ImageSpan → ℕ → FirstFault
+abbrev pub lent_fault : Description → AddrLayout → List ℕ → List ImageSpan → ℕ → Option Refusal
 lent_fault d a images spans lent = or_else (images_fault d images spans) (fault_if (too_short d a lent) ShortBuffer)
 
 -- the first refusal of all, for a table of as many bytes as are lent
 -- 01 Numbers 3: the table's size (11), then the lines and the number of chips, then what is lent
-unfoldable pub build_fault : BuildArgs → List ℕ → ℕ → FirstFault
+unfoldable pub build_fault : BuildArgs → List ℕ → ℕ → Option Refusal
 build_fault b images lent =
     or_else (fault_if (table_too_large b.description b.addr) RomTableTooLarge)
     (or_else (lines_fault b.description b.addr b.cs_data) (lent_fault b.description b.addr images b.spans lent))

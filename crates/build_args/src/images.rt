@@ -8,7 +8,8 @@ use slot::description::Description;
 // Where a chip's bytes stand in the lent ones; those past the end are not there.
 #[derive(Clone, Copy)]
 pub struct ImageSpan {
-    // Whether the chip has bytes at all.
+    // Whether the chip has bytes at all. A flag and no Option: a spans record has start and length beside it whether or not it is set,
+    // and `spans_at` of image_record promises all three of any bytes.
     pub present: bool,
     pub start: u32,
     pub length: u32,
@@ -18,40 +19,28 @@ pub struct ImageSpan {
 pub fn span_at(spans: [ImageSpan; 4], k: usize) -> ImageSpan
     ensures { result ≡ chip_span spans k }
 {
-    if 4 <= k {
-        return ImageSpan {
-            present: false,
-            start: 0,
-            length: 0,
-        };
-    }
-    spans[k]
+    let none = ImageSpan {
+        present: false,
+        start: 0,
+        length: 0,
+    };
+    spans.get(k).copied().unwrap_or(none)
 }
 
 // How many bytes of a span the slice has.
 pub fn bytes_lent(images: &[u8], span: ImageSpan) -> usize
     ensures { result ≡ length (chip_bytes images.now span) }
 {
-    let start = span.start as usize;
-    let length = span.length as usize;
-    if images.len() < start {
-        return 0;
-    }
-    let rest = images.len() - start;
-    if rest < length {
-        return rest;
-    }
-    length
+    let past_start = images.len().saturating_sub(span.start as usize);
+    past_start.min(span.length as usize)
 }
 
 // A chip's size in bytes; 0 past the last.
 pub fn chip_size(d: Description, k: u8) -> u32
     ensures { result ≡ (get_or d.chips k no_chip).size }
 {
-    if 4 <= k {
-        return 0;
+    match d.chips.get(k as usize) {
+        Some(chip) => chip.size,
+        None => 0,
     }
-    let chips = d.chips;
-    let chip = chips[k as usize];
-    chip.size
 }

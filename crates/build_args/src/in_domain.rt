@@ -14,21 +14,15 @@ use lists::array::all_between;
 fn select_line(c: CsDataLayout, k: usize) -> SelectLine
     ensures { result ≡ select_line_of c false k }
 {
-    if 30 <= k {
-        return SelectLine { role: 0, gpio: 0 };
-    }
-    let lines = c.select_lines;
-    lines[k]
+    let none = SelectLine { role: 0, gpio: 0 };
+    c.select_lines.get(k).copied().unwrap_or(none)
 }
 
 fn commoned_line(c: CsDataLayout, k: usize) -> SelectLine
     ensures { result ≡ select_line_of c true k }
 {
-    if 6 <= k {
-        return SelectLine { role: 0, gpio: 0 };
-    }
-    let lines = c.commoned_lines;
-    lines[k]
+    let none = SelectLine { role: 0, gpio: 0 };
+    c.commoned_lines.get(k).copied().unwrap_or(none)
 }
 
 // A commoned line, or a select line; all 0 past the last.
@@ -52,24 +46,18 @@ fn select_lines_in(c: CsDataLayout, commoned: bool, count: u8) -> bool
 {
     let n = count as usize;
     let mut ok = true;
-    let mut k: usize = 0;
-    while k < n {
+    for k in 0..n {
         ok = ok & select_line_in(line_of(c, commoned, k));
-        k += 1;
     }
     ok
 }
 
-fn qualifier_pin_in(q: Qualifiers) -> bool
-    ensures { result ≡ qualifier_pin_in q }
+fn qualifier_pin_in(qualifiers: Option<Qualifiers>) -> bool
+    ensures { result ≡ qualifier_pin_in qualifiers }
 {
-    match q {
-        Qualifiers::Absent => true,
-        Qualifiers::Present {
-            base_qualifier_pin,
-            num_qualifier_pins: _,
-            qualifier_inactive_pattern: _,
-        } => base_qualifier_pin <= LAST_GPIO,
+    match qualifiers {
+        None => true,
+        Some(q) => q.base_qualifier_pin <= LAST_GPIO,
     }
 }
 

@@ -6,25 +6,24 @@ ghost use Rattle.build_args.specs.Faults.{picks_in};
 
 use addr_layout::layout::AddrLayout;
 use cs_data_layout::layout::CsDataLayout;
-use gpio::line::LineGpio;
 use picks::num_picks;
 use picks::positions::x_position_in;
 use slot::description::{ChipSetType, Description};
 
 // The GPIO of the first select line.
-pub fn first_select(c: CsDataLayout) -> LineGpio
+pub fn first_select(c: CsDataLayout) -> Option<u8>
     ensures { result ≡ first_select c }
 {
     let lines = c.select_lines;
     let first = lines[0];
     if c.num_select_lines == 0 {
-        return LineGpio::Unused;
+        return None;
     }
-    LineGpio::At(first.gpio)
+    Some(first.gpio)
 }
 
 // X1, or X2 for any number but 0.
-fn x_gpio(a: AddrLayout, k: u8) -> LineGpio
+fn x_gpio(a: AddrLayout, k: u8) -> Option<u8>
     ensures { result ≡ x_gpio a k }
 {
     if k == 0 {
@@ -33,7 +32,7 @@ fn x_gpio(a: AddrLayout, k: u8) -> LineGpio
     a.x2_gpio
 }
 
-fn multi_pick(a: AddrLayout, c: CsDataLayout, k: u8) -> LineGpio
+fn multi_pick(a: AddrLayout, c: CsDataLayout, k: u8) -> Option<u8>
     ensures { result ≡ pick_of Multi a c k }
 {
     if k == 0 {
@@ -43,11 +42,11 @@ fn multi_pick(a: AddrLayout, c: CsDataLayout, k: u8) -> LineGpio
 }
 
 // The GPIO of the k-th line that picks.
-pub fn pick_of(set_type: ChipSetType, a: AddrLayout, c: CsDataLayout, k: u8) -> LineGpio
+pub fn pick_of(set_type: ChipSetType, a: AddrLayout, c: CsDataLayout, k: u8) -> Option<u8>
     ensures { result ≡ pick_of set_type a c k }
 {
     match set_type {
-        ChipSetType::Single => LineGpio::Unused,
+        ChipSetType::Single => None,
         ChipSetType::Banked => x_gpio(a, k),
         ChipSetType::Multi => multi_pick(a, c, k),
     }
@@ -60,10 +59,8 @@ pub fn picks_in(d: Description, a: AddrLayout, c: CsDataLayout) -> bool
     let set_type = d.set_type;
     let n = num_picks(set_type, d.num_chips);
     let mut ok = true;
-    let mut k: u8 = 0;
-    while k < n {
+    for k in 0..n {
         ok = ok & x_position_in(a.gpio_base, pick_of(set_type, a, c, k));
-        k += 1;
     }
     ok
 }

@@ -18,7 +18,6 @@ use cs_data_layout::layout::CsDataLayout;
 use picks::chips_fit;
 use picks::positions::positions_in;
 use refusal::Refusal;
-use refusal::first::{FirstFault, fault_if, or_else};
 use slot::description::Description;
 
 // Bytes of the table.
@@ -60,42 +59,38 @@ fn lines_in(c: CsDataLayout) -> bool
 }
 
 // The first chip without bytes.
-fn missing(spans: [ImageSpan; 4], chips: u8) -> FirstFault
+fn missing(spans: [ImageSpan; 4], chips: u8) -> Option<Refusal>
     ensures { result ≡ first_of chips (missing_at spans) }
 {
-    let mut fault = FirstFault::None;
-    let mut k: u8 = 0;
-    while k < chips {
+    let mut fault = None;
+    for k in 0..chips {
         let span = span_at(spans, k as usize);
-        fault = or_else(fault, fault_if(!span.present, Refusal::MissingImageData(k)));
-        k += 1;
+        fault = fault.or((!span.present).then_some(Refusal::MissingImageData(k)));
     }
     fault
 }
 
 // The first chip with fewer bytes than its size.
-fn short(d: Description, images: &[u8], spans: [ImageSpan; 4]) -> FirstFault
+fn short(d: Description, images: &[u8], spans: [ImageSpan; 4]) -> Option<Refusal>
     ensures { result ≡ first_of d.num_chips (short_at d images.now spans) }
 {
     let n = d.num_chips;
-    let mut fault = FirstFault::None;
-    let mut k: u8 = 0;
-    while k < n {
+    let mut fault = None;
+    for k in 0..n {
         let lent = bytes_lent(images, span_at(spans, k as usize));
         let size = chip_size(d, k) as usize;
-        fault = or_else(fault, fault_if(lent < size, Refusal::ShortImageData(k)));
-        k += 1;
+        fault = fault.or((lent < size).then_some(Refusal::ShortImageData(k)));
     }
     fault
 }
 
 // The refusals for the chips' bytes: no chip without any, then none with too few.
-fn images_fault(d: Description, images: &[u8], spans: [ImageSpan; 4]) -> FirstFault
+fn images_fault(d: Description, images: &[u8], spans: [ImageSpan; 4]) -> Option<Refusal>
     ensures { result ≡ images_fault d images.now spans }
 {
     let no_bytes = missing(spans, d.num_chips);
     let few_bytes = short(d, images, spans);
-    or_else(no_bytes, few_bytes)
+    no_bytes.or(few_bytes)
 }
 
 // The refusals for the chips' bytes and the lent table.
@@ -105,28 +100,28 @@ fn lent_fault(
     images: &[u8],
     spans: [ImageSpan; 4],
     lent: usize,
-) -> FirstFault
+) -> Option<Refusal>
     requires { TableIn d a }
     ensures { result ≡ lent_fault d a images.now spans lent }
 {
-    let buffer = fault_if((lent as u64) < table_size(d, a), Refusal::ShortBuffer);
-    or_else(images_fault(d, images, spans), buffer)
+    let buffer = ((lent as u64) < table_size(d, a)).then_some(Refusal::ShortBuffer);
+    images_fault(d, images, spans).or(buffer)
 }
 
 // The refusals for the lines and the number of chips.
-fn lines_fault(d: Description, a: AddrLayout, c: CsDataLayout) -> FirstFault
+fn lines_fault(d: Description, a: AddrLayout, c: CsDataLayout) -> Option<Refusal>
     requires { data_base c ≤ 255 }
     ensures { result ≡ lines_fault d a c }
 {
     let set_type = d.set_type;
-    let address = fault_if(!address_in(a), Refusal::BadPosition);
-    let chips = fault_if(!chips_fit(set_type, d.num_chips), Refusal::InvalidConfig);
-    let other = fault_if(!(picks_in(d, a, c) & lines_in(c)), Refusal::BadPosition);
-    or_else(address, or_else(chips, other))
+    let address = (!address_in(a)).then_some(Refusal::BadPosition);
+    let chips = (!chips_fit(set_type, d.num_chips)).then_some(Refusal::InvalidConfig);
+    let other = (!(picks_in(d, a, c) & lines_in(c))).then_some(Refusal::BadPosition);
+    address.or(chips.or(other))
 }
 
 // The first refusal of all, for a table of `lent` bytes.
-pub fn build_fault(b: BuildArgs, images: &[u8], lent: usize) -> FirstFault
+pub fn build_fault(b: BuildArgs, images: &[u8], lent: usize) -> Option<Refusal>
     requires { build_in b ≡ true }
     ensures { result ≡ build_fault b images.now lent }
 {
@@ -135,7 +130,7 @@ pub fn build_fault(b: BuildArgs, images: &[u8], lent: usize) -> FirstFault
     let c = b.cs_data;
     let spans = b.spans;
     if too_large(d, a) {
-        return FirstFault::Of(Refusal::RomTableTooLarge);
+        return Some(Refusal::RomTableTooLarge);
     }
-    or_else(lines_fault(d, a, c), lent_fault(d, a, images, spans, lent))
+    lines_fault(d, a, c).or(lent_fault(d, a, images, spans, lent))
 }

@@ -4,7 +4,7 @@ ghost use Rattle.build_wiring.specs.Counts.{word_count};
 ghost use Rattle.build_wiring.specs.Design.Wiring.{source_of, sources_of};
 
 use build_args::images::{ImageSpan, chip_size, span_at};
-use picks::{Picked, picked_by};
+use picks::picked_by;
 use slot::description::Description;
 use table_fill::Source;
 
@@ -15,17 +15,17 @@ fn word_count(d: Description, k: u8) -> u32
     chip_size(d, k) / (d.word_bytes as u32)
 }
 
-fn source(d: Description, spans: [ImageSpan; 4], picked: Picked) -> Source
+fn source(d: Description, spans: [ImageSpan; 4], picked: Option<u8>) -> Source
     requires { 1 ≤ d.word_bytes }
     ensures { result ≡ source_of d spans picked }
 {
     match picked {
-        Picked::NoChip => Source {
+        None => Source {
             start: 0,
             count: 0,
             mirrored: false,
         },
-        Picked::Chip(k) => {
+        Some(k) => {
             let span = span_at(spans, k as usize);
             let count = word_count(d, k);
             Source {
@@ -49,10 +49,8 @@ pub fn sources(d: Description, spans: [ImageSpan; 4]) -> [Source; 8]
     };
     let set_type = d.set_type;
     let mut out = [none; 8];
-    let mut bits: u8 = 0;
-    while bits < 8 {
+    for bits in 0u8..8 {
         out[bits as usize] = source(d, spans, picked_by(set_type, d.num_chips, bits));
-        bits += 1;
     }
     out
 }

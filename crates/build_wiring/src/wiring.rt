@@ -10,36 +10,21 @@ use build_args::lines::pick_of;
 use build_args::positions::data_base;
 use cs_data_layout::layout::CsDataLayout;
 use picks::num_picks;
-use picks::positions::{position, x_position};
+use picks::positions::{positions, x_position};
 use slot::description::Description;
 use table_fill::Wiring;
 
 fn address_positions(a: AddrLayout) -> [u8; 24]
     ensures { result ≡ tab 24 (line_position a) }
 {
-    let gpios = a.gpios;
-    let mut out = [0u8; 24];
-    let mut k: usize = 0;
-    while k < 24 {
-        out[k] = position(a.gpio_base, gpios[k]);
-        k += 1;
-    }
-    out
+    positions(a.gpio_base, a.gpios)
 }
 
 fn data_positions(c: CsDataLayout) -> [u8; 16]
     requires { data_base c ≤ 255 }
     ensures { result ≡ tab 16 (data_position c) }
 {
-    let gpios = c.data_pin_gpios;
-    let base = data_base(c);
-    let mut out = [0u8; 16];
-    let mut k: usize = 0;
-    while k < 16 {
-        out[k] = position(base, gpios[k]);
-        k += 1;
-    }
-    out
+    positions(data_base(c), c.data_pin_gpios)
 }
 
 fn pick_positions(d: Description, a: AddrLayout, c: CsDataLayout) -> [u8; 3]
@@ -47,10 +32,8 @@ fn pick_positions(d: Description, a: AddrLayout, c: CsDataLayout) -> [u8; 3]
 {
     let set_type = d.set_type;
     let mut out = [0u8; 3];
-    let mut k: usize = 0;
-    while k < 3 {
+    for k in 0..3 {
         out[k] = x_position(a.gpio_base, pick_of(set_type, a, c, k as u8));
-        k += 1;
     }
     out
 }

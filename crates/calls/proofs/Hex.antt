@@ -1,4 +1,5 @@
 -- What reading and writing Intel HEX answer fits into the one number. Assumes nothing.
+use Rattle.std.specs.Prelude.{Ok, Err}
 use mathlib.Core.Path.{◌≡◌, refl}
 use mathlib.Core.Bool.{Bool, true, false, not, cond}
 use mathlib.Core.List.{List, [], ◌∷◌}
@@ -9,17 +10,11 @@ use lib.ListN.{length}
 use borrow.Author.Tests.{ltb-false}
 use Rattle.refusal.specs.First.{or_else, fault_if}
 use Rattle.refusal.specs.Refusal.{place_of, answer_code, write_code}
-use Rattle.refusal.specs.declared.Answer.{Answer}
-use Rattle.refusal.specs.declared.WriteAnswer.{WriteAnswer}
 use Rattle.refusal.specs.declared.Refusal.TheVariants.{OutOfDomain, BadRecord, BadChecksum, PastChip}
-use Rattle.refusal.specs.declared.first.FirstFault.{FirstFault}
-use Rattle.refusal.specs.declared.first.FirstFault.TheVariants.{None, Of}
 use Rattle.hex_base.specs.Size.{too_long}
 use Rattle.hex_record.specs.Record.{sum_of, shaped, is_end, past_chip, line_fault, upper_after}
 use Rattle.hex_read.specs.Lines.{lines_of}
-use Rattle.hex_read.specs.Read.{of_line, behind_end, judged, blank, stored, read_as, read_by, verdict_of, read_of}
-use Rattle.hex_read.specs.declared.judge.Verdict.{Verdict}
-use Rattle.hex_read.specs.declared.judge.Verdict.TheVariants.{Sound, Fault}
+use Rattle.hex_read.specs.Read.{Verdict, of_line, behind_end, judged, blank, stored, read_as, read_by, verdict_of, read_of}
 use Rattle.hex_write.specs.Text.{hex_text}
 use Rattle.hex_write.specs.Write.{wrote_as, written, write_of}
 use Rattle.hex_write.proofs.Length.{length_law}
@@ -30,8 +25,8 @@ use Rattle.calls.proofs.Unpacked.{number-back, place-back, written_small}
 
 -- a verdict's refusal has a place of 48 bits: 26, 27 and 28 have none
 abbrev Small : Verdict → Type 0
-Small Sound = Unit
-Small (Fault at why) = place_of why < 2 ^ 48
+Small (Ok u) = Unit
+Small (Err fault) = place_of fault.why < 2 ^ 48
 
 line_small : (at : ℕ) (a b c : Bool) (rest : Verdict) → Small rest
     → Small (of_line at (or_else (fault_if (not a) BadRecord) (or_else (fault_if (not b) BadChecksum) (fault_if c PastChip))) rest)
@@ -56,17 +51,17 @@ read_small : (text chip : List ℕ) → (answer_code (read_of text chip).answer)
 unfolding read_of
 read_small text chip = by (too_long (length chip)) (verdict_of text (length chip)) (judged-small (length chip) 0 1 (lines_of text))
   where
-    by : (t : Bool) (v : Verdict) → Small v → (answer_code (cond t (read_as (Answer.Refused OutOfDomain) chip) (read_by v text chip)).answer).place < 2 ^ 48
+    by : (t : Bool) (v : Verdict) → Small v → (answer_code (cond t (read_as (Err OutOfDomain) chip) (read_by v text chip)).answer).place < 2 ^ 48
     by true v h = omega arith
-    by false Sound h = omega arith
-    by false (Fault at why) h = h
+    by false (Ok u) h = omega arith
+    by false (Err fault) h = h
 
 -- a text's length is far below 2^48
 write_small : (chip text : List ℕ) → (write_code (write_of chip text).answer).place < 2 ^ 48
 unfolding write_of
 write_small chip text = by (too_long (length chip)) refl
   where
-    by : (t : Bool) → too_long (length chip) ≡ t → (write_code (cond t (wrote_as (WriteAnswer.Refused OutOfDomain) text) (written (hex_text chip) text)).answer).place < 2 ^ 48
+    by : (t : Bool) → too_long (length chip) ≡ t → (write_code (cond t (wrote_as (Err OutOfDomain) text) (written (hex_text chip) text)).answer).place < 2 ^ 48
     by true e = omega arith
     by false e = written_small (hex_text chip) text (omega (arith, length_law chip, ltb-false (2 ^ 24) (length chip) e))
 

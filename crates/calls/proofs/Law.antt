@@ -1,10 +1,10 @@
 -- Number and place of every answer come out of the one number that a call returns, and its number is one of document 01's rows. Assumes
 -- nothing.
+use Rattle.std.specs.Prelude.{Result, Ok, Err}
+use Rattle.refusal.specs.declared.Refusal.{Refusal}
 use mathlib.Core.Path.{◌≡◌, refl}
 use native.Mathlib.Omega.{arith}
 use Rattle.refusal.specs.Refusal.{answer_code, refusal_code}
-use Rattle.refusal.specs.declared.Answer.{Answer}
-use Rattle.refusal.specs.declared.Answer.TheVariants.{Done, Refused}
 use Rattle.refusal.proofs.Law.{number_law}
 use Rattle.refusal.proofs.Places.{first-number, first-place}
 use Rattle.calls.specs.Packed.{result_of}
@@ -12,11 +12,11 @@ use Rattle.calls.specs.Law.{Unpacks, UnpackLaw, RowsLaw}
 use Rattle.calls.proofs.Unpacked.{number-back, place-back}
 use Rattle.calls.proofs.Places.{Placed, addr-placed, cs_data_placed, build-placed, read_back-placed}
 
-pub done_alone : (a : Answer) → result_of a ≡ 0 → a ≡ Done
-done_alone Done e = refl
-done_alone (Refused why) e = absurd (omega (arith, number-back (refusal_code why), (number_law why).some))
+pub done_alone : (a : Result (Unit {0}) Refusal) → result_of a ≡ 0 → a ≡ Ok tt
+done_alone (Ok tt) e = refl
+done_alone (Err why) e = absurd (omega (arith, number-back (refusal_code why), (number_law why).some))
 
-pub unpacks : (a : Answer) → Placed a → Unpacks a
+pub unpacks : (a : Result (Unit {0}) Refusal) → Placed a → Unpacks a
 unpacks a h = record { number = number-back (answer_code a); place = place-back (answer_code a) (first-place (answer_code a) h); done = done_alone a }
 
 pub unpack_law : UnpackLaw

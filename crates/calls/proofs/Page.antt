@@ -1,10 +1,10 @@
 -- What writing a page answers fits into the one number. Assumes nothing.
+use Rattle.std.specs.Prelude.{Err}
 use mathlib.Core.Bool.{Bool, true, false, cond}
 use mathlib.Core.List.{List}
 use Prim.Native.Nat.{ℕ, ◌^◌, ◌<◌}
 use native.Mathlib.Omega.{arith}
 use Rattle.refusal.specs.Refusal.{write_code}
-use Rattle.refusal.specs.declared.WriteAnswer.TheVariants.{Refused}
 use Rattle.refusal.specs.declared.Refusal.TheVariants.{OutOfDomain}
 use Rattle.addr_record.specs.AddrRecord.{layout_at}
 use Rattle.cs_data_record.specs.CsDataRecord.{cs_data_at}
@@ -24,7 +24,7 @@ page-small addr csData page =
     text = page_text (layout_at addr) (cs_data_at csData)
 
     by : (t u : Bool)
-        → (write_code (cond t (cond u (written text page) (wrote_as (Refused OutOfDomain) page)) (wrote_as (Refused OutOfDomain) page)).answer).place < 2 ^ 48
+        → (write_code (cond t (cond u (written text page) (wrote_as (Err OutOfDomain) page)) (wrote_as (Err OutOfDomain) page)).answer).place < 2 ^ 48
     by true true = written_small text page (omega (arith, page-long (layout_at addr) (cs_data_at csData)))
     by true false = omega arith
     by false u = omega arith

@@ -1,4 +1,5 @@
 -- Each call's answer is success or one of document 01's rows, with a place of 48 bits. Assumes nothing.
+use Rattle.std.specs.Prelude.{Result, Ok, Err}
 use mathlib.Core.Bool.{Bool, true, false, cond}
 use mathlib.Core.List.{List, ◌++◌}
 use Prim.Native.Nat.{ℕ}
@@ -7,19 +8,16 @@ use lib.Dec.{ltb}
 use lib.ListN.{length, drop}
 use Rattle.slot.specs.declared.description.Description.{Description}
 use Rattle.refusal.specs.Refusal.{answer_code}
-use Rattle.refusal.specs.declared.Answer.{Answer}
 use Rattle.refusal.specs.declared.Refusal.{Refusal}
 use Rattle.refusal.specs.declared.Refusal.TheVariants.{OutOfDomain, ShortBuffer}
 use Rattle.refusal.proofs.Places.{FirstRows}
 use Rattle.addr_layout.specs.Layout.{addr_code}
 use Rattle.addr_layout.specs.Search.{addr_answer}
 use Rattle.addr_layout.specs.declared.layout.AddrLayout.{AddrLayout}
-use Rattle.addr_layout.specs.declared.layout.AddrOutcome.{AddrOutcome}
 use Rattle.addr_layout.proofs.Places.{addr-place}
 use Rattle.cs_data_layout.specs.Layout.{cs_data_code}
 use Rattle.cs_data_layout.specs.Search.{cs_data_answer}
 use Rattle.cs_data_layout.specs.declared.layout.CsDataLayout.{CsDataLayout}
-use Rattle.cs_data_layout.specs.declared.layout.CsDataOutcome.{CsDataOutcome}
 use Rattle.cs_data_layout.proofs.Places.{cs_data_place}
 use Rattle.build_args.specs.Args.{args_of}
 use Rattle.rom_image.specs.Build.{Built}
@@ -39,10 +37,8 @@ use Rattle.calls.specs.Calls.{
   written,
   if_described,
   if_record,
-  addr_outcome,
   addr_found,
   addr_call,
-  cs_data_outcome,
   cs_data_found,
   cs_data_call,
   build_formed,
@@ -54,11 +50,11 @@ use Rattle.calls.specs.Calls.{
   read_back_call,
 }
 
-abbrev pub Placed : Answer → Type 0
+abbrev pub Placed : Result (Unit {0}) Refusal → Type 0
 Placed a = FirstRows (answer_code a)
 
 -- answers by a test, and by a description's record
-module _ {A : Type 0} (says : A → Answer) where
+module _ {A : Type 0} (says : A → Result (Unit {0}) Refusal) where
   pub if_place : (t : Bool) (x y : A) → Placed (says x) → Placed (says y) → Placed (says (cond t x y))
   if_place true x y p q = p
   if_place false x y p q = q
@@ -67,31 +63,31 @@ module _ {A : Type 0} (says : A → Answer) where
       → Placed (says (refuse OutOfDomain)) → Placed (says (if_record f refuse (decoded_of b)))
   record-place f refuse b h r = by (well_formed b)
     where
-      by : (t : Bool) → Placed (says (if_described f refuse (cond t Answer.Done (Answer.Refused OutOfDomain)) (described b)))
+      by : (t : Bool) → Placed (says (if_described f refuse (cond t (Ok tt) (Err OutOfDomain)) (described b)))
       by true = h (described b)
       by false = r
 
-abbrev answer_of : Answered → Answer
+abbrev answer_of : Answered → Result (Unit {0}) Refusal
 answer_of x = x.answer
 
 -- the searches
 written-place : (size : ℕ) (bytes buffer : List ℕ) → Placed (written size bytes buffer).answer
 written-place size bytes buffer =
-    if_place answer_of (ltb (length buffer) size) (call_refused ShortBuffer buffer) (answered Answer.Done (bytes ++ drop size buffer)) (omega arith) (omega arith)
+    if_place answer_of (ltb (length buffer) size) (call_refused ShortBuffer buffer) (answered (Ok tt) (bytes ++ drop size buffer)) (omega arith) (omega arith)
 
-addr-found : (x : AddrOutcome) (l : AddrLayout) (buffer : List ℕ) → FirstRows (addr_code x) → Placed (addr_outcome x l buffer).answer
-addr-found AddrOutcome.LaidOut l buffer h = written-place addr_size (layout_bytes l) buffer
-addr-found (AddrOutcome.Refused why) l buffer h = h
+addr-found : (x : Result AddrLayout Refusal) (buffer : List ℕ) → FirstRows (addr_code x) → Placed (addr_found x buffer).answer
+addr-found (Ok l) buffer h = written-place addr_size (layout_bytes l) buffer
+addr-found (Err why) buffer h = h
 
-cs_data_found_lem : (x : CsDataOutcome) (l : CsDataLayout) (buffer : List ℕ) → FirstRows (cs_data_code x) → Placed (cs_data_outcome x l buffer).answer
-cs_data_found_lem CsDataOutcome.LaidOut l buffer h = written-place cs_data_size (cs_data_bytes l) buffer
-cs_data_found_lem (CsDataOutcome.Refused why) l buffer h = h
+cs_data_found_lem : (x : Result CsDataLayout Refusal) (buffer : List ℕ) → FirstRows (cs_data_code x) → Placed (cs_data_found x buffer).answer
+cs_data_found_lem (Ok l) buffer h = written-place cs_data_size (cs_data_bytes l) buffer
+cs_data_found_lem (Err why) buffer h = h
 
 pub addr-placed : (description buffer : List ℕ) → Placed (addr_call description buffer).answer
 unfolding addr_call
 addr-placed description buffer =
     record-place answer_of (λ d. addr_found (addr_answer d) buffer) (λ why. call_refused why buffer) description
-    (λ d. addr-found (addr_answer d).outcome (addr_answer d).layout buffer (addr-place d)) (omega arith)
+    (λ d. addr-found (addr_answer d) buffer (addr-place d)) (omega arith)
 
 pub cs_data_placed : (description layout buffer : List ℕ) → Placed (cs_data_call description layout buffer).answer
 unfolding cs_data_call
@@ -99,7 +95,7 @@ cs_data_placed description layout buffer =
     let a = given_at layout in
     if_place answer_of (given_formed layout) (if_record (λ d. cs_data_found (cs_data_answer d a) buffer) (λ why. call_refused why buffer) (decoded_of description)) (call_refused OutOfDomain buffer)
     (record-place answer_of (λ d. cs_data_found (cs_data_answer d a) buffer) (λ why. call_refused why buffer) description
-    (λ d. cs_data_found_lem (cs_data_answer d a).outcome (cs_data_answer d a).layout buffer (cs_data_place d a)) (omega arith))
+    (λ d. cs_data_found_lem (cs_data_answer d a) buffer (cs_data_place d a)) (omega arith))
     (omega arith)
 
 module _ (description addr csData spans images : List ℕ) (order : ℕ) (table : List ℕ) where

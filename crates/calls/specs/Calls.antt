@@ -1,19 +1,14 @@
 -- What each call answers, and what the buffers lent to it hold then; and what its caller gets of that. Assumes nothing.
-use Rattle.std.specs.Prelude.{ℕ, Bool, ◌&&◌, cond, List, ◌++◌, ltb, length, drop}
+use Rattle.std.specs.Prelude.{ℕ, Bool, ◌&&◌, cond, List, ◌++◌, ltb, length, drop, Result, Ok, Err}
 use Rattle.slot.specs.declared.description.Description.{Description}
 use Rattle.refusal.specs.declared.Refusal.{Refusal}
 use Rattle.refusal.specs.declared.Refusal.TheVariants.{OutOfDomain, ShortBuffer}
 use Rattle.description_record.specs.Record.{decoded_of}
-use Rattle.refusal.specs.declared.Answer.{Answer}
 use Rattle.description_record.specs.declared.Decoded.{Decoded}
 use Rattle.addr_layout.specs.Search.{addr_answer}
 use Rattle.addr_layout.specs.declared.layout.AddrLayout.{AddrLayout}
-use Rattle.addr_layout.specs.declared.layout.AddrOutcome.{AddrOutcome}
-use Rattle.addr_layout.specs.declared.layout.AddrAnswer.{AddrAnswer}
 use Rattle.cs_data_layout.specs.Search.{cs_data_answer}
 use Rattle.cs_data_layout.specs.declared.layout.CsDataLayout.{CsDataLayout}
-use Rattle.cs_data_layout.specs.declared.layout.CsDataOutcome.{CsDataOutcome}
-use Rattle.cs_data_layout.specs.declared.layout.CsDataAnswer.{CsDataAnswer}
 use Rattle.words.specs.declared.ByteOrder.{ByteOrder}
 use Rattle.build_args.specs.Args.{args_of}
 use Rattle.rom_image.specs.Build.{Built, built, build_of}
@@ -27,48 +22,42 @@ use Rattle.calls.specs.Order.{order_formed, order_at}
 
 -- a search's call is lent one buffer
 pub record Answered : Type 0 where
-  pub answer : Answer
+  pub answer : Result (Unit {0}) Refusal
   pub buffer : List ℕ
 
-abbrev pub answered : Answer → List ℕ → Answered
+abbrev pub answered : Result (Unit {0}) Refusal → List ℕ → Answered
 answered a b = record { answer = a; buffer = b }
 
 -- 01 Numbers 5: a refused call leaves its buffer as it was lent
 abbrev pub call_refused : Refusal → List ℕ → Answered
-call_refused why buffer = answered (Answer.Refused why) buffer
+call_refused why buffer = answered (Err why) buffer
 
 -- 01 Number 16: the buffer has fewer bytes than the record
 -- 01 Numbers 7: the buffer's bytes behind the record stay
 abbrev pub written : ℕ → List ℕ → List ℕ → Answered
-written size bytes buffer = cond (ltb (length buffer) size) (call_refused ShortBuffer buffer) (answered Answer.Done (bytes ++ drop size buffer))
+written size bytes buffer = cond (ltb (length buffer) size) (call_refused ShortBuffer buffer) (answered (Ok tt) (bytes ++ drop size buffer))
 
 -- 01 Number 1: the bytes are no description record
 -- 01 Numbers 2: such bytes are refused before anything is done with a description
-abbrev pub if_described : {A : Type 0} → (Description → A) → (Refusal → A) → Answer → Description → A
-if_described f refuse Answer.Done d = f d
-if_described f refuse (Answer.Refused why) d = refuse why
+abbrev pub if_described : {A : Type 0} → (Description → A) → (Refusal → A) → Result (Unit {0}) Refusal → Description → A
+if_described f refuse (Ok tt) d = f d
+if_described f refuse (Err why) d = refuse why
 
 abbrev pub if_record : {A : Type 0} → (Description → A) → (Refusal → A) → Decoded → A
 if_record f refuse x = if_described f refuse x.answer x.description
 
 -- the search's own refusals come before the buffer's
-abbrev pub addr_outcome : AddrOutcome → AddrLayout → List ℕ → Answered
-addr_outcome AddrOutcome.LaidOut l buffer = written addr_size (layout_bytes l) buffer
-addr_outcome (AddrOutcome.Refused why) l buffer = call_refused why buffer
-
-abbrev pub addr_found : AddrAnswer → List ℕ → Answered
-addr_found a buffer = addr_outcome a.outcome a.layout buffer
+abbrev pub addr_found : Result AddrLayout Refusal → List ℕ → Answered
+addr_found (Ok l) buffer = written addr_size (layout_bytes l) buffer
+addr_found (Err why) buffer = call_refused why buffer
 
 -- `onerom_derive_addr_layout` of a record's bytes and a lent buffer
 unfoldable pub addr_call : List ℕ → List ℕ → Answered
 addr_call description buffer = if_record (λ d. addr_found (addr_answer d) buffer) (λ why. call_refused why buffer) (decoded_of description)
 
-abbrev pub cs_data_outcome : CsDataOutcome → CsDataLayout → List ℕ → Answered
-cs_data_outcome CsDataOutcome.LaidOut l buffer = written cs_data_size (cs_data_bytes l) buffer
-cs_data_outcome (CsDataOutcome.Refused why) l buffer = call_refused why buffer
-
-abbrev pub cs_data_found : CsDataAnswer → List ℕ → Answered
-cs_data_found a buffer = cs_data_outcome a.outcome a.layout buffer
+abbrev pub cs_data_found : Result CsDataLayout Refusal → List ℕ → Answered
+cs_data_found (Ok l) buffer = written cs_data_size (cs_data_bytes l) buffer
+cs_data_found (Err why) buffer = call_refused why buffer
 
 -- `onerom_derive_cs_data_layout` of a description's bytes, an address layout's, and a lent buffer
 unfoldable pub cs_data_call : List ℕ → List ℕ → List ℕ → Answered
@@ -87,7 +76,7 @@ abbrev pub build_from : ByteOrder → Description → List ℕ → List ℕ → 
 build_from order d addr csData spans images table = build_of order (args_of d (layout_at addr) (cs_data_at csData) (spans_at spans)) images table
 
 abbrev pub build_refused : Refusal → List ℕ → Built
-build_refused why table = built (Answer.Refused why) table
+build_refused why table = built (Err why) table
 
 -- `onerom_build_rom_image` of the bytes of a description, of both layouts and of the spans, of the chips' bytes, of the number of their
 -- order, and of a lent table

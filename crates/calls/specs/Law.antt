@@ -1,19 +1,18 @@
 -- Number and place of every answer come out of the one number that a call returns, and its number is one of document 01's rows. Assumes
 -- nothing.
-use Rattle.std.specs.Prelude.{ℕ, ◌/◌, ◌%◌, ◌^◌, ◌≤◌, ◌≡◌, List}
+use Rattle.refusal.specs.declared.Refusal.{Refusal}
+use Rattle.std.specs.Prelude.{ℕ, ◌/◌, ◌%◌, ◌^◌, ◌≤◌, ◌≡◌, List, Result, Ok}
 use Rattle.refusal.specs.Refusal.{answer_code}
-use Rattle.refusal.specs.declared.Answer.{Answer}
-use Rattle.refusal.specs.declared.Answer.TheVariants.{Done}
 use Rattle.calls.specs.Packed.{result_of}
 use Rattle.calls.specs.Calls.{addr_call, cs_data_call, build_call, read_back_call}
 
-pub record Unpacks (a : Answer) : Type 0 where
+pub record Unpacks (a : Result (Unit {0}) Refusal) : Type 0 where
   -- 01 Numbers 1: the number is what stands in a result above its low 48 bits
   pub number : result_of a / 2 ^ 48 ≡ (answer_code a).number
   -- 01 Numbers 1: the place is the low 48 bits of a result, and no refusal's place needs more
   pub place : result_of a % 2 ^ 48 ≡ (answer_code a).place
   -- no refused call returns 0
-  pub done : result_of a ≡ 0 → a ≡ Done
+  pub done : result_of a ≡ 0 → a ≡ Ok tt
 
 -- the answer of each call, whatever bytes it is handed
 pub record UnpackLaw : Type 0 where

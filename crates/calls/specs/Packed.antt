@@ -1,7 +1,5 @@
 -- An answer as the one number that a call returns. Assumes nothing.
-use Rattle.std.specs.Prelude.{ℕ, ◌+◌, ◌*◌, ◌%◌, ◌^◌}
-use Rattle.refusal.specs.declared.Answer.{Answer}
-use Rattle.refusal.specs.declared.WriteAnswer.{WriteAnswer}
+use Rattle.std.specs.Prelude.{ℕ, ◌+◌, ◌*◌, ◌%◌, ◌^◌, Result}
 use Rattle.refusal.specs.Refusal.{Code, refusal_code, answer_code, write_code}
 use Rattle.refusal.specs.declared.Refusal.{Refusal}
 
@@ -15,9 +13,9 @@ abbrev pub packed : Refusal → ℕ
 packed why = packed_code (refusal_code why)
 
 -- 0 where the call is done
-abbrev pub result_of : Answer → ℕ
+abbrev pub result_of : Result (Unit {0}) Refusal → ℕ
 result_of a = packed_code (answer_code a)
 
 -- 02 Slip 1 8: a caller who has something written gets its length, where a refusal has its place, beside number 0
-abbrev pub write_result_of : WriteAnswer → ℕ
+abbrev pub write_result_of : Result ℕ Refusal → ℕ
 write_result_of a = packed_code (write_code a)

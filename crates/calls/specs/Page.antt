@@ -1,7 +1,6 @@
 -- What `onerom_write_page` answers, and what the page lent to it holds then. Assumes nothing.
-use Rattle.std.specs.Prelude.{ℕ, ◌/◌, ◌%◌, ◌^◌, ◌≡◌, Bool, ◌&&◌, cond, List}
+use Rattle.std.specs.Prelude.{ℕ, ◌/◌, ◌%◌, ◌^◌, ◌≡◌, Bool, ◌&&◌, cond, List, Err}
 use Rattle.refusal.specs.Refusal.{write_code}
-use Rattle.refusal.specs.declared.WriteAnswer.TheVariants.{Refused}
 use Rattle.refusal.specs.declared.Refusal.TheVariants.{OutOfDomain}
 use Rattle.addr_record.specs.AddrRecord.{layout_at, layout_formed}
 use Rattle.cs_data_record.specs.CsDataRecord.{cs_data_at, cs_data_formed}
@@ -20,7 +19,7 @@ page_from addr csData page = page_of (layout_at addr) (cs_data_at csData) page
 -- 01 Number 1: the bytes are no layout records
 -- 01 Numbers 2: such bytes are refused before anything is done with a layout
 unfoldable pub page_call : List ℕ → List ℕ → List ℕ → Wrote
-page_call addr csData page = cond (layouts_formed addr csData) (page_from addr csData page) (wrote_as (Refused OutOfDomain) page)
+page_call addr csData page = cond (layouts_formed addr csData) (page_from addr csData page) (wrote_as (Err OutOfDomain) page)
 
 -- number and place, or the length that is written, come out of the one number
 pub record PageUnpacks : Type 0 where

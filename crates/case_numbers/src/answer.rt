@@ -35,10 +35,8 @@ pub fn put_bytes(ours: &mut [u64], at: usize, bytes: &[u8]) -> usize
         ≡ put_all (length bytes.now) (written ours.old at) bytes.now }
 {
     let mut end = at;
-    let mut k: usize = 0;
-    while k < bytes.len() {
+    for k in 0..bytes.len() {
         end = put(ours, end, wide(bytes[k]));
-        k += 1;
     }
     end
 }
@@ -83,10 +81,8 @@ pub fn same(theirs: &[u64], ours: &[u64], n: usize) -> bool
     ensures { result ≡ same_as theirs.now ours.now n }
 {
     let mut ok = theirs.len() == n;
-    let mut k: usize = 0;
-    while k < n {
+    for k in 0..n {
         ok = ok & (number_at(theirs, k) == number_at(ours, k));
-        k += 1;
     }
     ok
 }

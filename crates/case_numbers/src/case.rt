@@ -22,10 +22,8 @@ pub fn has_bytes(case: &[u64], n: usize) -> bool
     ensures { result ≡ has_bytes case.now n }
 {
     let mut ok = case.len() == n;
-    let mut k: usize = 0;
-    while k < n {
+    for k in 0..n {
         ok = ok & (number_at(case, k) < 256);
-        k += 1;
     }
     ok
 }
@@ -35,10 +33,8 @@ pub fn record_bytes(case: &[u64], at: u8) -> [u8; 424]
     ensures { result ≡ bytes_from case.now at 424 }
 {
     let mut out = [0u8; 424];
-    let mut k: usize = 0;
-    while k < 424 {
+    for k in 0..424 {
         out[k] = byte_at(case, at as usize + k);
-        k += 1;
     }
     out
 }

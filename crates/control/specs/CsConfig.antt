@@ -1,17 +1,15 @@
 -- How a control line's setting is read (document 01, multi_cs_config.rs, last two sentences). Assumes nothing.
-use Rattle.std.specs.Prelude.{ℕ, Bool, true, false, cond, eqb}
+use Rattle.std.specs.Prelude.{ℕ, Bool, true, false, cond, eqb, Option, Some, None}
 use Rattle.slot.specs.Description.{ce_kind, oe_kind, cs1_kind, cs2_kind, cs3_kind, cs4_kind}
 use Rattle.slot.specs.declared.description.CsLogic.{CsLogic}
 use Rattle.slot.specs.declared.description.CsLogic.TheVariants.{ActiveLow, ActiveHigh, Ignore}
-use Rattle.slot.specs.declared.description.Setting.{Setting}
-use Rattle.slot.specs.declared.description.Setting.TheVariants.{NotGiven, Given}
 use Rattle.slot.specs.declared.description.CsConfig.{CsConfig}
 use Rattle.slot.specs.declared.description.CsConfig.TheVariants.{ChipSelect, CeOe, CeOeExplicit}
 
 -- 01 multi_cs_config 4: a setting that was not given reads as active low
-abbrev pub given_or : Setting → CsLogic
-given_or NotGiven = ActiveLow
-given_or (Given logic) = logic
+abbrev pub given_or : Option CsLogic → CsLogic
+given_or None = ActiveLow
+given_or (Some logic) = logic
 
 abbrev pub is_ignore : CsLogic → Bool
 is_ignore ActiveLow = false
@@ -20,7 +18,7 @@ is_ignore Ignore = true
 
 -- 01 Shape 5: kinds 2 to 5 are cs1 to cs4
 -- 01 multi_cs_config 4: cs2, cs3 and cs4 read as active low if they have no setting, and so do lines of other kinds
-unfoldable pub chip_select_logic : CsLogic → Setting → Setting → Setting → ℕ → CsLogic
+unfoldable pub chip_select_logic : CsLogic → Option CsLogic → Option CsLogic → Option CsLogic → ℕ → CsLogic
 chip_select_logic cs1 cs2 cs3 cs4 kind =
     cond (eqb kind cs1_kind) cs1
     (cond (eqb kind cs2_kind) (given_or cs2)

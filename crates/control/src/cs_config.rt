@@ -3,14 +3,14 @@
 ghost use Rattle.std.specs.Prelude.{◌≡◌};
 ghost use Rattle.control.specs.CsConfig.{given_or, is_ignore, chip_select_logic, explicit_logic, logic_of, ignores};
 
-use slot::description::{CsConfig, CsLogic, Setting};
+use slot::description::{CsConfig, CsLogic};
 
-fn given_or_low(s: Setting) -> CsLogic
+fn given_or_low(s: Option<CsLogic>) -> CsLogic
     ensures { result ≡ given_or s }
 {
     match s {
-        Setting::NotGiven => CsLogic::ActiveLow,
-        Setting::Given(logic) => logic,
+        None => CsLogic::ActiveLow,
+        Some(logic) => logic,
     }
 }
 
@@ -25,7 +25,13 @@ pub fn is_ignore(logic: CsLogic) -> bool
     }
 }
 
-fn chip_select_logic(cs1: CsLogic, cs2: Setting, cs3: Setting, cs4: Setting, kind: u8) -> CsLogic
+fn chip_select_logic(
+    cs1: CsLogic,
+    cs2: Option<CsLogic>,
+    cs3: Option<CsLogic>,
+    cs4: Option<CsLogic>,
+    kind: u8,
+) -> CsLogic
     ensures { result ≡ chip_select_logic cs1 cs2 cs3 cs4 kind }
 {
     match kind {

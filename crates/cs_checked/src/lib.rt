@@ -13,7 +13,6 @@ use cs_pins::{kind_listed, list_data, push_commoned};
 use listing::{Listing, first_fault};
 use lists::array::entry;
 use refusal::Refusal;
-use refusal::first::{FirstFault, fault_if, or_else};
 use slot::description::Description;
 
 // The list, with the ignored lines.
@@ -26,10 +25,8 @@ fn push_ignored(d: Description, before: Listing) -> Listing
     let count = multi.num_ignored as usize;
     let at = before.count;
     let mut pins = before.pins;
-    let mut k: usize = 0;
-    while k < count {
+    for k in 0..count {
         pins[at + k] = kind_listed(d, entry(&kinds, k));
-        k += 1;
     }
     Listing {
         pins,
@@ -50,23 +47,23 @@ fn check_multi(d: Description) -> Listing
 
 // The first fault in Single and Banked: the numbered pins stand in the order in which they answer. That no line selects is the
 // last fault of all.
-fn active_fault(d: Description, l: Listing) -> FirstFault
+fn active_fault(d: Description, l: Listing) -> Option<Refusal>
     requires { (l.count ≤ 30) × (list_of l ≡ numbered d) × (is_multi d.set_type ≡ false) }
     ensures { result ≡ pins_fault d }
 {
     let chip = d.chip0();
     let no_line = l.count <= chip.num_data_pins as usize;
-    or_else(first_fault(l), fault_if(no_line, Refusal::NoSelectLine))
+    first_fault(l).or(no_line.then_some(Refusal::NoSelectLine))
 }
 
 // The first fault of the pins that are checked; `l` has those that are numbered.
-pub fn pins_fault(d: Description, l: Listing) -> FirstFault
+pub fn pins_fault(d: Description, l: Listing) -> Option<Refusal>
     requires { CheckedIn d l }
     ensures { result ≡ pins_fault d }
 {
     let set_type = d.set_type;
     if set_type.is_multi() {
-        return or_else(first_fault(list_data(d)), first_fault(check_multi(d)));
+        return first_fault(list_data(d)).or(first_fault(check_multi(d)));
     }
     active_fault(d, l)
 }

@@ -1,4 +1,5 @@
 -- What is seen of all choices says why nothing fits. Assumes nothing.
+use Rattle.std.specs.Prelude.{Option, Some, None}
 use mathlib.Core.Path.{◌≡◌, refl}
 use mathlib.Core.Bool.{Bool, true, false, cond}
 use mathlib.Core.List.{List}
@@ -11,8 +12,6 @@ use Rattle.gpio.specs.Set.{lowest, gapless}
 use Rattle.refusal.specs.declared.Refusal.{Refusal}
 use Rattle.refusal.specs.declared.Refusal.TheVariants.{NonContiguousSelect, InteriorIgnoredLine}
 use Rattle.refusal.specs.First.{or_else}
-use Rattle.refusal.specs.declared.first.FirstFault.{FirstFault}
-use Rattle.refusal.specs.declared.first.FirstFault.TheVariants.{None, Of}
 use Rattle.listing.specs.declared.Listed.{Listed}
 use Rattle.cs_choices.specs.Sets.{verdict_on}
 use Rattle.cs_verdict.specs.Verdict.{selectable, all_of, in_one_window, score_of, verdict_of}
@@ -25,8 +24,8 @@ use Rattle.cs_verdict.specs.declared.Verdict.TheVariants.{DataGap, SelectGap, Ou
 
 -- the first of two faults is that of the first of two sets
 module _ (refusal : ℕ → Refusal) (s t : ℕ) where
-  abbrev fault_of : ℕ → FirstFault
-  fault_of x = cond (eqb x 0) None (Of (refusal x))
+  abbrev fault_of : ℕ → Option Refusal
+  fault_of x = cond (eqb x 0) None (Some (refusal x))
 
   by_empty : (empty : Bool) → eqb s 0 ≡ empty → or_else (fault_of s) (fault_of t) ≡ fault_of (or_set s t)
   by_empty true e = rw e

@@ -1,20 +1,20 @@
 // The choices, and which of them is the best. A choice number has two parts: the GPIOs of the bits below a split are found
 // once, and joined in each row of choices with those of the other bits.
-ghost use Rattle.std.specs.Prelude.{◌≡◌, true, cond, ◌+◌, ◌^◌, ◌≤◌, ◌<◌, get_or, take};
+ghost use Rattle.std.specs.Prelude.{◌≡◌, cond, ◌^◌, ◌<◌};
 ghost use Rattle.gpio.specs.Set.{with};
-ghost use Rattle.lists.specs.Tab.{tab};
 ghost use Rattle.listing.specs.Design.Packed.{list_of};
-ghost use Rattle.search.specs.Search.{best};
-ghost use Rattle.search.specs.Design.Rows.{best_onward};
+ghost use Rattle.search.specs.Search.{better_of, best};
 ghost use Rattle.cs_verdict.specs.Verdict.{verdict_trial};
 ghost use Rattle.cs_choices.specs.Sets.{verdict_on};
-ghost use Rattle.cs_choices.specs.Design.Parts.{set_part_at, parts_of, sets_of, no_sets, in_row, PinsIn, BitsIn};
+ghost use Rattle.cs_choices.specs.Design.Parts.{set_part_at, parts_of, sets_of, in_row, PinsIn, BitsIn, SearchIn};
+ghost use Rattle.cs_choices.specs.Design.Laws.{row-passes};
 
 use cs_verdict::{Verdict, judge};
 use gpio::set::with;
 use listing::Listing;
 use listing::choice::{in_part, pick};
-use search::{Found, Trial, better, row_bits};
+use search::rows::{InRows, in_rows};
+use search::{Found, better};
 
 // The GPIOs of a choice, or of a part of its number.
 #[derive(Clone, Copy)]
@@ -47,8 +47,7 @@ fn part(l: Listing, from: usize, to: usize, low: bool, split: u32, choice: u32) 
     let mut s: u64 = 0;
     let mut rest = choice;
     let mut bit: u32 = 0;
-    let mut k: usize = 0;
-    while k < to {
+    for k in 0..to {
         let packed = l.pins[k];
         let pin = packed.listed();
         let gpios = pin.gpios;
@@ -56,7 +55,6 @@ fn part(l: Listing, from: usize, to: usize, low: bool, split: u32, choice: u32) 
         s = with_if(s, (from <= k) & in_part(low, split, bit), picked.gpio);
         rest = picked.rest;
         bit += listing::bits(pin);
-        k += 1;
     }
     s
 }
@@ -96,73 +94,61 @@ pub fn whole(l: Listing, fixed: Fixed, choice: u32) -> Sets
     }
 }
 
-fn trial(v: Verdict) -> Trial
+fn trial(v: Verdict) -> Option<u32>
     ensures { result ≡ verdict_trial v }
 {
     match v {
-        Verdict::DataGap => Trial::Misfit,
-        Verdict::SelectGap(_) => Trial::Misfit,
-        Verdict::OutsideWindow => Trial::Misfit,
-        Verdict::Fits(score) => Trial::Score(score),
+        Verdict::DataGap => None,
+        Verdict::SelectGap(_) => None,
+        Verdict::OutsideWindow => None,
+        Verdict::Fits(score) => Some(score),
     }
 }
 
-// The GPIOs of the bits below `split`.
-pub(crate) fn low_parts(l: Listing, num_data: usize, split: u32) -> [Sets; 64]
-    requires { BitsIn l num_data split 6 }
-    ensures { take (2 ^ split) result ≡ tab (2 ^ split) (λ q. parts_of (list_of l) num_data true split q) }
-{
-    let count = 1usize << split;
-    let none = Sets {
+// What a table has before it is filled.
+pub(crate) fn no_gpios() -> Sets {
+    Sets {
         data_gpios: 0,
         select_gpios: 0,
-    };
-    let mut out = [none; 64];
-    let mut q: usize = 0;
-    while q < count {
-        out[q] = parts(l, num_data, true, split, q as u32);
-        q += 1;
     }
-    out
 }
 
-// The better of what was found and of a row of choices from `first` on.
-fn best_in_row(
-    before: Found,
+// The search for the best choice.
+#[derive(Drop)]
+struct Search {
+    list: Listing,
     fixed: Fixed,
-    lows: [Sets; 64],
-    high: Sets,
-    first: u32,
-    len: u32,
-) -> Found
-    requires { (len ≤ 64) × (first + len ≤ 65536) }
-    ensures { result ≡ best_onward before (λ q. verdict_trial (in_row fixed (get_or lows q no_sets) high)) first len }
-{
-    let mut found = before;
-    let mut q: u32 = 0;
-    while q < len {
-        let low = lows[q as usize];
-        found = better(found, first + q, trial(joined(fixed, low, high)));
-        q += 1;
+}
+
+impl InRows for Search {
+    type Part = Sets;
+
+    type State = Option<Found>;
+
+    ghost formed = { λ s. SearchIn s.list s.fixed };
+
+    ghost part_of = { λ s low split c. parts_of (list_of s.list) s.fixed.num_data low split c };
+
+    ghost stepped = { λ s before c low high. better_of before c (verdict_trial (in_row s.fixed low high)) };
+
+    ghost after = { λ s k. best (λ c. verdict_trial (verdict_on (list_of s.list) s.fixed c)) k };
+
+    fn part(&self, low: bool, split: u32, choice: u32) -> Sets {
+        parts(self.list, self.fixed.num_data, low, split, choice)
     }
-    found
+
+    fn step(&self, before: Option<Found>, choice: u32, low: Sets, high: Sets) -> Option<Found> {
+        better(before, choice, trial(joined(self.fixed, low, high)))
+    }
+
+    ghost passes = { λ s k row q f l. row-passes (list_of s.list) s.fixed k row q f.lines l };
 }
 
 // The best of the choices that `bits` two-candidate pins leave.
-pub fn best(l: Listing, fixed: Fixed, bits: u32) -> Found
+pub fn best(l: Listing, fixed: Fixed, bits: u32) -> Option<Found>
     requires { BitsIn l fixed.num_data bits 16 }
     ensures { result ≡ best (λ c. verdict_trial (verdict_on (list_of l) fixed c)) (2 ^ bits) }
 {
-    let split = row_bits(bits);
-    let lows = low_parts(l, fixed.num_data, split);
-    let rows = 1u32 << (bits - split);
-    let mut found = Found::Nothing;
-    let mut row: u32 = 0;
-    while row < rows {
-        let first = row << split;
-        let high = parts(l, fixed.num_data, false, split, first);
-        found = best_in_row(found, fixed, lows, high, first, 1 << split);
-        row += 1;
-    }
-    found
+    let mut lows = [no_gpios(); 64];
+    in_rows(&Search { list: l, fixed }, &mut lows, bits, None)
 }

@@ -1,4 +1,5 @@
 -- The layout of the best choice of the select search, and why there is none where nothing fits. Assumes nothing.
+use Rattle.std.specs.Prelude.{Option, Some, None, Result, Ok, Err}
 use mathlib.Core.Path.{◌≡◌, refl, sym, ◌∙◌, ap}
 use Prim.Native.Nat.{ℕ, ◌<◌}
 use native.Mathlib.Omega.{arith}
@@ -7,15 +8,10 @@ use Rattle.slot.specs.declared.description.Description.{Description}
 use Rattle.refusal.specs.declared.Refusal.{Refusal}
 use Rattle.refusal.specs.declared.Refusal.TheVariants.{NoValidLayout}
 use Rattle.refusal.specs.First.{or_else}
-use Rattle.refusal.specs.declared.first.FirstFault.{FirstFault}
-use Rattle.refusal.specs.declared.first.FirstFault.TheVariants.{None, Of}
 use Rattle.listing.specs.Law.{Assigned, Numbers}
 use Rattle.listing.proofs.Numbers.{numbers}
-use Rattle.search.specs.Search.{best}
-use Rattle.search.specs.declared.Trial.{Trial}
-use Rattle.search.specs.declared.Trial.TheVariants.{Score}
+use Rattle.search.specs.Search.{At, best}
 use Rattle.search.specs.declared.Found.{Found}
-use Rattle.search.specs.declared.Found.TheVariants.{At}
 use Rattle.search.proofs.Law.{found-best}
 use Rattle.cs_pins.specs.Pins.{numbered}
 use Rattle.cs_pins.proofs.InDomain.{numbered_in}
@@ -23,12 +19,11 @@ use Rattle.cs_verdict.specs.Verdict.{verdict_trial}
 use Rattle.cs_verdict.specs.declared.Verdict.{Verdict}
 use Rattle.cs_verdict.specs.declared.Verdict.TheVariants.{DataGap, SelectGap, OutsideWindow, Fits}
 use Rattle.cs_choices.specs.Nothing.{interior, last_refused}
-use Rattle.cs_data_layout.specs.Layout.{cs_data_refused, handed}
+use Rattle.cs_data_layout.specs.Layout.{handed}
 use Rattle.cs_data_layout.specs.Choices.{cs_verdict, cs_data_layout_of, ignored_set}
 use Rattle.cs_data_layout.specs.Search.{cs_best, or_no_layout, none_fits, cs_data_answer_of, cs_data_answer}
-use Rattle.cs_data_layout.specs.declared.layout.GivenLayout.{GivenLayout}
-use Rattle.cs_data_layout.specs.declared.layout.CsDataOutcome.TheVariants.{LaidOut, Refused}
-use Rattle.cs_data_layout.specs.declared.layout.CsDataAnswer.{CsDataAnswer}
+use Rattle.addr_layout.specs.declared.layout.AddrLayout.{AddrLayout}
+use Rattle.cs_data_layout.specs.declared.layout.CsDataLayout.{CsDataLayout}
 use Rattle.cs_data_law.specs.Law.{PastTests, choices, choice, select_picked, Fit, SelectRefused, NoneSeen, NoneRefused, WhyNone, eight, seven, nine, FoundBest}
 use Rattle.cs_data_law.proofs.Scores.{score_by, judged-at, verdict-fit, fit-verdict, verdict-refused, refused-verdict, score_worse, worse_score, fits_too, refused_too, sees_too, scores_too}
 use Rattle.cs_data_law.proofs.Why.{first_is, FirstIs, last_is, LastIs}
@@ -40,26 +35,29 @@ use Rattle.cs_data_law.proofs.Sound.{sound-layout}
 use Rattle.cs_data_law.proofs.Window.{sound-window}
 
 -- a choice has a score exactly if it fits
-pub fits_scores : (v : Verdict) (t : ℕ) → v ≡ Fits t → verdict_trial v ≡ Score t
+pub fits_scores : (v : Verdict) (t : ℕ) → v ≡ Fits t → verdict_trial v ≡ Some t
 fits_scores v t e = rw e
 
-pub scores_fit : (v : Verdict) (t : ℕ) → verdict_trial v ≡ Score t → v ≡ Fits t
+pub scores_fit : (v : Verdict) (t : ℕ) → verdict_trial v ≡ Some t → v ≡ Fits t
 scores_fit DataGap t e = absurd (zero_one cc)
 scores_fit (SelectGap s) t e = absurd (zero_one cc)
 scores_fit OutsideWindow t e = absurd (zero_one cc)
 scores_fit (Fits s) t e = cc
 
-pub laid_not_refused : (r : Refusal) → LaidOut ≡ Refused r → ⊥
-laid_not_refused r e = zero_one cc
+pub laid_not_refused : (l : CsDataLayout) (r : Refusal) → ◌≡◌ {A = Result CsDataLayout Refusal} (Ok l) (Err r) → ⊥
+laid_not_refused l r e = zero_one cc
 
-pub same_refusal : (r w : Refusal) → cs_data_refused r ≡ cs_data_refused w → r ≡ w
-same_refusal r w e = let o : Refused r ≡ Refused w = ap (λ (x : CsDataAnswer). x.outcome) e in cc
+pub same_refusal : (r w : Refusal) → ◌≡◌ {A = Result CsDataLayout Refusal} (Err r) (Err w) → r ≡ w
+same_refusal r w e = cc
 
-module _ (d : Description) (a : GivenLayout) (past : PastTests d a) where
+pub same_layout : (l m : CsDataLayout) → ◌≡◌ {A = Result CsDataLayout Refusal} (Ok l) (Ok m) → l ≡ m
+same_layout l m e = cc
+
+module _ (d : Description) (a : Option AddrLayout) (past : PastTests d a) where
   abbrev pub verdicts : ℕ → Verdict
   verdicts c = cs_verdict d (handed a) c
 
-  abbrev pub trials : ℕ → Trial
+  abbrev pub trials : ℕ → Option ℕ
   trials c = verdict_trial (verdicts c)
 
   pub by_numbers : Numbers (numbered d)
@@ -69,10 +67,10 @@ module _ (d : Description) (a : GivenLayout) (past : PastTests d a) where
   assigned c = by_numbers.makes_one c
 
   -- a choice scores exactly if its GPIOs fit
-  pub fit_scores : (c : ℕ) → Fit d a (choice d c) → trials c ≡ Score (score_by d a (choice d c))
+  pub fit_scores : (c : ℕ) → Fit d a (choice d c) → trials c ≡ Some (score_by d a (choice d c))
   fit_scores c f = fits_scores (verdicts c) (score_by d a (choice d c)) (judged-at d a c ∙ fit-verdict d a (choice d c) f)
 
-  pub scores_by : (c s : ℕ) → trials c ≡ Score s → Fit d a (choice d c) × (s ≡ score_by d a (choice d c))
+  pub scores_by : (c s : ℕ) → trials c ≡ Some s → Fit d a (choice d c) × (s ≡ score_by d a (choice d c))
   scores_by c s e = verdict-fit d a (choice d c) s (sym (judged-at d a c) ∙ scores_fit (verdicts c) s e)
 
   -- and its verdict is that the select set is refused exactly if it is
@@ -83,24 +81,21 @@ module _ (d : Description) (a : GivenLayout) (past : PastTests d a) where
   by_refused c r = judged-at d a c ∙ refused-verdict d a (choice d c) r
 
   -- a choice of candidates that fits is a number that scores
-  pub number_of_lem : (pick : ℕ → ℕ) → Assigned (numbered d) pick → Fit d a pick → (c : ℕ) × (c < choices d) × (trials c ≡ Score (score_by d a pick))
+  pub number_of_lem : (pick : ℕ → ℕ) → Assigned (numbered d) pick → Fit d a pick → (c : ℕ) × (c < choices d) × (trials c ≡ Some (score_by d a pick))
   number_of_lem pick ok f =
       let (c, l, m) = by_numbers.made pick ok in
-      (c, l, fit_scores c (fits_too d a c pick m f) ∙ ap Score (scores_too d a c pick m))
+      (c, l, fit_scores c (fits_too d a c pick m f) ∙ ap Some (scores_too d a c pick m))
 
-  pub answers : (f : Found) → best trials (choices d) ≡ f → cs_data_answer d a ≡ cs_data_answer_of d (handed a) f
+  pub answers : (f : Option Found) → best trials (choices d) ≡ f → cs_data_answer d a ≡ cs_data_answer_of d (handed a) f
   unfolding cs_best
   answers f e =
       let searched : cs_data_answer d a ≡ cs_data_answer_of d (handed a) (cs_best d (handed a)) = rw (past.domain, past.no_fault) in
       searched ∙ ap (cs_data_answer_of d (handed a)) e
 
-  pub outcome_is : (f : Found) → best trials (choices d) ≡ f → (cs_data_answer d a).outcome ≡ (cs_data_answer_of d (handed a) f).outcome
-  outcome_is f e = ap (λ (r : CsDataAnswer). r.outcome) (answers f e)
-
   -- the first of the two faults, else 9
-  pub why-first : (f : FirstFault) → FirstIs verdicts (ignored_set d) (choices d) f → (g : FirstFault) → LastIs verdicts (choices d) g
-      → (why : Refusal) × (or_no_layout (or_else f g) ≡ cs_data_refused why) × WhyNone d a why
-  why-first (Of r) (c, s, l, e, some, before, q) g last =
+  pub why-first : (f : Option Refusal) → FirstIs verdicts (ignored_set d) (choices d) f → (g : Option Refusal) → LastIs verdicts (choices d) g
+      → (why : Refusal) × (or_no_layout (or_else f g) ≡ Err why) × WhyNone d a why
+  why-first (Some r) (c, s, l, e, some, before, q) g last =
       let (refused, is) = refused_by c s e in (
         r,
         refl,
@@ -110,7 +105,7 @@ module _ (d : Description) (a : GivenLayout) (past : PastTests d a) where
           earlier-none = λ j m h. h.some (before j (select_picked d a (choice d j)) m (by_refused j h.refused));
         }) (rw is at q),
       )
-  why-first None none (Of r) (c, s, l, e, later, q) =
+  why-first None none (Some r) (c, s, l, e, later, q) =
       let (refused, is) = refused_by c s e in (
         r,
         refl,
@@ -134,15 +129,15 @@ module _ (d : Description) (a : GivenLayout) (past : PastTests d a) where
           last j (select_picked d a (choice d j)) m (by_refused j (refused_too d a j pick made h))
 
   -- what `none_fits` answers, and why
-  pub why-none : (why : Refusal) × (none_fits d (handed a) ≡ cs_data_refused why) × WhyNone d a why
+  pub why-none : (why : Refusal) × (none_fits d (handed a) ≡ Err why) × WhyNone d a why
   unfolding none_fits
   why-none =
       why-first (interior (ignored_set d) verdicts (choices d)) (first_is verdicts (ignored_set d) (choices d))
       (last_refused verdicts (choices d)) (last_is verdicts (choices d))
 
   -- `none_fits` is never a layout
-  pub none_not_laid : (none_fits d (handed a)).outcome ≡ LaidOut → ⊥
-  none_not_laid e = let (why, q, w) = why-none in laid_not_refused why (sym e ∙ ap (λ (x : CsDataAnswer). x.outcome) q)
+  pub none_not_laid : (l : CsDataLayout) → none_fits d (handed a) ≡ Ok l → ⊥
+  none_not_laid l e = let (why, q, w) = why-none in laid_not_refused l why (sym e ∙ q)
 
   -- the layout of the best choice
   pub best-laid : (c s : ℕ) → best trials (choices d) ≡ At c s → FoundBest d a c (cs_data_layout_of d (handed a) (numbered d) c)

@@ -1,4 +1,5 @@
 -- Past the earlier tests each numbered pin has a candidate, and some pin selects. Assumes nothing.
+use Rattle.std.specs.Prelude.{None, Option}
 use mathlib.Core.Path.{◌≡◌, refl}
 use mathlib.Core.Bool.{Bool, true, false}
 use mathlib.Core.List.{List, [], ◌∷◌, ◌++◌}
@@ -11,14 +12,13 @@ use Rattle.slot.specs.Description.{is_multi, chip0}
 use Rattle.slot.specs.declared.description.Description.{Description}
 use Rattle.listing.specs.Listing.{x_pins, fault_from, first_fault}
 use Rattle.listing.specs.declared.Listed.{Listed}
-use Rattle.refusal.specs.declared.first.FirstFault.TheVariants.{None}
 use Rattle.listing.proofs.Faults.{append-none, none-append}
 use Rattle.refusal.proofs.Firsts.{or_none}
 use Rattle.cs_pins.specs.Pins.{data_listed, active_listed, kind_listed, select_listed, multi_commoned, commoned_listed, numbered}
 use Rattle.cs_checked.specs.Checked.{or_no_active, ignored_listed, multi_checked, checked}
 use Rattle.cs_data_layout.specs.Layout.{handed}
 use Rattle.cs_data_layout.specs.Search.{missing_layout, rom_too_large, earlier}
-use Rattle.cs_data_layout.specs.declared.layout.GivenLayout.{GivenLayout}
+use Rattle.addr_layout.specs.declared.layout.AddrLayout.{AddrLayout}
 
 -- the pins of a list that must not be empty
 active-none : (ls : List Listed) → first_fault (or_no_active ls) ≡ None → first_fault ls ≡ None
@@ -59,16 +59,16 @@ module _ (d : Description) where
       rw m (active-some (active_listed d (chip0 d).control.count) active)
 
   -- past the earlier tests no data pin and no pin that is checked has a fault
-  faults_none : (a : GivenLayout) → earlier d a ≡ None → (first_fault (data_listed d) ≡ None) × (first_fault (checked d) ≡ None)
+  faults_none : (a : Option AddrLayout) → earlier d a ≡ None → (first_fault (data_listed d) ≡ None) × (first_fault (checked d) ≡ None)
   unfolding earlier
   faults_none a e = or_none (first_fault (data_listed d)) _ (or_none (rom_too_large d (handed a)) _ (or_none (missing_layout d a) _ e).1).1
 
   -- so that some pin selects
-  pub some-select : (a : GivenLayout) → earlier d a ≡ None → 0 < length (select_listed d)
+  pub some-select : (a : Option AddrLayout) → earlier d a ≡ None → 0 < length (select_listed d)
   some-select a e = select-some (is_multi d.set_type) refl (faults_none a e).1
 
   -- and no numbered pin has a fault
-  pub numbered-none : (a : GivenLayout) → earlier d a ≡ None → first_fault (numbered d) ≡ None
+  pub numbered-none : (a : Option AddrLayout) → earlier d a ≡ None → first_fault (numbered d) ≡ None
   unfolding numbered
   numbered-none a e =
       let (ds, cs) = faults_none a e in

@@ -1,4 +1,5 @@
 -- Demand 2's law of the select search. Assumes nothing.
+use Rattle.std.specs.Prelude.{Option, Some, None, Ok, Err}
 use mathlib.Core.Path.{◌≡◌, refl, sym, ◌∙◌, ap, subst}
 use Prim.Native.Nat.{ℕ, suc, ◌≤◌, ◌<◌}
 use native.Mathlib.Nat.{lt_of_not-le}
@@ -10,19 +11,16 @@ use Rattle.refusal.specs.declared.Refusal.TheVariants.{NonContiguousSelect, Inte
 use Rattle.listing.specs.Law.{Assigned}
 use Rattle.search.specs.Search.{best}
 use Rattle.search.specs.declared.Found.{Found}
-use Rattle.search.specs.declared.Found.TheVariants.{Nothing, At}
 use Rattle.search.proofs.Law.{nothing-fits}
 use Rattle.cs_pins.specs.Pins.{numbered}
-use Rattle.cs_data_layout.specs.Layout.{cs_data_refused, handed}
+use Rattle.cs_data_layout.specs.Layout.{handed}
 use Rattle.cs_data_layout.specs.Choices.{cs_data_layout_of}
 use Rattle.cs_data_layout.specs.Search.{cs_data_answer}
-use Rattle.cs_data_layout.specs.declared.layout.GivenLayout.{GivenLayout}
+use Rattle.addr_layout.specs.declared.layout.AddrLayout.{AddrLayout}
 use Rattle.cs_data_layout.specs.declared.layout.CsDataLayout.{CsDataLayout}
-use Rattle.cs_data_layout.specs.declared.layout.CsDataOutcome.TheVariants.{LaidOut}
-use Rattle.cs_data_layout.specs.declared.layout.CsDataAnswer.{CsDataAnswer}
 use Rattle.cs_data_law.specs.Law.{PastTests, choices, choice, select_picked, Fit, NoneFits, seen, FirstSeen, LastRefused, WhyNone, eight, seven, nine, FoundBest, CsDataDemand}
 use Rattle.cs_data_law.proofs.Scores.{score_by}
-use Rattle.cs_data_law.proofs.Best.{number_of_lem, answers, outcome_is, best-laid, assigned, none_not_laid, by_numbers, trials, why-none, laid_not_refused, same_refusal}
+use Rattle.cs_data_law.proofs.Best.{number_of_lem, answers, best-laid, assigned, none_not_laid, by_numbers, trials, why-none, laid_not_refused, same_refusal, same_layout}
 
 -- two numbers, neither of which is below the other
 pub neither-below : (b c : ℕ) → (b < c → ⊥) → (c < b → ⊥) → b ≡ c
@@ -31,40 +29,40 @@ neither-below b c p q =
     let m : b < suc c = lt_of_not-le (λ (h : suc c ≤ b). q h) in
     omega arith
 
-module _ (d : Description) (a : GivenLayout) (past : PastTests d a) where
-  some-found : (pick : ℕ → ℕ) → Assigned (numbered d) pick → Fit d a pick → (cs_data_answer d a).outcome ≡ LaidOut
+module _ (d : Description) (a : Option AddrLayout) (past : PastTests d a) where
+  some-found : (pick : ℕ → ℕ) → Assigned (numbered d) pick → Fit d a pick → (l : CsDataLayout) × (cs_data_answer d a ≡ Ok l)
   some-found pick ok f = by (best (trials d a past) (choices d)) refl
     where
-      by : (r : Found) → best (trials d a past) (choices d) ≡ r → (cs_data_answer d a).outcome ≡ LaidOut
-      by Nothing e = let (c, l, t) = number_of_lem d a past pick ok f in absurd (nothing-fits (trials d a past) (choices d) e c (score_by d a pick) l t)
-      by (At c s) e = outcome_is d a past (At c s) e
+      by : (r : Option Found) → best (trials d a past) (choices d) ≡ r → (l : CsDataLayout) × (cs_data_answer d a ≡ Ok l)
+      by None e = let (c, l, t) = number_of_lem d a past pick ok f in absurd (nothing-fits (trials d a past) (choices d) e c (score_by d a pick) l t)
+      by (Some f) e = (cs_data_layout_of d (handed a) (numbered d) f.choice, answers d a past (Some f) e)
 
-  found : (cs_data_answer d a).outcome ≡ LaidOut → (c : ℕ) × FoundBest d a c (cs_data_answer d a).layout
-  found o = by (best (trials d a past) (choices d)) refl
+  found : (l : CsDataLayout) → cs_data_answer d a ≡ Ok l → (c : ℕ) × FoundBest d a c l
+  found l o = by (best (trials d a past) (choices d)) refl
     where
-      by : (r : Found) → best (trials d a past) (choices d) ≡ r → (c : ℕ) × FoundBest d a c (cs_data_answer d a).layout
-      by Nothing e = absurd (none_not_laid d a past (sym (outcome_is d a past Nothing e) ∙ o))
-      by (At c s) e = (c, subst (λ (r : CsDataAnswer). FoundBest d a c r.layout) (sym (answers d a past (At c s) e)) (best-laid d a past c s e))
+      by : (r : Option Found) → best (trials d a past) (choices d) ≡ r → (c : ℕ) × FoundBest d a c l
+      by None e = absurd (none_not_laid d a past l (sym (answers d a past None e) ∙ o))
+      by (Some f) e = (f.choice, subst (FoundBest d a f.choice) (same_layout _ l (sym (answers d a past (Some f) e) ∙ o)) (best-laid d a past f.choice f.score e))
 
-  none-refused : NoneFits d a → (why : Refusal) × (cs_data_answer d a ≡ cs_data_refused why)
+  none-refused : NoneFits d a → (why : Refusal) × (cs_data_answer d a ≡ Err why)
   none-refused none = by (best (trials d a past) (choices d)) refl
     where
-      by : (r : Found) → best (trials d a past) (choices d) ≡ r → (why : Refusal) × (cs_data_answer d a ≡ cs_data_refused why)
-      by Nothing e = let (why, q, w) = why-none d a past in (why, answers d a past Nothing e ∙ q)
-      by (At c s) e = absurd (none (choice d c) (assigned d a past c) (best-laid d a past c s e).fit)
+      by : (r : Option Found) → best (trials d a past) (choices d) ≡ r → (why : Refusal) × (cs_data_answer d a ≡ Err why)
+      by None e = let (why, q, w) = why-none d a past in (why, answers d a past None e ∙ q)
+      by (Some f) e = absurd (none (choice d f.choice) (assigned d a past f.choice) (best-laid d a past f.choice f.score e).fit)
 
   -- a refusal is no layout, so that none fits; and it is the one of `none_fits`
-  refused_none : (why : Refusal) → cs_data_answer d a ≡ cs_data_refused why → NoneFits d a × WhyNone d a why
+  refused_none : (why : Refusal) → cs_data_answer d a ≡ Err why → NoneFits d a × WhyNone d a why
   refused_none why e = (none, by (best (trials d a past) (choices d)) refl)
     where
       none : NoneFits d a
-      none pick ok f = laid_not_refused why (sym (some-found pick ok f) ∙ ap (λ (x : CsDataAnswer). x.outcome) e)
+      none pick ok f = let (l, o) = some-found pick ok f in laid_not_refused l why (sym o ∙ e)
 
-      by : (r : Found) → best (trials d a past) (choices d) ≡ r → WhyNone d a why
-      by Nothing q =
+      by : (r : Option Found) → best (trials d a past) (choices d) ≡ r → WhyNone d a why
+      by None q =
           let (w, n, is) = why-none d a past in
-          subst (WhyNone d a) (same_refusal w why (sym n ∙ sym (answers d a past Nothing q) ∙ e)) is
-      by (At c s) q = absurd (none (choice d c) (assigned d a past c) (best-laid d a past c s q).fit)
+          subst (WhyNone d a) (same_refusal w why (sym n ∙ sym (answers d a past None q) ∙ e)) is
+      by (Some f) q = absurd (none (choice d f.choice) (assigned d a past f.choice) (best-laid d a past f.choice f.score q).fit)
 
   -- the first choice that sees an ignored GPIO is one, and so is the last that is refused
   one-first : (b c : ℕ) → FirstSeen d a b → FirstSeen d a c → b ≡ c

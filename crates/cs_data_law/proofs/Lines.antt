@@ -1,4 +1,5 @@
 -- What the select and commoned lines of a choice's layout are. Assumes nothing.
+use Rattle.std.specs.Prelude.{Option}
 use mathlib.Core.Path.{◌≡◌, refl, ◌∙◌, ap}
 use mathlib.Core.Bool.{Bool, true, false, cond}
 use Prim.Native.Nat.{ℕ, ◌+◌, ◌-◌, ◌≤◌, ◌<◌}
@@ -18,7 +19,7 @@ use Rattle.cs_roles.specs.Roles.{select_roles, half_role}
 use Rattle.cs_data_layout.specs.Layout.{line, handed}
 use Rattle.cs_data_layout.specs.Choices.{num_data, excess_gpio, select_line, num_commoned, commoned_line, cs_data_layout_of}
 use Rattle.cs_data_layout.specs.Search.{given_in}
-use Rattle.cs_data_layout.specs.declared.layout.GivenLayout.{GivenLayout}
+use Rattle.addr_layout.specs.declared.layout.AddrLayout.{AddrLayout}
 use Rattle.cs_data_layout.specs.declared.layout.SelectLine.{SelectLine}
 use Rattle.cs_data_layout.specs.declared.layout.CsDataLayout.{CsDataLayout}
 use Rattle.cs_data_layout.proofs.Bounds.{described, few-lines}
@@ -27,7 +28,7 @@ use Rattle.cs_data_law.specs.Law.{PastTests, choice}
 use Rattle.cs_data_law.specs.Sound.{select_at, select_gpio, commoned_at, commoned_gpio, SoundLines}
 use Rattle.cs_data_law.proofs.Counts.{few_roles, select_roles_lem, numbered-length, select-pin, commoned-pin, commoned-length}
 
-module _ (d : Description) (a : GivenLayout) (past : PastTests d a) where
+module _ (d : Description) (a : Option AddrLayout) (past : PastTests d a) where
   pub in_domain : description_in d ≡ true
   in_domain = described d (and_left (cs_search_in d) (given_in d a) past.domain)
 

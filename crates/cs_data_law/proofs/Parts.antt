@@ -1,4 +1,5 @@
 -- The sets of GPIOs of a choice, and the window that holds them. Assumes nothing.
+use Rattle.std.specs.Prelude.{Option}
 use mathlib.Core.Path.{◌≡◌, refl}
 use mathlib.Core.Bool.{Bool, true, false, cond}
 use Prim.Native.Nat.{ℕ, ◌+◌, ◌-◌, ◌^◌, ◌≤◌, ◌<◌}
@@ -22,7 +23,7 @@ use Rattle.cs_pins.proofs.InDomain.{numbered_in}
 use Rattle.cs_verdict.specs.Verdict.{base_of, in_one_window}
 use Rattle.cs_data_layout.specs.Layout.{handed}
 use Rattle.cs_data_layout.specs.Choices.{num_data, excess_gpio, qualifier_set}
-use Rattle.cs_data_layout.specs.declared.layout.GivenLayout.{GivenLayout}
+use Rattle.addr_layout.specs.declared.layout.AddrLayout.{AddrLayout}
 use Rattle.cs_data_layout.proofs.Bounds.{excess_in, qualifier_line_in}
 use Rattle.cs_data_layout.proofs.Searched.{handed_in, qualifiers_in_lem}
 use Rattle.cs_data_law.specs.Law.{PastTests, choice, data_picked, select_picked, all_picked}
@@ -46,7 +47,7 @@ in_window all g l w h =
 wide : (s : ℕ) → s < 2 ^ 48 → s < 2 ^ 64
 wide s l = lt_of_lt_of_le l (pow_mono {i = 48} {j = 64} (omega arith))
 
-module _ (d : Description) (a : GivenLayout) where
+module _ (d : Description) (a : Option AddrLayout) where
   -- each part is among all
   pub data-all : (pick : ℕ → ℕ) (g : ℕ) → In (data_picked d pick) g → In (all_picked d a pick) g
   data-all pick g h =

@@ -1,4 +1,5 @@
 -- What a choice's layout says of qualifiers. Assumes nothing.
+use Rattle.std.specs.Prelude.{Option, None}
 use mathlib.Core.Path.{◌≡◌, sym, ◌∙◌, ap, subst}
 use Prim.Native.Nat.{ℕ, ◌+◌, ◌-◌, ◌/◌, ◌%◌, ◌^◌, ◌≤◌, ◌<◌}
 use native.Mathlib.Nat.{zero-div}
@@ -20,8 +21,7 @@ use Rattle.domain.specs.Domain.{qualifier_gpio, qualifier_in}
 use Rattle.cs_pins.specs.Pins.{numbered}
 use Rattle.cs_data_layout.specs.Layout.{handed}
 use Rattle.cs_data_layout.specs.Choices.{qualifier_set, cs_data_layout_of}
-use Rattle.cs_data_layout.specs.declared.layout.GivenLayout.{GivenLayout}
-use Rattle.cs_data_layout.specs.declared.layout.Qualifiers.{Qualifiers}
+use Rattle.addr_layout.specs.declared.layout.AddrLayout.{AddrLayout}
 use Rattle.cs_data_layout.specs.declared.layout.CsDataLayout.{CsDataLayout}
 use Rattle.cs_data_layout.proofs.Searched.{qualifiers_in_lem}
 use Rattle.cs_verdict.specs.Verdict.{base_of}
@@ -31,7 +31,7 @@ use Rattle.cs_data_law.proofs.Gap.{lowest_has, highest_has, not-empty}
 use Rattle.cs_data_law.proofs.Lines.{given_in_lem}
 use Rattle.cs_data_law.proofs.Parts.{base-below, qualifier_all, qualifier_bits}
 
-module _ (d : Description) (a : GivenLayout) (past : PastTests d a) where
+module _ (d : Description) (a : Option AddrLayout) (past : PastTests d a) where
   abbrev count : ℕ
   count = d.num_qualifiers
 
@@ -66,7 +66,7 @@ module _ (d : Description) (a : GivenLayout) (past : PastTests d a) where
     abbrev laid : CsDataLayout
     laid = cs_data_layout_of d (handed a) (numbered d) c
 
-    none-laid : count ≡ 0 → laid.qualifiers ≡ Qualifiers.Absent
+    none-laid : count ≡ 0 → laid.qualifiers ≡ None
     none-laid e = rw (eq-eqb qualifiers 0 (no_set e))
 
     module _ (some : 0 < count) where

@@ -1,4 +1,5 @@
 -- What GPIOs that were picked are judged, and the order of scores: preference, then total span. Assumes nothing.
+use Rattle.std.specs.Prelude.{Option}
 use mathlib.Core.Path.{◌≡◌, refl}
 use mathlib.Core.Bool.{Bool, true, false, cond}
 use mathlib.Core.Logic.{◌⊎◌, inl, inr}
@@ -18,7 +19,7 @@ use Rattle.cs_verdict.specs.declared.Verdict.{Verdict}
 use Rattle.cs_verdict.specs.declared.Verdict.TheVariants.{DataGap, SelectGap, OutsideWindow, Fits}
 use Rattle.cs_data_layout.specs.Layout.{handed}
 use Rattle.cs_data_layout.specs.Choices.{num_data, qualifier_set, cs_verdict}
-use Rattle.cs_data_layout.specs.declared.layout.GivenLayout.{GivenLayout}
+use Rattle.addr_layout.specs.declared.layout.AddrLayout.{AddrLayout}
 use Rattle.cs_data_law.specs.Law.{choice, data_picked, select_picked, all_picked, Fit, SelectRefused, preference, total_span, NoWorse, Sees}
 use Rattle.cs_data_law.proofs.Counts.{numbered-length}
 
@@ -54,7 +55,7 @@ module _ (p v q w : ℕ) (lv : v < 1000) (lw : w < 1000) where
 width-most : (s : ℕ) → width s ≤ 64
 width-most s = omega arith
 
-module _ (d : Description) (a : GivenLayout) where
+module _ (d : Description) (a : Option AddrLayout) where
   -- the verdict on GPIOs that were picked, and their score
   abbrev pub verdict_by : (ℕ → ℕ) → Verdict
   verdict_by pick = verdict_of (is_multi d.set_type) (qualifier_set d (handed a)) (data_picked d pick) (select_picked d a pick)

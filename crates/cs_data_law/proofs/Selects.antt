@@ -1,4 +1,5 @@
 -- What base, count and ignore index of the selects of a choice's layout say. Assumes nothing.
+use Rattle.std.specs.Prelude.{Some, None, Option}
 use mathlib.Core.Path.{◌≡◌, refl, sym, ◌∙◌, ap, subst}
 use mathlib.Core.Bool.{Bool, true, false, cond, not, ◌&&◌}
 use mathlib.Core.Logic.{◌⊎◌, inl, inr}
@@ -21,8 +22,7 @@ use Rattle.cs_pins.specs.Pins.{numbered}
 use Rattle.cs_roles.specs.Roles.{select_roles}
 use Rattle.cs_data_layout.specs.Layout.{handed}
 use Rattle.cs_data_layout.specs.Choices.{num_data, excess_gpio, excess_set, num_commoned, cs_data_layout_of}
-use Rattle.cs_data_layout.specs.declared.layout.GivenLayout.{GivenLayout}
-use Rattle.cs_data_layout.specs.declared.layout.IgnoreIndex.TheVariants.{None, At}
+use Rattle.addr_layout.specs.declared.layout.AddrLayout.{AddrLayout}
 use Rattle.cs_data_layout.specs.declared.layout.CsDataLayout.{CsDataLayout}
 use Rattle.cs_data_law.specs.Law.{PastTests, choice, select_picked, all_picked, Fit}
 use Rattle.cs_data_law.specs.Sound.{select_gpio, IsSelect, of_select, of_commoned, select_from, select_end, SoundIgnored, SoundSelects}
@@ -40,11 +40,11 @@ or_in s t g e = elim (in_or_out s g) [
 ]
 
 -- the ignore index is none exactly if there is no gap, and else the lowest of the gap
-index_none : (t : Bool) (i : ℕ) → cond t None (At i) ≡ None → t ≡ true
+index_none : (t : Bool) (i : ℕ) → cond t None (Some i) ≡ None → t ≡ true
 index_none true i e = refl
 index_none false i e = absurd (zero_one cc)
 
-index_at : (t : Bool) (i j : ℕ) → cond t None (At i) ≡ At j → (t ≡ false) × (i ≡ j)
+index_at : (t : Bool) (i j : ℕ) → cond t None (Some i) ≡ Some j → (t ≡ false) × (i ≡ j)
 index_at true i j e = absurd (zero_one cc)
 index_at false i j e = (refl, cc)
 
@@ -56,7 +56,7 @@ before_or_behind n k = by (ltb k n) refl
     by true e = inl (ltb-true k n e)
     by false e = inr (ltb-false k n e)
 
-module _ (d : Description) (a : GivenLayout) (past : PastTests d a) (c : ℕ) where
+module _ (d : Description) (a : Option AddrLayout) (past : PastTests d a) (c : ℕ) where
   abbrev roles : ℕ
   roles = length (select_roles d)
 
@@ -132,7 +132,7 @@ module _ (d : Description) (a : GivenLayout) (past : PastTests d a) (c : ℕ) wh
 
   module _ (fit : Fit d a (choice d c)) where
     -- the ignore index
-    index_sound : (i : ℕ) → laid.cs_ignore_index ≡ At i → SoundIgnored d laid i
+    index_sound : (i : ℕ) → laid.cs_ignore_index ≡ Some i → SoundIgnored d laid i
     index_sound i e =
         let (gapped, is) = index_at (gapless selects) (lowest (gap selects) - lowest selects) i e in
         let missing = gap-lowest selects first (select-bits d a past c) first-held gapped in

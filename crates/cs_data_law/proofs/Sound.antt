@@ -1,4 +1,5 @@
 -- What the data lines of a choice's layout keep, and how many lines there are. Assumes nothing.
+use Rattle.std.specs.Prelude.{Option}
 use mathlib.Core.Path.{◌≡◌, refl, sym, ◌∙◌}
 use mathlib.Core.Bool.{true, cond}
 use Prim.Native.Nat.{ℕ, ◌+◌, ◌<◌}
@@ -19,7 +20,7 @@ use Rattle.cs_pins.specs.Pins.{kind_listed, numbered}
 use Rattle.cs_roles.specs.Roles.{select_roles}
 use Rattle.cs_data_layout.specs.Layout.{handed}
 use Rattle.cs_data_layout.specs.Choices.{num_data, cs_data_layout_of}
-use Rattle.cs_data_layout.specs.declared.layout.GivenLayout.{GivenLayout}
+use Rattle.addr_layout.specs.declared.layout.AddrLayout.{AddrLayout}
 use Rattle.cs_data_layout.specs.declared.layout.CsDataLayout.{CsDataLayout}
 use Rattle.cs_data_law.specs.Law.{PastTests, choice, data_picked, all_picked, Fit}
 use Rattle.cs_data_law.specs.Sound.{data_gpio, select_gpio, SoundLayout}
@@ -28,7 +29,7 @@ use Rattle.cs_data_law.proofs.Faults.{some-select}
 use Rattle.cs_data_law.proofs.Lines.{in_domain, select-few, commoned-most, sound-lines}
 use Rattle.cs_data_law.proofs.Parts.{base-below, data-all, gpio-most}
 
-module _ (d : Description) (a : GivenLayout) (past : PastTests d a) (c : ℕ) where
+module _ (d : Description) (a : Option AddrLayout) (past : PastTests d a) (c : ℕ) where
   abbrev gpio : ℕ → ℕ
   gpio k = choice d c k
 

@@ -1,4 +1,5 @@
 -- What base and window of a choice's layout keep. Assumes nothing.
+use Rattle.std.specs.Prelude.{Option}
 use mathlib.Core.Path.{◌≡◌, refl, sym, ◌∙◌, subst}
 use mathlib.Core.Bool.{Bool, true, false, cond}
 use mathlib.Core.Logic.{◌⊎◌, inl, inr}
@@ -15,7 +16,7 @@ use Rattle.domain.proofs.Bounds.{chip0_in}
 use Rattle.cs_pins.specs.Pins.{numbered}
 use Rattle.cs_data_layout.specs.Layout.{handed}
 use Rattle.cs_data_layout.specs.Choices.{num_data, qualifier_set, cs_data_layout_of}
-use Rattle.cs_data_layout.specs.declared.layout.GivenLayout.{GivenLayout}
+use Rattle.addr_layout.specs.declared.layout.AddrLayout.{AddrLayout}
 use Rattle.cs_data_layout.specs.declared.layout.CsDataLayout.{CsDataLayout}
 use Rattle.cs_data_law.specs.Law.{PastTests, choice, data_picked, select_picked, all_picked, Fit}
 use Rattle.cs_data_law.specs.Sound.{ToHold, of_data, of_selects, of_qualifiers, SoundWindow}
@@ -26,7 +27,7 @@ use Rattle.cs_data_law.proofs.Qualifiers.{held_qualifier, qualifier_held}
 use Rattle.cs_data_law.proofs.Selects.{or_in, select-held, held-select}
 use Rattle.cs_data_law.proofs.Sound.{data_is, data-held}
 
-module _ (d : Description) (a : GivenLayout) (past : PastTests d a) (c : ℕ) where
+module _ (d : Description) (a : Option AddrLayout) (past : PastTests d a) (c : ℕ) where
   abbrev laid : CsDataLayout
   laid = cs_data_layout_of d (handed a) (numbered d) c
 

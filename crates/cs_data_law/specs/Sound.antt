@@ -1,5 +1,5 @@
 -- What the fields of a found select layout keep. Assumes nothing.
-use Rattle.std.specs.Prelude.{◌≡◌, true, false, ◌⊎◌, ℕ, ◌+◌, ◌-◌, ◌≤◌, ◌<◌, length, get_or}
+use Rattle.std.specs.Prelude.{◌≡◌, true, false, ◌⊎◌, ℕ, ◌+◌, ◌-◌, ◌≤◌, ◌<◌, length, get_or, Some, None, Option}
 use Rattle.bits.specs.Bits.{bit}
 use Rattle.gpio.specs.Candidates.{last_gpio}
 use Rattle.gpio.specs.Set.{Distinct}
@@ -12,10 +12,8 @@ use Rattle.cs_pins.specs.Pins.{select_listed, commoned_listed, numbered}
 use Rattle.cs_roles.specs.Roles.{select_roles, half_role}
 use Rattle.cs_data_layout.specs.Layout.{line, handed}
 use Rattle.cs_data_layout.specs.Choices.{num_data, excess_gpio, num_commoned}
-use Rattle.cs_data_layout.specs.declared.layout.GivenLayout.{GivenLayout}
-use Rattle.cs_data_layout.specs.declared.layout.IgnoreIndex.TheVariants.{None, At}
+use Rattle.addr_layout.specs.declared.layout.AddrLayout.{AddrLayout}
 use Rattle.cs_data_layout.specs.declared.layout.SelectLine.{SelectLine}
-use Rattle.cs_data_layout.specs.declared.layout.Qualifiers.{Qualifiers}
 use Rattle.cs_data_layout.specs.declared.layout.CsDataLayout.{CsDataLayout}
 
 -- the lines of a layout, and their GPIOs
@@ -63,7 +61,7 @@ pub record SoundLayout (d : Description) (c : ℕ) (l : CsDataLayout) : Type 0 w
       → CandidateOf (pin_candidates d (kind_pin d d.multi.select)) (select_gpio l 0)
 
 -- what the select and commoned lines of a found layout are, l being the layout of choice c
-pub record SoundLines (d : Description) (a : GivenLayout) (c : ℕ) (l : CsDataLayout) : Type 0 where
+pub record SoundLines (d : Description) (a : Option AddrLayout) (c : ℕ) (l : CsDataLayout) : Type 0 where
   -- 01 cs_data_layout 6: the lines of the select pins come first, in the order of the pins, each with its role and its pin's GPIO
   pub num_select : l.num_select_lines ≡ length (select_roles d) + (handed a).num_excess
   pub select : (k : ℕ) → k < length (select_roles d)
@@ -112,10 +110,10 @@ pub record SoundSelects (d : Description) (l : CsDataLayout) : Type 0 where
   -- 01 cs_data_layout 3: there is no ignore index exactly if every GPIO from the lowest to the highest is a select's
   pub none-gapless : l.cs_ignore_index ≡ None → (g : ℕ) → select_from l ≤ g → g < select_end l → IsSelect l g
   pub gapless-none : ((g : ℕ) → select_from l ≤ g → g < select_end l → IsSelect l g) → l.cs_ignore_index ≡ None
-  pub ignored : (i : ℕ) → l.cs_ignore_index ≡ At i → SoundIgnored d l i
+  pub ignored : (i : ℕ) → l.cs_ignore_index ≡ Some i → SoundIgnored d l i
 
 -- 01 Domain 10: a qualifier GPIO is that of an address line that the list of qualifiers names, in the layout handed in
-abbrev pub IsQualifier : Description → GivenLayout → ℕ → Type 0
+abbrev pub IsQualifier : Description → Option AddrLayout → ℕ → Type 0
 IsQualifier d a g = (k : ℕ) × (k < d.num_qualifiers) × (qualifier_gpio d.qualifiers (handed a).gpios k ≡ g)
 
 -- the GPIOs that they span, by a base pin and a count of a layout: from here, and up to there
@@ -126,12 +124,12 @@ abbrev pub qualifier_end : CsDataLayout → ℕ → ℕ → ℕ
 qualifier_end l pin count = qualifier_from l pin + count
 
 -- what a found layout says of qualifiers, where there are some
-pub record SomeQualifiers (d : Description) (a : GivenLayout) (l : CsDataLayout) : Type 0 where
+pub record SomeQualifiers (d : Description) (a : Option AddrLayout) (l : CsDataLayout) : Type 0 where
   -- the layout says that there are some, with this base pin, number of pins and pattern
   pub pin : ℕ
   pub count : ℕ
   pub pattern : ℕ
-  pub present : l.qualifiers ≡ Qualifiers.Present pin count pattern
+  pub present : l.qualifiers ≡ Some (record { base_qualifier_pin = pin; num_qualifier_pins = count; qualifier_inactive_pattern = pattern })
   -- 01 cs_data_layout 6: the base and the base pin of the qualifiers added up are the lowest qualifier GPIO
   pub lowest : IsQualifier d a (qualifier_from l pin)
   pub above : (g : ℕ) → IsQualifier d a g → qualifier_from l pin ≤ g
@@ -145,19 +143,19 @@ pub record SomeQualifiers (d : Description) (a : GivenLayout) (l : CsDataLayout)
   pub one_bit : (k : ℕ) → IsQualifier d a (qualifier_from l pin + k) → bit pattern k ≡ 1
 
 -- what a found layout says of qualifiers
-pub record SoundQualifiers (d : Description) (a : GivenLayout) (l : CsDataLayout) : Type 0 where
+pub record SoundQualifiers (d : Description) (a : Option AddrLayout) (l : CsDataLayout) : Type 0 where
   -- 01 cs_data_layout 6: without qualifiers a layout says that there are none
-  pub none : d.num_qualifiers ≡ 0 → l.qualifiers ≡ Qualifiers.Absent
+  pub none : d.num_qualifiers ≡ 0 → l.qualifiers ≡ None
   pub some : 0 < d.num_qualifiers → SomeQualifiers d a l
 
 -- 01 cs_data_layout 3: the window of a layout has to hold data, select and qualifier GPIOs
-pub data ToHold (d : Description) (a : GivenLayout) (l : CsDataLayout) (g : ℕ) : Type 0 where
+pub data ToHold (d : Description) (a : Option AddrLayout) (l : CsDataLayout) (g : ℕ) : Type 0 where
   of_data : (k : ℕ) → k < l.num_data_pins → data_gpio l k ≡ g → ToHold d a l g
   of_selects : IsSelect l g → ToHold d a l g
   of_qualifiers : IsQualifier d a g → ToHold d a l g
 
 -- what base and window of a found layout keep
-pub record SoundWindow (d : Description) (a : GivenLayout) (l : CsDataLayout) : Type 0 where
+pub record SoundWindow (d : Description) (a : Option AddrLayout) (l : CsDataLayout) : Type 0 where
   -- 01 cs_data_layout 3: there are two bases: 0 if some GPIO that the window has to hold is below 16, and 16 if none is
   pub base : ((l.gpio_base ≡ 0) × ((g : ℕ) × (g < 16) × ToHold d a l g))
       ⊎ ((l.gpio_base ≡ 16) × ((g : ℕ) → ToHold d a l g → 16 ≤ g))

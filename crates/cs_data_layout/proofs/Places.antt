@@ -1,6 +1,9 @@
 -- Each refusal of the select search is one of document 01's rows, with a place of 48 bits. Assumes nothing.
+use Rattle.std.specs.Prelude.{Option, Some, None, is_none, Err}
+use Rattle.refusal.specs.First.{or_else}
+use Rattle.refusal.specs.declared.Refusal.{Refusal}
 use mathlib.Core.Path.{◌≡◌, refl}
-use mathlib.Core.Bool.{Bool, true, false, not, ◌&&◌, cond}
+use mathlib.Core.Bool.{Bool, true, false, ◌&&◌, cond}
 use mathlib.Core.List.{List, [], ◌∷◌, ◌++◌}
 use Prim.Native.Nat.{ℕ, zero, suc, ◌+◌, ◌-◌, ◌^◌, ◌≤◌, ◌<◌}
 use native.Mathlib.Omega.{arith}
@@ -15,9 +18,7 @@ use Rattle.gpio.proofs.Sets.{set-within}
 use Rattle.slot.specs.Description.{is_multi, chip0, line_at, kind_at, cs1_kind}
 use Rattle.slot.specs.declared.description.Description.{Description}
 use Rattle.refusal.specs.declared.Refusal.TheVariants.{OutOfDomain, NoSelectLine, MissingAddrPinGpios, RomTooLargeNoCsConfig, InteriorIgnoredLine}
-use Rattle.refusal.specs.declared.first.FirstFault.{FirstFault}
-use Rattle.refusal.specs.declared.first.FirstFault.TheVariants.{None, Of}
-use Rattle.refusal.proofs.Places.{FirstRows, FirstRow, Small, small_or, small_test}
+use Rattle.refusal.proofs.Places.{FirstRows, FirstRow, Small, small_or}
 use Rattle.domain.specs.Domain.{description_in}
 use Rattle.domain.proofs.Bounds.{chip0_in}
 use Rattle.control.specs.CsConfig.{ignores}
@@ -28,7 +29,6 @@ use Rattle.listing.specs.declared.Listed.{Listed}
 use Rattle.listing.proofs.InDomain.{gpio_in_lem}
 use Rattle.listing.proofs.Places.{Placed, placed-append, placed_one, placed-tab, placed_if, placed_x, small-fault}
 use Rattle.search.specs.declared.Found.{Found}
-use Rattle.search.specs.declared.Found.TheVariants.{Nothing, At}
 use Rattle.cs_pins.specs.Pins.{pin_listed, data_listed, active, if_active, active_listed, kind_listed, multi_commoned, numbered, cs_search_in}
 use Rattle.cs_pins.proofs.InDomain.{numbered_in}
 use Rattle.cs_checked.specs.Checked.{or_no_active, ignored_listed, multi_checked, checked}
@@ -37,12 +37,17 @@ use Rattle.cs_verdict.specs.declared.Verdict.{Verdict}
 use Rattle.cs_verdict.specs.declared.Verdict.TheVariants.{DataGap, SelectGap, OutsideWindow, Fits}
 use Rattle.cs_choices.specs.Nothing.{interior_in, interior_of, interior, refused_of, last_refused, nothing_fits}
 use Rattle.cs_choices.specs.Sets.{data_set, select_set}
-use Rattle.cs_data_layout.specs.Layout.{cs_data_refused, cs_data_code, handed}
+use Rattle.cs_data_layout.specs.Layout.{cs_data_code, handed}
 use Rattle.cs_data_layout.specs.Choices.{num_data, excess_gpio, excess_set, qualifier_set, cs_verdict, ignored_set}
 use Rattle.cs_data_layout.specs.Search.{given_in, earlier, cs_best, or_no_layout, none_fits, cs_data_answer_of, after_earlier, cs_data_answer}
-use Rattle.cs_data_layout.specs.declared.layout.GivenLayout.{GivenLayout}
+use Rattle.addr_layout.specs.declared.layout.AddrLayout.{AddrLayout}
 use Rattle.cs_data_layout.proofs.Bounds.{described, excess_in}
 use Rattle.cs_data_layout.proofs.Searched.{handed_in}
+
+-- a test, and what is tested after it
+small_test : (bad : Bool) (why : Refusal) (rest : Option Refusal) → FirstRow why → Small rest → Small (or_else (cond bad (Some why) None) rest)
+small_test true why rest h s = h
+small_test false why rest h s = s
 
 -- the lists: pins 1 to 40 of the chip, and X pins
 most_of : (t : Bool) (x y : ℕ) → x ≤ 40 → y ≤ 40 → cond t x y ≤ 40
@@ -109,10 +114,10 @@ module _ (d : Description) (e : description_in d ≡ true) where
       placed_if (is_multi d.set_type) (multi_checked d) (or_no_active (active_listed d n)) multi-placed
       (no_active_placed (active_listed d n) (active-placed n (omega arith)))
 
-  small-earlier : (a : GivenLayout) → Small (earlier d a)
+  small-earlier : (a : Option AddrLayout) → Small (earlier d a)
   unfolding earlier
   small-earlier a =
-      small_test (not a.given && ltb 0 d.num_qualifiers) MissingAddrPinGpios _ (omega arith)
+      small_test (is_none a && ltb 0 d.num_qualifiers) MissingAddrPinGpios _ (omega arith)
       (small_test (ltb 0 (handed a).num_excess && ignores d.cs_config cs1_kind) RomTooLargeNoCsConfig _ (omega arith)
       (small_or (first_fault (data_listed d)) (first_fault (checked d)) (small-fault (data_listed d) data-placed) (small-fault (checked d) checked-placed)))
 
@@ -126,7 +131,7 @@ GapIn (Fits score) = Unit
 small-seen : (seen : ℕ) → Small (interior_in seen)
 small-seen seen = by (eqb seen 0)
   where
-    by : (t : Bool) → Small (cond t None (Of (InteriorIgnoredLine (count_trailing_zeros 64 seen))))
+    by : (t : Bool) → Small (cond t None (Some (InteriorIgnoredLine (count_trailing_zeros 64 seen))))
     by true = tt
     by false = omega (arith, trailing_le 64 seen)
 
@@ -162,7 +167,7 @@ gap_in true true false score s h = tt
 gap_in true false three score s h = h
 gap_in false two three score s h = tt
 
-module _ (d : Description) (a : GivenLayout) (search-in : cs_search_in d ≡ true) (given_in_lem : given_in d a ≡ true) where
+module _ (d : Description) (a : Option AddrLayout) (search-in : cs_search_in d ≡ true) (given_in_lem : given_in d a ≡ true) where
   verdict_in : (c : ℕ) → GapIn (cs_verdict d (handed a) c)
   unfolding verdict_of
   verdict_in c =
@@ -176,28 +181,28 @@ module _ (d : Description) (a : GivenLayout) (search-in : cs_search_in d ≡ tru
       gap_in (gapless ds) (selectable (is_multi d.set_type) ss) (in_one_window (all_of ds ss q)) (score_of ss q (all_of ds ss q)) ss
       (or_lt 48 (set_of (length ls - n) (λ k. gpio_at ls c (n + k))) (excess_set (handed a)) pins excess)
 
-  none-place : (f : FirstFault) → Small f → FirstRows (cs_data_code (or_no_layout f).outcome)
-  none-place (Of why) h = h
+  none-place : (f : Option Refusal) → Small f → FirstRows (cs_data_code (or_no_layout f))
+  none-place (Some why) h = h
   none-place None h = omega arith
 
-  found-place : (x : Found) → FirstRows (cs_data_code (cs_data_answer_of d (handed a) x).outcome)
+  found-place : (x : Option Found) → FirstRows (cs_data_code (cs_data_answer_of d (handed a) x))
   unfolding none_fits
-  found-place Nothing =
+  found-place None =
       let n = 2 ^ twos (numbered d) in
       none-place (nothing_fits (ignored_set d) (cs_verdict d (handed a)) n) (small-nothing (ignored_set d) (cs_verdict d (handed a)) verdict_in n)
-  found-place (At c s) = omega arith
+  found-place (Some f) = omega arith
 
-  after_place : (f : FirstFault) → Small f → FirstRows (cs_data_code (after_earlier d (handed a) f).outcome)
-  after_place (Of why) h = h
+  after_place : (f : Option Refusal) → Small f → FirstRows (cs_data_code (after_earlier d (handed a) f))
+  after_place (Some why) h = h
   after_place None h = found-place (cs_best d (handed a))
 
-module _ (d : Description) (a : GivenLayout) where
+module _ (d : Description) (a : Option AddrLayout) where
   in_place : (t : Bool) → cs_search_in d && given_in d a ≡ t
-      → FirstRows (cs_data_code (cond t (after_earlier d (handed a) (earlier d a)) (cs_data_refused OutOfDomain)).outcome)
+      → FirstRows (cs_data_code (cond t (after_earlier d (handed a) (earlier d a)) (Err OutOfDomain)))
   in_place true e =
       let search-in = and_left (cs_search_in d) (given_in d a) e in
       after_place d a search-in (and_right (cs_search_in d) (given_in d a) e) (earlier d a) (small-earlier d (described d search-in) a)
   in_place false e = omega arith
 
-  pub cs_data_place : FirstRows (cs_data_code (cs_data_answer d a).outcome)
+  pub cs_data_place : FirstRows (cs_data_code (cs_data_answer d a))
   cs_data_place = in_place (cs_search_in d && given_in d a) refl

@@ -1,6 +1,7 @@
 -- What the parts of the search come to together. Assumes nothing.
+use Rattle.std.specs.Prelude.{Option, Some, None, Result}
 use mathlib.Core.Path.{◌≡◌, refl}
-use mathlib.Core.Bool.{Bool, true, false, not, ◌&&◌, cond}
+use mathlib.Core.Bool.{Bool, true, false, cond}
 use mathlib.Core.List.{List}
 use Prim.Native.Nat.{ℕ, ◌^◌, ◌≤◌}
 use native.Mathlib.Omega.{arith}
@@ -8,7 +9,7 @@ use lib.Dec.{ltb}
 use lib.ListN.{length, length-append}
 use borrow.Author.Tests.{ltb-false}
 use Rattle.lists.specs.Each.{each}
-use Rattle.lists.proofs.Bools.{and_left, and_right, asked}
+use Rattle.lists.proofs.Bools.{and_left, and_right}
 use Rattle.lists.proofs.Tab.{tab-length}
 use Rattle.lists.proofs.Loops.{zero_one}
 use Rattle.slot.specs.Description.{is_multi}
@@ -18,8 +19,6 @@ use Rattle.refusal.specs.declared.Refusal.TheVariants.{MissingAddrPinGpios}
 use Rattle.domain.specs.Domain.{qualifiers_in}
 use Rattle.listing.specs.Listing.{twos}
 use Rattle.listing.specs.declared.Listed.{Listed}
-use Rattle.refusal.specs.declared.first.FirstFault.{FirstFault}
-use Rattle.refusal.specs.declared.first.FirstFault.TheVariants.{None, Of}
 use Rattle.refusal.proofs.Firsts.{or_none}
 use Rattle.search.specs.Search.{best}
 use Rattle.search.specs.declared.Found.{Found}
@@ -33,8 +32,7 @@ use Rattle.cs_choices.specs.declared.choices.Fixed.{Fixed}
 use Rattle.cs_data_layout.specs.Layout.{handed}
 use Rattle.cs_data_layout.specs.Choices.{num_data, fixed_of, excess_set, qualifier_set, ignored_set}
 use Rattle.cs_data_layout.specs.Search.{given_in, missing_layout, earlier, cs_best, or_no_layout, none_fits}
-use Rattle.cs_data_layout.specs.declared.layout.GivenLayout.{GivenLayout}
-use Rattle.cs_data_layout.specs.declared.layout.CsDataAnswer.{CsDataAnswer}
+use Rattle.cs_data_layout.specs.declared.layout.CsDataLayout.{CsDataLayout}
 
 -- the data pins are among the numbered ones
 pub data-numbered : (d : Description) → num_data d ≤ length (numbered d)
@@ -42,11 +40,11 @@ unfolding numbered data_listed
 data-numbered d = simp (length-append, tab-length) (omega arith)
 
 module _ (d : Description) (h : AddrLayout) (ls : List Listed) (f : Fixed) (bits : ℕ) (el : ls ≡ numbered d) (ef : f ≡ fixed_of d h) (eb : bits ≡ twos ls) where
-  pub best_is : (r : Found) → r ≡ best (λ c. verdict_trial (verdict_on ls f c)) (2 ^ bits) → r ≡ cs_best d h
+  pub best_is : (r : Option Found) → r ≡ best (λ c. verdict_trial (verdict_on ls f c)) (2 ^ bits) → r ≡ cs_best d h
   unfolding cs_best
   best_is r e = rw (e, eb, el, ef)
 
-  pub none_is : (r : CsDataAnswer) (w : FirstFault) (ignored : ℕ) → ignored ≡ ignored_set d → w ≡ nothing_fits ignored (λ c. verdict_on ls f c) (2 ^ bits) → r ≡ or_no_layout w → r ≡ none_fits d h
+  pub none_is : (r : Result CsDataLayout Refusal) (w : Option Refusal) (ignored : ℕ) → ignored ≡ ignored_set d → w ≡ nothing_fits ignored (λ c. verdict_on ls f c) (2 ^ bits) → r ≡ or_no_layout w → r ≡ none_fits d h
   unfolding none_fits
   none_is r w ignored i e o = rw (o, e, i, eb, el, ef)
 
@@ -55,34 +53,25 @@ pub fixed_is : (d : Description) (h : AddrLayout) (m : Bool) (n x q : ℕ) → m
 fixed_is d h m n x q em en ex eq = rw (em, en, ex, eq)
 
 -- without a refusal, a layout that is not given goes with no qualifiers
-not-missing : (n : ℕ) (r : Refusal) (given t : Bool) → given ≡ false → ltb 0 n ≡ t → cond (not given && t) (Of r) None ≡ None → n ≡ 0
-not-missing n r given true g l e = let q : cond (not false && true) (Of r) None ≡ None = rw g at e in absurd (zero_one cc)
-not-missing n r given false g l e = omega (arith, ltb-false 0 n l)
+not-missing : (n : ℕ) (r : Refusal) (t : Bool) → ltb 0 n ≡ t → cond t (Some r) None ≡ None → n ≡ 0
+not-missing n r true l e = absurd (zero_one cc)
+not-missing n r false l e = omega (arith, ltb-false 0 n l)
 
 no_list : (d : Description) (l : AddrLayout) → d.num_qualifiers ≡ 0 → qualifiers_in d.qualifiers d.num_qualifiers l.gpios l.num_lines ≡ true
 unfolding each
 no_list d l e = rw e
 
 -- a layout that is given is in the domain, and one that is not has no line
-module _ (d : Description) (a : GivenLayout) (e : given_in d a ≡ true) where
+module _ (d : Description) where
   abbrev list_in : AddrLayout → Bool
   list_in l = qualifiers_in d.qualifiers d.num_qualifiers l.gpios l.num_lines
 
-  given_both : a.given ≡ true → layout_in a.layout && list_in a.layout ≡ true
-  given_both g = asked a.given (layout_in a.layout && list_in a.layout) e g
-
-  layout-handed : (b : Bool) → a.given ≡ b → layout_in (cond b a.layout no_layout) ≡ true
+  pub handed_in : (a : Option AddrLayout) → given_in d a ≡ true → layout_in (handed a) ≡ true
   unfolding layout_in each
-  layout-handed true g = and_left (layout_in a.layout) (list_in a.layout) (given_both g)
-  layout-handed false g = refl
+  handed_in None e = refl
+  handed_in (Some l) e = and_left (layout_in l) (list_in l) e
 
-  list-handed : (b : Bool) → a.given ≡ b → earlier d a ≡ None → list_in (cond b a.layout no_layout) ≡ true
+  pub qualifiers_in_lem : (a : Option AddrLayout) → given_in d a ≡ true → earlier d a ≡ None → list_in (handed a) ≡ true
   unfolding earlier
-  list-handed true g n = and_right (layout_in a.layout) (list_in a.layout) (given_both g)
-  list-handed false g n = no_list d no_layout (not-missing d.num_qualifiers MissingAddrPinGpios a.given (ltb 0 d.num_qualifiers) g refl (or_none (missing_layout d a) _ n).0)
-
-  pub handed_in : layout_in (handed a) ≡ true
-  handed_in = layout-handed a.given refl
-
-  pub qualifiers_in_lem : earlier d a ≡ None → list_in (handed a) ≡ true
-  qualifiers_in_lem n = list-handed a.given refl n
+  qualifiers_in_lem None e n = no_list d no_layout (not-missing d.num_qualifiers MissingAddrPinGpios (ltb 0 d.num_qualifiers) refl (or_none (missing_layout d None) _ n).0)
+  qualifiers_in_lem (Some l) e n = and_right (layout_in l) (list_in l) e

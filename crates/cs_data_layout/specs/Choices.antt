@@ -1,5 +1,5 @@
 -- cs_data_layout.rs: the GPIOs of a choice, and the layout that it makes. Assumes nothing.
-use Rattle.std.specs.Prelude.{ℕ, zero, suc, ◌+◌, ◌-◌, ◌/◌, ◌%◌, ◌^◌, cond, List, ltb, eqb, length, get_or}
+use Rattle.std.specs.Prelude.{ℕ, zero, suc, ◌+◌, ◌-◌, ◌/◌, ◌%◌, ◌^◌, cond, List, ltb, eqb, length, get_or, Option, Some, None}
 use Rattle.gpio.specs.Set.{with, set_of, lowest, width, gapless, gap}
 use Rattle.lists.specs.Tab.{tab}
 use Rattle.gpio.specs.declared.candidates.Candidates.{Candidates}
@@ -16,8 +16,6 @@ use Rattle.cs_data_layout.specs.Layout.{line}
 use Rattle.cs_verdict.specs.Verdict.{all_of, base_of}
 use Rattle.cs_choices.specs.Sets.{data_set, select_set, verdict_on}
 use Rattle.cs_choices.specs.declared.choices.Fixed.{Fixed}
-use Rattle.cs_data_layout.specs.declared.layout.IgnoreIndex.{IgnoreIndex}
-use Rattle.cs_data_layout.specs.declared.layout.IgnoreIndex.TheVariants.{None, At}
 use Rattle.cs_data_layout.specs.declared.layout.SelectLine.{SelectLine}
 use Rattle.cs_data_layout.specs.declared.layout.Qualifiers.{Qualifiers}
 use Rattle.cs_data_layout.specs.declared.layout.CsDataLayout.{CsDataLayout}
@@ -51,16 +49,20 @@ abbrev pub cs_verdict : Description → AddrLayout → ℕ → Verdict
 cs_verdict d h c = verdict_on (numbered d) (fixed_of d h) c
 
 -- 01 cs_data_layout 3: the ignore index is the missing GPIO, counted from the lowest select; there is none without a gap
-abbrev pub ignore_index : ℕ → IgnoreIndex
-ignore_index selectGpios = cond (gapless selectGpios) None (At (lowest (gap selectGpios) - lowest selectGpios))
+abbrev pub ignore_index : ℕ → Option ℕ
+ignore_index selectGpios = cond (gapless selectGpios) None (Some (lowest (gap selectGpios) - lowest selectGpios))
 
 -- 01 cs_data_layout 6: the base pin of the qualifiers is their lowest GPIO counted from the base, and their count is their span
 -- 01 cs_data_layout 7: each qualifier GPIO sets a bit of the pattern, the lowest of them bit 0; 8 bits will do, as they span at
 -- most 8
-abbrev pub qualifiers_from : ℕ → ℕ → Qualifiers
+abbrev pub qualifiers_from : ℕ → ℕ → Option Qualifiers
 qualifiers_from qualifiers base =
-    cond (eqb qualifiers 0) Qualifiers.Absent
-    (Qualifiers.Present (lowest qualifiers - base) (width qualifiers) (qualifiers / 2 ^ lowest qualifiers % 0x100))
+    cond (eqb qualifiers 0) None
+    (Some (record {
+      base_qualifier_pin = lowest qualifiers - base;
+      num_qualifier_pins = width qualifiers;
+      qualifier_inactive_pattern = qualifiers / 2 ^ lowest qualifiers % 0x100;
+    }))
 
 -- 01 cs_data_layout 6: the select lines are those of the select pins with their roles, then the excess ones as half selects
 abbrev pub select_line : List ℕ → AddrLayout → (ℕ → ℕ) → ℕ → SelectLine

@@ -6,9 +6,7 @@ ghost use Rattle.cs_verdict.specs.Verdict.{all_of, base_of};
 ghost use Rattle.cs_data_layout.specs.Choices.{ignore_index, qualifiers_from, select_line, num_commoned, commoned_line, cs_data_layout_from, cs_data_layout_of};
 ghost use Rattle.cs_data_layout.specs.Design.Given.{LinesIn, Laying};
 
-use crate::layout::{
-    CsDataAnswer, CsDataLayout, CsDataOutcome, IgnoreIndex, Qualifiers, SelectLine,
-};
+use crate::layout::{CsDataLayout, Qualifiers, SelectLine};
 use crate::sets::excess_gpio;
 use addr_layout::layout::AddrLayout;
 use cs_choices::choices::{Fixed, Sets, whole};
@@ -16,38 +14,38 @@ use cs_roles::{HALF_ROLE, Roles, select_roles};
 use cs_verdict::{above, base};
 use gpio::set::{gap, gapless, lowest, width};
 use listing::Listing;
-use listing::choice::{gpio_if, resolve};
+use listing::choice::{first_gpios, resolve};
 use listing::lines::commoned_kind;
 use lists::array::entry;
 use slot::description::Description;
 
 // The place of the one GPIO that is missing.
-fn ignore_index(select_gpios: u64) -> IgnoreIndex
+fn ignore_index(select_gpios: u64) -> Option<u8>
     ensures { result ≡ ignore_index select_gpios }
 {
     if gapless(select_gpios) {
-        return IgnoreIndex::None;
+        return None;
     }
     let missing = lowest(gap(select_gpios));
     let low = lowest(select_gpios);
     if missing < low {
-        return IgnoreIndex::At(0);
+        return Some(0);
     }
-    IgnoreIndex::At((missing - low) as u8)
+    Some((missing - low) as u8)
 }
 
-fn qualifiers(set: u64, base: u8) -> Qualifiers
+fn qualifiers(set: u64, base: u8) -> Option<Qualifiers>
     ensures { result ≡ qualifiers_from set base }
 {
     if set == 0 {
-        return Qualifiers::Absent;
+        return None;
     }
     let low = lowest(set);
-    Qualifiers::Present {
+    Some(Qualifiers {
         base_qualifier_pin: above(base, low) as u8,
         num_qualifier_pins: width(set) as u8,
         qualifier_inactive_pattern: ((set >> low) % 0x100) as u8,
-    }
+    })
 }
 
 fn select_line(r: Roles, h: AddrLayout, gpio: u8, k: usize) -> SelectLine
@@ -87,10 +85,8 @@ fn select_lines(r: Roles, h: AddrLayout, gpios: [u8; 30], at: usize) -> [SelectL
 {
     let count = num_lines(r.count, h.num_excess);
     let mut out = [SelectLine { role: 0, gpio: 0 }; 30];
-    let mut k: usize = 0;
-    while k < count {
+    for k in 0..count {
         out[k] = select_line(r, h, entry(&gpios, at + k), k);
-        k += 1;
     }
     out
 }
@@ -124,22 +120,8 @@ fn commoned_lines(d: Description, gpios: [u8; 30], at: usize) -> [SelectLine; 6]
     ensures { result ≡ tab 6 (λ k. commoned_line d (λ j. get_or gpios (at + j) 0) k) }
 {
     let mut out = [SelectLine { role: 0, gpio: 0 }; 6];
-    let mut k: usize = 0;
-    while k < 6 {
+    for k in 0..6 {
         out[k] = commoned_line(d, entry(&gpios, at + k), k);
-        k += 1;
-    }
-    out
-}
-
-fn data_lines(gpios: [u8; 30], count: usize) -> [u8; 16]
-    ensures { result ≡ tab 16 (λ k. cond (ltb k count) (get_or gpios k 0) 0) }
-{
-    let mut out = [0u8; 16];
-    let mut k: usize = 0;
-    while k < 16 {
-        out[k] = gpio_if(k < count, gpios[k]);
-        k += 1;
     }
     out
 }
@@ -159,7 +141,7 @@ fn layout(d: Description, h: AddrLayout, gpios: [u8; 30], s: Sets, q: u64) -> Cs
         gpio_base: base,
         base_data_pin: above(base, lowest(s.data_gpios)) as u8,
         num_data_pins: chip.num_data_pins,
-        data_pin_gpios: data_lines(gpios, data),
+        data_pin_gpios: first_gpios(gpios, data),
         base_cs_pin: above(base, lowest(s.select_gpios)) as u8,
         num_cs_pins: width(s.select_gpios) as u8,
         cs_ignore_index: ignore_index(s.select_gpios),
@@ -178,18 +160,15 @@ pub fn laid_out(
     l: Listing,
     fixed: Fixed,
     choice: u32,
-) -> CsDataAnswer
+) -> CsDataLayout
     requires { Laying d h l fixed }
-    ensures { result ≡ record { outcome = CsDataOutcome.LaidOut; layout = cs_data_layout_of d h (list_of l) choice } }
+    ensures { result ≡ cs_data_layout_of d h (list_of l) choice }
 {
-    CsDataAnswer {
-        outcome: CsDataOutcome::LaidOut,
-        layout: layout(
-            d,
-            h,
-            resolve(l, choice),
-            whole(l, fixed, choice),
-            fixed.qualifiers,
-        ),
-    }
+    layout(
+        d,
+        h,
+        resolve(l, choice),
+        whole(l, fixed, choice),
+        fixed.qualifiers,
+    )
 }

@@ -31,10 +31,8 @@ pub fn excess_set(h: AddrLayout) -> u64
 {
     let count = h.num_excess as usize;
     let mut s: u64 = 0;
-    let mut k: usize = 0;
-    while k < count {
+    for k in 0..count {
         s = with(s, excess_gpio(h, k));
-        k += 1;
     }
     s
 }
@@ -48,10 +46,8 @@ pub fn qualifier_set(d: Description, h: AddrLayout) -> u64
     let gpios = h.gpios;
     let count = d.num_qualifiers as usize;
     let mut s: u64 = 0;
-    let mut k: usize = 0;
-    while k < count {
+    for k in 0..count {
         s = with(s, qualifier_gpio(qualifiers, gpios, k));
-        k += 1;
     }
     s
 }
@@ -83,13 +79,11 @@ fn ignored_lines(d: Description) -> u64
     let multi = d.multi;
     let count = multi.num_ignored as usize;
     let mut s: u64 = 0;
-    let mut k: usize = 0;
-    while k < count {
+    for k in 0..count {
         let packed = kind_listed(d, ignored_kind(d, k));
         let pin = packed.listed();
         let gpios = pin.gpios;
         s = with_candidates(s, gpios);
-        k += 1;
     }
     s
 }

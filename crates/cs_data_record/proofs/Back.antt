@@ -1,4 +1,5 @@
 -- A record that is written is no refused one, and reads back as the layout that it was written from. Assumes nothing.
+use Rattle.std.specs.Prelude.{Option, Some, None, ℕ}
 use mathlib.Core.Path.{◌≡◌, refl}
 use mathlib.Core.Bool.{true}
 use mathlib.Core.List.{◌++◌}
@@ -8,18 +9,17 @@ use Rattle.lists.specs.Tab.{tab}
 use Rattle.fields.specs.Fields.{byte_at}
 use Rattle.fields.proofs.Parts.{array_is, not_none}
 use Rattle.cs_data_layout.specs.Layout.{line}
-use Rattle.cs_data_layout.specs.declared.layout.IgnoreIndex.{IgnoreIndex}
 use Rattle.cs_data_layout.specs.declared.layout.Qualifiers.{Qualifiers}
 use Rattle.cs_data_layout.specs.declared.layout.CsDataLayout.{CsDataLayout}
 use Rattle.cs_data_record.specs.CsDataRecord.{ignore_byte, ignore_of, qualifier_bytes, qualifiers_at, lines_bytes, cs_data_bytes, cs_data_at, cs_data_formed, IgnoreNamed, ValuedCsData}
 
-ignore_back : (x : IgnoreIndex) → IgnoreNamed x → ignore_of (ignore_byte x) ≡ x
-ignore_back IgnoreIndex.None h = refl
-ignore_back (IgnoreIndex.At k) h = rw (not_none h)
+ignore_back : (x : Option ℕ) → IgnoreNamed x → ignore_of (ignore_byte x) ≡ x
+ignore_back None h = refl
+ignore_back (Some k) h = rw (not_none h)
 
-qualifiers-back : (q : Qualifiers) → qualifiers_at (replicate 8 0 ++ qualifier_bytes q) ≡ q
-qualifiers-back Qualifiers.Absent = refl
-qualifiers-back (Qualifiers.Present pin count pattern) = refl
+qualifiers-back : (q : Option Qualifiers) → qualifiers_at (replicate 8 0 ++ qualifier_bytes q) ≡ q
+qualifiers-back None = refl
+qualifiers-back (Some q) = refl
 
 pub cs_data_back : (l : CsDataLayout) → ValuedCsData l → cs_data_at (cs_data_bytes l) ≡ l
 unfolding cs_data_at cs_data_bytes lines_bytes tab
@@ -38,9 +38,9 @@ cs_data_back l v = λ i. record {
   qualifiers = qualifiers-back l.qualifiers i;
 }
 
-qualified : (q : Qualifiers) → leb (byte_at (qualifier_bytes q) 0) 1 ≡ true
-qualified Qualifiers.Absent = refl
-qualified (Qualifiers.Present pin count pattern) = refl
+qualified : (q : Option Qualifiers) → leb (byte_at (qualifier_bytes q) 0) 1 ≡ true
+qualified None = refl
+qualified (Some q) = refl
 
 pub cs_data_formed_lem : (l : CsDataLayout) → cs_data_formed (cs_data_bytes l) ≡ true
 unfolding cs_data_formed cs_data_bytes lines_bytes tab

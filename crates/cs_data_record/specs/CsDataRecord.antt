@@ -1,14 +1,11 @@
 -- The select and data layout record of docs/INTERFACE.md, place by place: the bytes of a layout, and the layout that bytes
 -- give. Assumes nothing.
-use Rattle.std.specs.Prelude.{◌≡◌, ℕ, ◌+◌, ◌*◌, ◌-◌, ◌/◌, ◌%◌, ◌<◌, Bool, cond, ◌&&◌, List, [], ◌∷◌, ◌++◌, leb, ltb, eqb, length, get_or}
+use Rattle.std.specs.Prelude.{◌≡◌, ℕ, ◌+◌, ◌*◌, ◌-◌, ◌/◌, ◌%◌, ◌<◌, Bool, cond, ◌&&◌, List, [], ◌∷◌, ◌++◌, leb, ltb, eqb, length, get_or, Option, Some, None}
 use Rattle.lists.specs.Tab.{tab}
 use Rattle.fields.specs.Fields.{byte_at, bytes_at, field}
 use Rattle.cs_data_layout.specs.Layout.{line}
-use Rattle.cs_data_layout.specs.declared.layout.IgnoreIndex.{IgnoreIndex}
-use Rattle.cs_data_layout.specs.declared.layout.IgnoreIndex.TheVariants.{None, At}
 use Rattle.cs_data_layout.specs.declared.layout.SelectLine.{SelectLine}
 use Rattle.cs_data_layout.specs.declared.layout.Qualifiers.{Qualifiers}
-use Rattle.cs_data_layout.specs.declared.layout.Qualifiers.TheVariants.{Absent, Present}
 use Rattle.cs_data_layout.specs.declared.layout.CsDataLayout.{CsDataLayout}
 
 -- "100 bytes"
@@ -16,17 +13,17 @@ abbrev pub cs_data_size : ℕ
 cs_data_size = 100
 
 -- "255 none"
-abbrev pub ignore_byte : IgnoreIndex → ℕ
+abbrev pub ignore_byte : Option ℕ → ℕ
 ignore_byte None = 255
-ignore_byte (At k) = k
+ignore_byte (Some k) = k
 
-abbrev pub ignore_of : ℕ → IgnoreIndex
-ignore_of x = cond (eqb x 255) None (At x)
+abbrev pub ignore_of : ℕ → Option ℕ
+ignore_of x = cond (eqb x 255) None (Some x)
 
 -- places 8 to 11: "1 with qualifiers, else 0", and their three numbers, "0 without qualifiers"
-abbrev pub qualifier_bytes : Qualifiers → List ℕ
-qualifier_bytes Absent = 0 ∷ 0 ∷ 0 ∷ 0 ∷ []
-qualifier_bytes (Present pin count pattern) = 1 ∷ pin ∷ count ∷ pattern ∷ []
+abbrev pub qualifier_bytes : Option Qualifiers → List ℕ
+qualifier_bytes None = 0 ∷ 0 ∷ 0 ∷ 0 ∷ []
+qualifier_bytes (Some q) = 1 ∷ q.base_qualifier_pin ∷ q.num_qualifier_pins ∷ q.qualifier_inactive_pattern ∷ []
 
 -- places 0 to 11
 abbrev pub cs_data_head : CsDataLayout → List ℕ
@@ -58,8 +55,10 @@ abbrev pub lines_from : List ℕ → ℕ → ℕ → List SelectLine
 lines_from b p n = tab n (λ k. line_from b (p + 2 * k))
 
 -- "1 with qualifiers"; without them what stands at the other three places counts for nothing
-abbrev pub qualifiers_at : List ℕ → Qualifiers
-qualifiers_at b = cond (eqb (byte_at b 8) 1) (Present (byte_at b 9) (byte_at b 10) (byte_at b 11)) Absent
+abbrev pub qualifiers_at : List ℕ → Option Qualifiers
+qualifiers_at b =
+    cond (eqb (byte_at b 8) 1)
+    (Some (record { base_qualifier_pin = byte_at b 9; num_qualifier_pins = byte_at b 10; qualifier_inactive_pattern = byte_at b 11 })) None
 
 -- what the record lays out
 unfoldable pub cs_data_at : List ℕ → CsDataLayout
@@ -79,9 +78,9 @@ cs_data_at b = record {
 }
 
 -- what the type and the search say of a layout: the arrays' lengths, and an ignore index that is not the byte for none
-abbrev pub IgnoreNamed : IgnoreIndex → Type 0
+abbrev pub IgnoreNamed : Option ℕ → Type 0
 IgnoreNamed None = Unit
-IgnoreNamed (At k) = k < 255
+IgnoreNamed (Some k) = k < 255
 
 pub record ValuedCsData (l : CsDataLayout) : Type 0 where
   pub data_pin_gpios : length l.data_pin_gpios ≡ 16

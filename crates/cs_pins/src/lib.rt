@@ -44,10 +44,8 @@ pub fn list_data(d: Description) -> Listing
     let count = chip.num_data_pins as usize;
     let none = listing::none();
     let mut pins = none.pins;
-    let mut k: usize = 0;
-    while k < count {
+    for k in 0..count {
         pins[k] = pin_listed(d, data_pin(d, k));
-        k += 1;
     }
     Listing { pins, count }
 }
@@ -72,13 +70,11 @@ fn list_active(d: Description, before: Listing) -> Listing
     let count = lines.count as usize;
     let mut pins = before.pins;
     let mut n = before.count;
-    let mut k: usize = 0;
-    while k < count {
+    for k in 0..count {
         let line = control_line(lines, k);
         pins[n] = pin_listed(d, line.pin);
         // The next line takes the place of one that does not select.
         n += one_if(line_active(d, k)) as usize;
-        k += 1;
     }
     Listing { pins, count: n }
 }
@@ -118,10 +114,8 @@ pub fn push_commoned(d: Description, selects: Listing) -> Listing
     let count = multi.num_commoned as usize;
     let at = selects.count;
     let mut pins = selects.pins;
-    let mut k: usize = 0;
-    while k < count {
+    for k in 0..count {
         pins[at + k] = kind_listed(d, commoned_kind(d, k));
-        k += 1;
     }
     Listing {
         pins,

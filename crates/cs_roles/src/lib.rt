@@ -65,10 +65,8 @@ fn active_roles(d: Description) -> Roles
     let lines = chip.control;
     let count = lines.count as usize;
     let mut r = no_roles();
-    let mut k: usize = 0;
-    while k < count {
+    for k in 0..count {
         r = push_kind(d, r, k);
-        k += 1;
     }
     r
 }

@@ -1,11 +1,9 @@
 -- cs_data_layout.rs: the verdict on one choice, by the sets of its GPIOs. Assumes nothing.
-use Rattle.std.specs.Prelude.{ℕ, ◌+◌, ◌-◌, ◌*◌, Bool, not, ◌&&◌, ◌||◌, cond, eqb}
+use Rattle.std.specs.Prelude.{ℕ, ◌+◌, ◌-◌, ◌*◌, Bool, not, ◌&&◌, ◌||◌, cond, eqb, Option, Some, None}
 use Rattle.std.specs.Int.Bits.{bit_or}
 use Rattle.gpio.specs.Set.{lowest, end, width, size, gapless}
 use Rattle.gpio.specs.Window.{fits, base_over}
 use Rattle.control.specs.AlgPreference.{preference_of}
-use Rattle.search.specs.declared.Trial.{Trial}
-use Rattle.search.specs.declared.Trial.TheVariants.{Misfit, Score}
 use Rattle.cs_verdict.specs.declared.Verdict.{Verdict}
 use Rattle.cs_verdict.specs.declared.Verdict.TheVariants.{DataGap, SelectGap, OutsideWindow, Fits}
 
@@ -46,8 +44,8 @@ verdict_of multi qualifiers dataGpios selectGpios =
     DataGap
 
 -- a choice by its verdict
-abbrev pub verdict_trial : Verdict → Trial
-verdict_trial DataGap = Misfit
-verdict_trial (SelectGap s) = Misfit
-verdict_trial OutsideWindow = Misfit
-verdict_trial (Fits score) = Score score
+abbrev pub verdict_trial : Verdict → Option ℕ
+verdict_trial DataGap = None
+verdict_trial (SelectGap s) = None
+verdict_trial OutsideWindow = None
+verdict_trial (Fits score) = Some score

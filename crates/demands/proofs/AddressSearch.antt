@@ -1,4 +1,5 @@
 -- Demand 2 of the address search, over its call. Assumes nothing.
+use Rattle.std.specs.Prelude.{Ok, Err, Result}
 use mathlib.Core.Path.{◌≡◌, refl, sym, ◌∙◌, ap, subst}
 use mathlib.Core.Bool.{Bool, true, false, ◌&&◌, ◌||◌}
 use mathlib.Core.List.{List}
@@ -11,13 +12,10 @@ use borrow.Author.Tests.{leb-true, le-leb, le-ltb}
 use Rattle.lists.proofs.Bools.{and_left, and_right}
 use Rattle.slot.specs.declared.description.Description.{Description}
 use Rattle.domain.specs.Domain.{description_in}
-use Rattle.refusal.specs.declared.Answer.TheVariants.{Done}
+use Rattle.refusal.specs.declared.Refusal.{Refusal}
 use Rattle.refusal.specs.declared.Refusal.TheVariants.{NoValidLayout}
-use Rattle.addr_layout.specs.Layout.{addr_refused}
 use Rattle.addr_layout.specs.Search.{addr_answer}
 use Rattle.addr_layout.specs.declared.layout.AddrLayout.{AddrLayout}
-use Rattle.addr_layout.specs.declared.layout.AddrOutcome.{AddrOutcome}
-use Rattle.addr_layout.specs.declared.layout.AddrAnswer.{AddrAnswer}
 use Rattle.addr_law.specs.Law as law
 use Rattle.addr_law.proofs.Law.{addr_demand}
 use Rattle.gpio.specs.Window.{fits}
@@ -26,7 +24,7 @@ use Rattle.premises.proofs.Truths.{or_right}
 use Rattle.addr_record.specs.AddrRecord.{addr_size, layout_at, ValuedAddr}
 use Rattle.addr_record.proofs.Back.{layout-back}
 use Rattle.calls.specs.Packed.{packed_code, result_of}
-use Rattle.calls.specs.Calls.{Answered, addr_outcome, addr_found, addr_call}
+use Rattle.calls.specs.Calls.{Answered, addr_found, addr_call}
 use Rattle.calls.proofs.Law.{done_alone}
 use Rattle.demands.specs.Refused.{number_in}
 use Rattle.demands.specs.Searches.{described, Seen, AddressFits, address_score, BestAddress, address_called, AddressPast, AddressDemand}
@@ -77,21 +75,21 @@ module _ (description buffer : List ℕ) (past : AddressPast description buffer)
   called_is = rw past.formed
 
   -- a layout that is found is written
-  written-done : (o : AddrOutcome) (l : AddrLayout) → o ≡ AddrOutcome.LaidOut → (addr_outcome o l buffer).answer ≡ Done
-  written-done o l e = rw (e, le-ltb (length buffer) addr_size past.room)
+  written-done : (x : Result AddrLayout Refusal) (l : AddrLayout) → x ≡ Ok l → (addr_found x buffer).answer ≡ Ok tt
+  written-done x l e = rw (e, le-ltb (length buffer) addr_size past.room)
 
-  found : (addr_answer d).outcome ≡ AddrOutcome.LaidOut → (address_called description buffer).result ≡ 0
+  found : (l : AddrLayout) → addr_answer d ≡ Ok l → (address_called description buffer).result ≡ 0
   unfolding packed_code
-  found e = rw (ap (λ (x : Answered). x.answer) called_is ∙ written-done (addr_answer d).outcome (addr_answer d).layout e)
+  found l e = rw (ap (λ (x : Answered). x.answer) called_is ∙ written-done (addr_answer d) l e)
 
   best : (address_called description buffer).result ≡ 0 → BestAddress d (layout_at (take addr_size (address_called description buffer).buffer))
   best e =
       let is-done = ap (λ (x : Answered). x.answer) (sym called_is) ∙ done_alone (addr_call description buffer).answer e in
-      let (laid, at_front) = calls.addr-found (addr_answer d).outcome (addr_answer d).layout buffer is-done in
-      let (c, b) = (addr_demand d tests).found-best laid in
+      let (l, laid, at_front) = calls.addr-found (addr_answer d) buffer is-done in
+      let (c, b) = (addr_demand d tests).found-best l laid in
       let in_domain = and_left (description_in d) _ past.domain in
-      let back = layout-back (addr_answer d).layout (subst ValuedAddr (sym b.layout) (addr-valued d c in_domain)) in
-      let reads : layout_at (take addr_size (addr_call description buffer).buffer) ≡ (addr_answer d).layout =
+      let back = layout-back l (subst ValuedAddr (sym b.layout) (addr-valued d c in_domain)) in
+      let reads : layout_at (take addr_size (addr_call description buffer).buffer) ≡ l =
       ap (λ (x : Answered). layout_at (take addr_size x.buffer)) called_is ∙ ap layout_at at_front ∙ back in
       subst (BestAddress d) (sym reads) (record {
         choice = c;
@@ -121,15 +119,15 @@ module _ (description buffer : List ℕ) (past : AddressPast description buffer)
       let low' = below_48 _ _ q.fits.seen in
       (neither-below p.choice q.choice (not_earlier l m p q) (not_earlier m l q p), omega (arith, same, other, low, low'), omega (arith, same, other, low, low'))
 
-  none : addr_answer d ≡ addr_refused NoValidLayout → number_in (address_called description buffer).result ≡ 9
+  none : addr_answer d ≡ Err NoValidLayout → number_in (address_called description buffer).result ≡ 9
   none e =
       ap (λ (x : Answered). number_in (result_of x.answer)) called_is
-      ∙ ap (λ (x : AddrAnswer). number_in (result_of (addr_found x buffer).answer)) e
+      ∙ ap (λ (x : Result AddrLayout Refusal). number_in (result_of (addr_found x buffer).answer)) e
       ∙ number_of_lem NoValidLayout
 
   pub address_demand : AddressDemand description buffer
   address_demand = record {
-    found = λ pick low pins h f. found ((addr_demand d tests).some-found pick low pins h (to_law d pick low pins f));
+    found = λ pick low pins h f. let (l, e) = (addr_demand d tests).some-found pick low pins h (to_law d pick low pins f) in found l e;
     best = best;
     one = one;
     none = λ h. none ((addr_demand d tests).none-nine (λ pick low pins a f. h pick low pins a (from_law d pick low pins f)));

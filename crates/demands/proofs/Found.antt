@@ -8,7 +8,6 @@ use lib.ListN.{length}
 use lib.Count.{trailing_le}
 use Rattle.lists.proofs.Tab.{tab-length}
 use Rattle.gpio.specs.Set.{lowest, gapless, gap}
-use Rattle.gpio.specs.declared.line.LineGpio.{LineGpio}
 use Rattle.slot.specs.Description.{is_single}
 use Rattle.slot.specs.declared.description.Description.{Description}
 use Rattle.domain.specs.Domain.{description_in}

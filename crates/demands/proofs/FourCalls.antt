@@ -1,4 +1,5 @@
 -- The four calls in turn, on records, are the four definitions in turn. Assumes nothing.
+use Rattle.std.specs.Prelude.{Result, Ok, Err, None, Some, Option}
 use mathlib.Core.Path.{◌≡◌, refl, sym, ◌∙◌, ap, subst}
 use mathlib.Core.Bool.{Bool, true, false, not, ◌&&◌, cond}
 use mathlib.Core.List.{List, ◌++◌}
@@ -12,22 +13,14 @@ use Rattle.lists.proofs.Bools.{and_left, and_right, both}
 use Rattle.lists.proofs.Loops.{zero_one}
 use Rattle.slot.specs.declared.description.Description.{Description}
 use Rattle.refusal.specs.declared.Refusal.{Refusal}
-use Rattle.refusal.specs.declared.Answer.{Answer}
-use Rattle.refusal.specs.declared.Answer.TheVariants.{Done, Refused}
 use Rattle.refusal.specs.declared.Refusal.TheVariants.{ShortBuffer, OutOfDomain}
 use Rattle.domain.specs.Domain.{description_in}
 use Rattle.listing.specs.Listing.{first_fault}
 use Rattle.addr_lines.specs.Lines.{addr_listed}
-use Rattle.addr_layout.specs.Layout.{addr_refused}
 use Rattle.addr_layout.specs.Search.{addr_search_in, after_faults, addr_answer}
 use Rattle.addr_layout.specs.declared.layout.AddrLayout.{AddrLayout}
-use Rattle.addr_layout.specs.declared.layout.AddrOutcome.{AddrOutcome}
-use Rattle.addr_layout.specs.declared.layout.AddrAnswer.{AddrAnswer}
 use Rattle.cs_data_layout.specs.Search.{cs_data_answer}
-use Rattle.cs_data_layout.specs.declared.layout.GivenLayout.{GivenLayout}
 use Rattle.cs_data_layout.specs.declared.layout.CsDataLayout.{CsDataLayout}
-use Rattle.cs_data_layout.specs.declared.layout.CsDataOutcome.{CsDataOutcome}
-use Rattle.cs_data_layout.specs.declared.layout.CsDataAnswer.{CsDataAnswer}
 use Rattle.description_record.specs.Record.{decoded_of}
 use Rattle.addr_record.specs.AddrRecord.{addr_size, layout_bytes, layout_at, layout_formed, none_given, given_at, given_formed, ValuedAddr}
 use Rattle.addr_record.proofs.Back.{layout-formed, layout-back}
@@ -36,7 +29,7 @@ use Rattle.cs_data_record.proofs.Back.{cs_data_formed_lem, cs_data_back}
 use Rattle.calls.specs.Packed.{packed_code}
 use Rattle.calls.proofs.Law.{done_alone}
 use Rattle.calls.specs.Order.{order_formed, order_at}
-use Rattle.calls.specs.Calls.{Answered, answered, call_refused, written, if_described, addr_outcome, addr_found, addr_call, cs_data_outcome, cs_data_found, cs_data_call, build_formed, build_refused, build_call, read_back_call, read_result}
+use Rattle.calls.specs.Calls.{Answered, answered, call_refused, written, if_described, addr_found, addr_call, cs_data_found, cs_data_call, build_formed, build_refused, build_call, read_back_call, read_result}
 use Rattle.build_args.specs.Faults.{table_size}
 use Rattle.rom_image.specs.Build.{Built, build_of}
 use Rattle.unscramble.specs.Recovered.{unscrambled}
@@ -45,28 +38,27 @@ use Rattle.stored_record.specs.StoredRecord.{stored_at}
 use Rattle.round_trip.specs.RoundTrip.{Accepted, table_built}
 use Rattle.round_trip.proofs.RoundTrip.{round_trip}
 use Rattle.round_trip.proofs.Laid as layouts
-use Rattle.round_trip.proofs.Laid.{laid_out, cs_laid_out}
 use Rattle.demands.specs.FourCalls as FourCalls
 use Rattle.demands.specs.FourCalls.{Bench, addressed, addr_record, selected, cs_data_record, built, slot_args, stored}
 use Rattle.demands.proofs.Found.{addr-valued, cs_data_valued}
 
-refused-done : (why : Refusal) → Refused why ≡ Done → ⊥
+refused-done : (why : Refusal) → ◌≡◌ {A = Result (Unit {0}) Refusal} (Err why) (Ok tt) → ⊥
 refused-done why e = zero_one cc
 
 -- so its description is one, and so are its other records
-described : {A : Type 0} (says : A → Answer) (f : Description → A) (refuse : Refusal → A) → ((why : Refusal) → says (refuse why) ≡ Refused why)
-    → (x : Answer) (d : Description) → says (if_described f refuse x d) ≡ Done → x ≡ Done
-described says f refuse h Done d e = refl
-described says f refuse h (Refused why) d e = absurd (refused-done why (sym (h why) ∙ e))
+described : {A : Type 0} (says : A → Result (Unit {0}) Refusal) (f : Description → A) (refuse : Refusal → A) → ((why : Refusal) → says (refuse why) ≡ Err why)
+    → (x : Result (Unit {0}) Refusal) (d : Description) → says (if_described f refuse x d) ≡ Ok tt → x ≡ Ok tt
+described says f refuse h (Ok tt) d e = refl
+described says f refuse h (Err why) d e = absurd (refused-done why (sym (h why) ∙ e))
 
-formed : {A : Type 0} (says : A → Answer) (good bad : A) (why : Refusal) → says bad ≡ Refused why → (t : Bool) → says (cond t good bad) ≡ Done → t ≡ true
+formed : {A : Type 0} (says : A → Result (Unit {0}) Refusal) (good bad : A) (why : Refusal) → says bad ≡ Err why → (t : Bool) → says (cond t good bad) ≡ Ok tt → t ≡ true
 formed says good bad why h true e = refl
 formed says good bad why h false e = absurd (refused-done why (sym h ∙ e))
 
 -- a record that is written stands at the front of its buffer
 front : (bytes buffer : List ℕ) (size : ℕ) (t : Bool) → length bytes ≡ size
-    → (cond t (call_refused ShortBuffer buffer) (answered Done (bytes ++ drop size buffer))).answer ≡ Done
-    → take size (cond t (call_refused ShortBuffer buffer) (answered Done (bytes ++ drop size buffer))).buffer ≡ bytes
+    → (cond t (call_refused ShortBuffer buffer) (answered (Ok tt) (bytes ++ drop size buffer))).answer ≡ Ok tt
+    → take size (cond t (call_refused ShortBuffer buffer) (answered (Ok tt) (bytes ++ drop size buffer))).buffer ≡ bytes
 front bytes buffer size true l e = absurd (refused-done ShortBuffer e)
 front bytes buffer size false l e = take_at bytes (drop size buffer) size l
 
@@ -79,24 +71,21 @@ unfolding cs_data_formed
 cs_data_long l = eqb-true (length (cs_data_bytes l)) cs_data_size (and_left _ _ (cs_data_formed_lem l))
 
 -- a search that is done has found a layout, and its record is the buffer's front
-pub addr-found : (o : AddrOutcome) (l : AddrLayout) (buffer : List ℕ) → (addr_outcome o l buffer).answer ≡ Done
-    → (o ≡ AddrOutcome.LaidOut) × (take addr_size (addr_outcome o l buffer).buffer ≡ layout_bytes l)
-addr-found AddrOutcome.LaidOut l buffer e = (refl, front (layout_bytes l) buffer addr_size (ltb (length buffer) addr_size) (addr-long l) e)
-addr-found (AddrOutcome.Refused why) l buffer e = absurd (refused-done why e)
+pub addr-found : (x : Result AddrLayout Refusal) (buffer : List ℕ) → (addr_found x buffer).answer ≡ Ok tt
+    → (l : AddrLayout) × (x ≡ Ok l) × (take addr_size (addr_found x buffer).buffer ≡ layout_bytes l)
+addr-found (Ok l) buffer e = (l, refl, front (layout_bytes l) buffer addr_size (ltb (length buffer) addr_size) (addr-long l) e)
+addr-found (Err why) buffer e = absurd (refused-done why e)
 
-pub cs_data_found_lem : (o : CsDataOutcome) (l : CsDataLayout) (buffer : List ℕ) → (cs_data_outcome o l buffer).answer ≡ Done
-    → (o ≡ CsDataOutcome.LaidOut) × (take cs_data_size (cs_data_outcome o l buffer).buffer ≡ cs_data_bytes l)
-cs_data_found_lem CsDataOutcome.LaidOut l buffer e = (refl, front (cs_data_bytes l) buffer cs_data_size (ltb (length buffer) cs_data_size) (cs_data_long l) e)
-cs_data_found_lem (CsDataOutcome.Refused why) l buffer e = absurd (refused-done why e)
+pub cs_data_found_lem : (x : Result CsDataLayout Refusal) (buffer : List ℕ) → (cs_data_found x buffer).answer ≡ Ok tt
+    → (l : CsDataLayout) × (x ≡ Ok l) × (take cs_data_size (cs_data_found x buffer).buffer ≡ cs_data_bytes l)
+cs_data_found_lem (Ok l) buffer e = (l, refl, front (cs_data_bytes l) buffer cs_data_size (ltb (length buffer) cs_data_size) (cs_data_long l) e)
+cs_data_found_lem (Err why) buffer e = absurd (refused-done why e)
 
 -- a search that found a layout had a description in the domain
 pub searched : (d : Description) (l : AddrLayout) (t : Bool) → addr_search_in d ≡ t
-    → cond t (after_faults d (first_fault (addr_listed d))) (addr_refused OutOfDomain) ≡ laid_out l → description_in d ≡ true
+    → cond t (after_faults d (first_fault (addr_listed d))) (Err OutOfDomain) ≡ Ok l → description_in d ≡ true
 searched d l true q e = and_left (description_in d) _ q
-searched d l false q e = absurd (refused_not_laid (ap (λ (r : AddrAnswer). r.outcome) e))
-  where
-    refused_not_laid : AddrOutcome.Refused OutOfDomain ≡ AddrOutcome.LaidOut → ⊥
-    refused_not_laid e = zero_one cc
+searched d l false q e = absurd (layouts.refused_not_laid OutOfDomain l e)
 
 -- what the calls found, by their records
 module _ (b : Bench) (ok : FourCalls.Accepted b) where
@@ -106,25 +95,28 @@ module _ (b : Bench) (ok : FourCalls.Accepted b) where
   abbrev searched_addr : Answered
   searched_addr = addr_call b.description b.addr-buffer
 
-  addressed_is : ((decoded_of b.description).answer ≡ Done) × (searched_addr ≡ addr_found (addr_answer d) b.addr-buffer)
+  addressed_is : ((decoded_of b.description).answer ≡ Ok tt) × (searched_addr ≡ addr_found (addr_answer d) b.addr-buffer)
   unfolding addr_call
   addressed_is =
       let is-done = done_alone searched_addr.answer ok.address in
       let record_is = described (λ (x : Answered). x.answer) (λ d. addr_found (addr_answer d) b.addr-buffer) (λ why. call_refused why b.addr-buffer) (λ why. refl) (decoded_of b.description).answer d is-done in
       (record_is, rw record_is)
 
-  abbrev done : (decoded_of b.description).answer ≡ Done
+  abbrev done : (decoded_of b.description).answer ≡ Ok tt
   done = addressed_is.0
 
-  abbrev a : AddrLayout
-  a = (addr_answer d).layout
-
-  address : (addr_answer d ≡ laid_out a) × (addr_record b ≡ layout_bytes a)
-  address =
+  found_addr : (l : AddrLayout) × (addr_answer d ≡ Ok l) × (addr_record b ≡ layout_bytes l)
+  found_addr =
       let is = addressed_is.1 in
       let is-done = ap (λ (x : Answered). x.answer) (sym is) ∙ done_alone searched_addr.answer ok.address in
-      let (laid, at_front) = addr-found (addr_answer d).outcome a b.addr-buffer is-done in
-      (ap (λ (o : AddrOutcome). record { outcome = o; layout = a }) laid, ap (λ (x : Answered). take addr_size x.buffer) is ∙ at_front)
+      let (l, laid, at_front) = addr-found (addr_answer d) b.addr-buffer is-done in
+      (l, laid, ap (λ (x : Answered). take addr_size x.buffer) is ∙ at_front)
+
+  abbrev a : AddrLayout
+  a = found_addr.0
+
+  address : (addr_answer d ≡ Ok a) × (addr_record b ≡ layout_bytes a)
+  address = (found_addr.1, found_addr.2)
 
   addr_back : layout_at (addr_record b) ≡ a
   addr_back =
@@ -133,11 +125,10 @@ module _ (b : Bench) (ok : FourCalls.Accepted b) where
       ap layout_at address.1 ∙ layout-back a (subst ValuedAddr (sym best.layout) valued)
 
   -- the select search is given that layout
-  given : given_at (addr_record b) ≡ record { given = true; layout = a }
+  given : given_at (addr_record b) ≡ Some a
   given =
       let some : none_given (addr_record b) ≡ false = ap none_given address.1 ∙ rw (addr-long a) in
-      ap (λ (t : Bool). record { given = not t; layout = layout_at (addr_record b) }) some
-      ∙ ap (λ (l : AddrLayout). record { given = true; layout = l }) addr_back
+      ap (λ (t : Bool). cond t None (Some (layout_at (addr_record b)))) some ∙ ap Some addr_back
 
   abbrev searched_cs : Answered
   searched_cs = cs_data_call b.description (addr_record b) b.cs_data_buffer
@@ -148,18 +139,21 @@ module _ (b : Bench) (ok : FourCalls.Accepted b) where
       let is_record = formed (λ (x : Answered). x.answer) _ (call_refused OutOfDomain b.cs_data_buffer) OutOfDomain refl (given_formed (addr_record b)) (done_alone searched_cs.answer ok.select) in
       rw (is_record, done)
 
-  abbrev c : CsDataLayout
-  c = (cs_data_answer d (record { given = true; layout = a })).layout
+  found_select : (l : CsDataLayout) × (cs_data_answer d (Some a) ≡ Ok l) × (cs_data_record b ≡ cs_data_bytes l)
+  found_select =
+      let is = selected_is ∙ ap (λ (g : Option AddrLayout). cs_data_found (cs_data_answer d g) b.cs_data_buffer) given in
+      let (l, laid, at_front) = cs_data_found_lem (cs_data_answer d (Some a)) b.cs_data_buffer (ap (λ (x : Answered). x.answer) (sym is) ∙ done_alone searched_cs.answer ok.select) in
+      (l, laid, ap (λ (x : Answered). take cs_data_size x.buffer) is ∙ at_front)
 
-  select : (cs_data_answer d (record { given = true; layout = a }) ≡ cs_laid_out c) × (cs_data_record b ≡ cs_data_bytes c)
-  select =
-      let is = selected_is ∙ ap (λ (g : GivenLayout). cs_data_found (cs_data_answer d g) b.cs_data_buffer) given in
-      let (laid, at_front) = cs_data_found_lem (cs_data_answer d (record { given = true; layout = a })).outcome c b.cs_data_buffer (ap (λ (x : Answered). x.answer) (sym is) ∙ done_alone searched_cs.answer ok.select) in
-      (ap (λ (o : CsDataOutcome). record { outcome = o; layout = c }) laid, ap (λ (x : Answered). take cs_data_size x.buffer) is ∙ at_front)
+  abbrev c : CsDataLayout
+  c = found_select.0
+
+  select : (cs_data_answer d (Some a) ≡ Ok c) × (cs_data_record b ≡ cs_data_bytes c)
+  select = (found_select.1, found_select.2)
 
   cs_data_back_at : cs_data_at (cs_data_record b) ≡ c
   cs_data_back_at =
-      let (k, best) = layouts.cs_found d (record { given = true; layout = a }) c select.0 in
+      let (k, best) = layouts.cs_found d (Some a) c select.0 in
       ap cs_data_at select.1 ∙ cs_data_back c (subst ValuedCsData (sym best.layout) (cs_data_valued d a k))
 
   -- the build is given both
@@ -182,9 +176,9 @@ module _ (b : Bench) (ok : FourCalls.Accepted b) where
 
   accepted : Accepted (order_at b.order) (slot_args b) b.images b.table
   accepted = record {
-    address = address.0 ∙ ap laid_out (sym addr_back);
+    address = address.0 ∙ ap Ok (sym addr_back);
     select =
-        ap (λ (l : AddrLayout). cs_data_answer d (record { given = true; layout = l })) addr_back ∙ select.0 ∙ ap cs_laid_out (sym cs_data_back_at);
+        ap (λ (l : AddrLayout). cs_data_answer d (Some l)) addr_back ∙ select.0 ∙ ap Ok (sym cs_data_back_at);
     build = ap (λ (x : Built). x.answer) (sym built_is) ∙ done_alone made.answer ok.build;
   }
 

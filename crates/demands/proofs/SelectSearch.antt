@@ -1,4 +1,5 @@
 -- Demand 2 of the select search, over its call. Assumes nothing.
+use Rattle.std.specs.Prelude.{Ok, Err, Option, Result}
 use mathlib.Core.Path.{◌≡◌, refl, sym, ◌∙◌, ap, subst}
 use mathlib.Core.Bool.{Bool, true, false}
 use mathlib.Core.List.{List}
@@ -12,20 +13,17 @@ use borrow.Author.Tests.{ltb-true, ltb-false, le-ltb}
 use Rattle.slot.specs.declared.description.Description.{Description}
 use Rattle.refusal.specs.Refusal.{number_of}
 use Rattle.refusal.specs.declared.Refusal.{Refusal}
-use Rattle.refusal.specs.declared.Answer.TheVariants.{Done}
-use Rattle.cs_data_layout.specs.Layout.{cs_data_refused, handed}
+use Rattle.cs_data_layout.specs.Layout.{handed}
 use Rattle.cs_data_layout.specs.Search.{cs_data_answer}
-use Rattle.cs_data_layout.specs.declared.layout.GivenLayout.{GivenLayout}
+use Rattle.addr_layout.specs.declared.layout.AddrLayout.{AddrLayout}
 use Rattle.cs_data_layout.specs.declared.layout.CsDataLayout.{CsDataLayout}
-use Rattle.cs_data_layout.specs.declared.layout.CsDataOutcome.{CsDataOutcome}
-use Rattle.cs_data_layout.specs.declared.layout.CsDataAnswer.{CsDataAnswer}
 use Rattle.cs_data_law.specs.Law as select
 use Rattle.cs_data_law.proofs.Law.{neither-below, cs_data_demand}
 use Rattle.cs_data_record.specs.CsDataRecord.{cs_data_size, cs_data_at, ValuedCsData}
 use Rattle.cs_data_record.proofs.Back.{cs_data_back}
 use Rattle.addr_record.specs.AddrRecord.{given_at}
 use Rattle.calls.specs.Packed.{packed_code, result_of}
-use Rattle.calls.specs.Calls.{Answered, cs_data_outcome, cs_data_found, cs_data_call}
+use Rattle.calls.specs.Calls.{Answered, cs_data_found, cs_data_call}
 use Rattle.calls.proofs.Law.{done_alone}
 use Rattle.demands.specs.Refused.{number_in}
 use Rattle.demands.specs.Searches.{described, SelectFits, BestSelect, select_called, SelectPast, SelectDemand}
@@ -45,14 +43,14 @@ better p q m n h = by (ltb p q) refl
         let same : q ≡ p = omega arith in
         inr (sym same, lt_of_not-le (λ (l : n ≤ m). h (inr (same, l))))
 
-to_select : (d : Description) (a : GivenLayout) (pick : ℕ → ℕ) → SelectFits d a pick → select.Fit d a pick
+to_select : (d : Description) (a : Option AddrLayout) (pick : ℕ → ℕ) → SelectFits d a pick → select.Fit d a pick
 to_select d a pick f = record { data-gapless = f.data-gapless; select-gap = f.select-gap; window = f.window }
 
-from_select : (d : Description) (a : GivenLayout) (pick : ℕ → ℕ) → select.Fit d a pick → SelectFits d a pick
+from_select : (d : Description) (a : Option AddrLayout) (pick : ℕ → ℕ) → select.Fit d a pick → SelectFits d a pick
 from_select d a pick f = record { data-gapless = f.data-gapless; select-gap = f.select-gap; window = f.window }
 
 -- the number of why nothing fits
-why-number : (d : Description) (a : GivenLayout) (why : Refusal) → select.WhyNone d a why → (number_of why ≡ 8) ⊎ (number_of why ≡ 7) ⊎ (number_of why ≡ 9)
+why-number : (d : Description) (a : Option AddrLayout) (why : Refusal) → select.WhyNone d a why → (number_of why ≡ 8) ⊎ (number_of why ≡ 7) ⊎ (number_of why ≡ 9)
 why-number d a why (select.WhyNone.eight c s e) = inl (ap number_of e)
 why-number d a why (select.WhyNone.seven c s l e) = inr (inl (ap number_of e))
 why-number d a why (select.WhyNone.nine n e) = inr (inr (ap number_of e))
@@ -61,7 +59,7 @@ module _ (description layout buffer : List ℕ) (past : SelectPast description l
   abbrev d : Description
   d = described description
 
-  abbrev a : GivenLayout
+  abbrev a : Option AddrLayout
   a = given_at layout
 
   abbrev tests : select.PastTests d a
@@ -71,21 +69,21 @@ module _ (description layout buffer : List ℕ) (past : SelectPast description l
   unfolding cs_data_call
   called_is = rw (past.layout-formed, past.formed)
 
-  written-done : (o : CsDataOutcome) (l : CsDataLayout) → o ≡ CsDataOutcome.LaidOut → (cs_data_outcome o l buffer).answer ≡ Done
-  written-done o l e = rw (e, le-ltb (length buffer) cs_data_size past.room)
+  written-done : (x : Result CsDataLayout Refusal) (l : CsDataLayout) → x ≡ Ok l → (cs_data_found x buffer).answer ≡ Ok tt
+  written-done x l e = rw (e, le-ltb (length buffer) cs_data_size past.room)
 
-  found : (cs_data_answer d a).outcome ≡ CsDataOutcome.LaidOut → (select_called description layout buffer).result ≡ 0
+  found : (l : CsDataLayout) → cs_data_answer d a ≡ Ok l → (select_called description layout buffer).result ≡ 0
   unfolding packed_code
-  found e = rw (ap (λ (x : Answered). x.answer) called_is ∙ written-done (cs_data_answer d a).outcome (cs_data_answer d a).layout e)
+  found l e = rw (ap (λ (x : Answered). x.answer) called_is ∙ written-done (cs_data_answer d a) l e)
 
   best : (select_called description layout buffer).result ≡ 0
       → BestSelect d a (cs_data_at (take cs_data_size (select_called description layout buffer).buffer))
   best e =
       let is-done = ap (λ (x : Answered). x.answer) (sym called_is) ∙ done_alone (cs_data_call description layout buffer).answer e in
-      let (laid, at_front) = calls.cs_data_found_lem (cs_data_answer d a).outcome (cs_data_answer d a).layout buffer is-done in
-      let (c, b) = (cs_data_demand d a tests).found-best laid in
-      let back = cs_data_back (cs_data_answer d a).layout (subst ValuedCsData (sym b.layout) (cs_data_valued d (handed a) c)) in
-      let reads : cs_data_at (take cs_data_size (cs_data_call description layout buffer).buffer) ≡ (cs_data_answer d a).layout =
+      let (l, laid, at_front) = calls.cs_data_found_lem (cs_data_answer d a) buffer is-done in
+      let (c, b) = (cs_data_demand d a tests).found-best l laid in
+      let back = cs_data_back l (subst ValuedCsData (sym b.layout) (cs_data_valued d (handed a) c)) in
+      let reads : cs_data_at (take cs_data_size (cs_data_call description layout buffer).buffer) ≡ l =
       ap (λ (x : Answered). cs_data_at (take cs_data_size x.buffer)) called_is ∙ ap cs_data_at at_front ∙ back in
       subst (BestSelect d a) (sym reads) (record {
         choice = c;
@@ -109,10 +107,10 @@ module _ (description layout buffer : List ℕ) (past : SelectPast description l
   one : (l m : CsDataLayout) (p : BestSelect d a l) (q : BestSelect d a m) → p.choice ≡ q.choice
   one l m p q = neither-below p.choice q.choice (not_earlier l m p q) (not_earlier m l q p)
 
-  none : (why : Refusal) → cs_data_answer d a ≡ cs_data_refused why → number_in (select_called description layout buffer).result ≡ number_of why
+  none : (why : Refusal) → cs_data_answer d a ≡ Err why → number_in (select_called description layout buffer).result ≡ number_of why
   none why e =
       ap (λ (x : Answered). number_in (result_of x.answer)) called_is
-      ∙ ap (λ (x : CsDataAnswer). number_in (result_of (cs_data_found x buffer).answer)) e
+      ∙ ap (λ (x : Result CsDataLayout Refusal). number_in (result_of (cs_data_found x buffer).answer)) e
       ∙ number_of_lem why
 
   of_three : (n m : ℕ) → n ≡ m → (m ≡ 8) ⊎ (m ≡ 7) ⊎ (m ≡ 9) → (n ≡ 8) ⊎ (n ≡ 7) ⊎ (n ≡ 9)
@@ -120,7 +118,7 @@ module _ (description layout buffer : List ℕ) (past : SelectPast description l
 
   pub select_demand : SelectDemand description layout buffer
   select_demand = record {
-    found = λ pick h f. found ((cs_data_demand d a tests).some-found pick h (to_select d a pick f));
+    found = λ pick h f. let (l, e) = (cs_data_demand d a tests).some-found pick h (to_select d a pick f) in found l e;
     best = best;
     one = one;
     none = λ h.

@@ -1,11 +1,9 @@
 -- Demand 2 of the exported searches: past the earlier tests a layout is found exactly if some choice of candidates fits, and what is
 -- written then is the best one's record. Assumes nothing.
-use Rattle.std.specs.Prelude.{◌≡◌, true, List, ◌⊎◌, ℕ, ◌+◌, ◌-◌, ◌*◌, ◌≤◌, ◌<◌, length, get_or, take}
+use Rattle.std.specs.Prelude.{◌≡◌, true, List, ◌⊎◌, ℕ, ◌+◌, ◌-◌, ◌*◌, ◌≤◌, ◌<◌, length, get_or, take, Ok, None, Option}
 use Rattle.gpio.specs.Set.{gapless}
 use Rattle.slot.specs.Description.{is_multi}
 use Rattle.slot.specs.declared.description.Description.{Description}
-use Rattle.refusal.specs.declared.Answer.TheVariants.{Done}
-use Rattle.refusal.specs.declared.first.FirstFault.TheVariants.{None}
 use Rattle.listing.specs.Listing.{first_fault}
 use Rattle.listing.specs.Choice.{CandidateOf, pin_at, gpio_at}
 use Rattle.listing.specs.declared.Listed.{Listed}
@@ -16,7 +14,6 @@ use Rattle.addr_law.specs.Law.{Spanned}
 use Rattle.cs_pins.specs.Pins.{numbered, cs_search_in}
 use Rattle.cs_verdict.specs.Verdict.{selectable, in_one_window}
 use Rattle.cs_data_layout.specs.Search.{given_in, earlier}
-use Rattle.cs_data_layout.specs.declared.layout.GivenLayout.{GivenLayout}
 use Rattle.cs_data_layout.specs.declared.layout.CsDataLayout.{CsDataLayout}
 use Rattle.cs_data_law.specs.Law.{data_picked, select_picked, all_picked, preference, total_span}
 use Rattle.description_record.specs.Record.{decoded_of}
@@ -66,7 +63,7 @@ address_called description buffer = search_result (addr_call description buffer)
 -- 00 Demand 2: 01's earlier tests are past: the bytes are a description in the domain, each listed pin has a candidate, and the buffer has
 -- room for the record
 pub record AddressPast (description buffer : List ℕ) : Type 0 where
-  pub formed : (decoded_of description).answer ≡ Done
+  pub formed : (decoded_of description).answer ≡ Ok tt
   pub domain : addr_search_in (described description) ≡ true
   pub no_fault : first_fault (addr_listed (described description)) ≡ None
   pub room : addr_size ≤ length buffer
@@ -83,13 +80,13 @@ pub record AddressDemand (description buffer : List ℕ) : Type 0 where
       → AddressFits (described description) pick low pins → ⊥) → number_in (address_called description buffer).result ≡ 9
 
 -- the select search: the GPIOs picked fit
-pub record SelectFits (d : Description) (a : GivenLayout) (pick : ℕ → ℕ) : Type 0 where
+pub record SelectFits (d : Description) (a : Option AddrLayout) (pick : ℕ → ℕ) : Type 0 where
   pub data-gapless : gapless (data_picked d pick) ≡ true
   pub select-gap : selectable (is_multi d.set_type) (select_picked d a pick) ≡ true
   pub window : in_one_window (all_picked d a pick) ≡ true
 
 -- 00 Demand 2: the same of a select layout; a score is the preference first, and then the span of all GPIOs
-pub record BestSelect (d : Description) (a : GivenLayout) (l : CsDataLayout) : Type 0 where
+pub record BestSelect (d : Description) (a : Option AddrLayout) (l : CsDataLayout) : Type 0 where
   pub choice : ℕ
   pub lines : (k : ℕ) → k < l.num_data_pins → get_or l.data_pin_gpios k 0 ≡ gpio_at (numbered d) choice k
   pub fits : SelectFits d a (λ k. gpio_at (numbered d) choice k)
@@ -107,7 +104,7 @@ select_called description layout buffer = search_result (cs_data_call descriptio
 
 -- 00 Demand 2: of this search the earlier tests are past too
 pub record SelectPast (description layout buffer : List ℕ) : Type 0 where
-  pub formed : (decoded_of description).answer ≡ Done
+  pub formed : (decoded_of description).answer ≡ Ok tt
   pub layout-formed : given_formed layout ≡ true
   pub domain : cs_search_in (described description) ≡ true
   pub given_domain : given_in (described description) (given_at layout) ≡ true

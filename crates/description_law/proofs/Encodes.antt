@@ -1,5 +1,6 @@
 -- Every description in the domain has a record: the bytes `encoded` decode to it, are 424, and are bytes. A part's own
 -- bytes stand in the record at the part's place, which antt computes. Assumes nothing.
+use Rattle.std.specs.Prelude.{Option, Some, None, Ok}
 use mathlib.Core.Path.{◌≡◌, refl, ap}
 use mathlib.Core.Bool.{Bool, true, false, ◌&&◌, cond}
 use mathlib.Core.List.{List, [], ◌∷◌, ◌++◌}
@@ -24,14 +25,11 @@ use Rattle.slot.specs.declared.description.ChipSetType.{ChipSetType}
 use Rattle.slot.specs.declared.description.ChipSetType.TheVariants.{Single, Banked, Multi}
 use Rattle.slot.specs.declared.description.CsLogic.{CsLogic}
 use Rattle.slot.specs.declared.description.CsLogic.TheVariants.{ActiveLow, ActiveHigh, Ignore}
-use Rattle.slot.specs.declared.description.Setting.{Setting}
-use Rattle.slot.specs.declared.description.Setting.TheVariants.{NotGiven, Given}
 use Rattle.slot.specs.declared.description.CsConfig.{CsConfig}
 use Rattle.slot.specs.declared.description.CsConfig.TheVariants.{ChipSelect, CeOe, CeOeExplicit}
 use Rattle.slot.specs.declared.description.MultiCsConfig.{MultiCsConfig}
 use Rattle.slot.specs.declared.description.Description.{Description}
 use Rattle.domain.specs.Domain.{description_in}
-use Rattle.refusal.specs.declared.Answer.TheVariants.{Done}
 use Rattle.description_record.specs.Record.{record_size, package_of, set_type_of, offset_of, offset_in, logic_from, logic_in, setting_of, setting_in, cs_config_at, cs_config_in, multi_at, board_at, chip_at, described, head_in, pairs_in, well_formed, decoded_of}
 use Rattle.fields.specs.Candidates.{pair_at, pair_in, pair_bytes, pair_field}
 use Rattle.fields.specs.Fields.{four_at, field, four_bytes}
@@ -117,11 +115,11 @@ logic ActiveLow = record { back = refl; named = refl; below = lit< tt }
 logic ActiveHigh = record { back = refl; named = refl; below = lit< tt }
 logic Ignore = record { back = refl; named = refl; below = lit< tt }
 
-setting : (s : Setting) → Coded setting_of setting_in setting_byte s
-setting NotGiven = record { back = refl; named = refl; below = lit< tt }
-setting (Given ActiveLow) = record { back = refl; named = refl; below = lit< tt }
-setting (Given ActiveHigh) = record { back = refl; named = refl; below = lit< tt }
-setting (Given Ignore) = record { back = refl; named = refl; below = lit< tt }
+setting : (s : Option CsLogic) → Coded setting_of setting_in setting_byte s
+setting None = record { back = refl; named = refl; below = lit< tt }
+setting (Some ActiveLow) = record { back = refl; named = refl; below = lit< tt }
+setting (Some ActiveHigh) = record { back = refl; named = refl; below = lit< tt }
+setting (Some Ignore) = record { back = refl; named = refl; below = lit< tt }
 
 flag : (f : Bool) → Coded (λ x. eqb x 1) (λ x. leb x 1) (λ b. cond b 1 0) f
 flag true = record { back = refl; named = refl; below = lit< tt }
@@ -264,7 +262,7 @@ formed : (d : Description) → Encodable d → well_formed (encoded d) ≡ true
 unfolding well_formed cs_config_in encoded joined tab each
 formed d e = λ i. head_formed d e i && cs_config_in_lem d.cs_config i && pairs_formed d e.board i && true
 
-decodes : (d : Description) → Valued d → Encodable d → decoded_of (encoded d) ≡ record { answer = Done; description = d }
+decodes : (d : Description) → Valued d → Encodable d → decoded_of (encoded d) ≡ record { answer = Ok tt; description = d }
 decodes d v e = rw (formed d e, described-back d v e)
 
 -- the record is 424 bytes
@@ -306,7 +304,7 @@ encoded-bytes d v e = record { long = refl; each = below_at (encoded-below d v e
 
 -- every description in the domain has bytes that decode to it
 pub in_domain_decodes : (d : Description) → Valued d → description_in d ≡ true
-    → Bytes record_size (encoded d) × (decoded_of (encoded d) ≡ record { answer = Done; description = d })
+    → Bytes record_size (encoded d) × (decoded_of (encoded d) ≡ record { answer = Ok tt; description = d })
 in_domain_decodes d v h =
     let e = in_domain d h in
     (encoded-bytes d v e, decodes d v e)

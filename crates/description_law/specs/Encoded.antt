@@ -1,6 +1,6 @@
 -- The record of a description: the bytes of docs/INTERFACE.md in their order, and what its type says of a description.
 -- Assumes nothing.
-use Rattle.std.specs.Prelude.{◌≡◌, cond, List, [], ◌∷◌, ◌++◌, ℕ, ◌-◌, ◌^◌, ◌<◌, ℤ, pos, negsuc, length, get_or}
+use Rattle.std.specs.Prelude.{◌≡◌, cond, List, [], ◌∷◌, ◌++◌, ℕ, ◌-◌, ◌^◌, ◌<◌, ℤ, pos, negsuc, length, get_or, Option, Some, None}
 use Rattle.fields.specs.Fields.{field, four_bytes}
 use Rattle.fields.specs.Candidates.{pair_field}
 use Rattle.lists.specs.Tab.{joined}
@@ -15,8 +15,6 @@ use Rattle.slot.specs.declared.description.ChipSetType.{ChipSetType}
 use Rattle.slot.specs.declared.description.ChipSetType.TheVariants.{Single, Banked, Multi}
 use Rattle.slot.specs.declared.description.CsLogic.{CsLogic}
 use Rattle.slot.specs.declared.description.CsLogic.TheVariants.{ActiveLow, ActiveHigh, Ignore}
-use Rattle.slot.specs.declared.description.Setting.{Setting}
-use Rattle.slot.specs.declared.description.Setting.TheVariants.{NotGiven, Given}
 use Rattle.slot.specs.declared.description.CsConfig.{CsConfig}
 use Rattle.slot.specs.declared.description.CsConfig.TheVariants.{ChipSelect, CeOe, CeOeExplicit}
 use Rattle.slot.specs.declared.description.MultiCsConfig.{MultiCsConfig}
@@ -45,9 +43,9 @@ logic_byte ActiveHigh = 1
 logic_byte Ignore = 2
 
 -- "or 255 for not given"
-abbrev pub setting_byte : Setting → ℕ
-setting_byte NotGiven = 255
-setting_byte (Given l) = logic_byte l
+abbrev pub setting_byte : Option CsLogic → ℕ
+setting_byte None = 255
+setting_byte (Some l) = logic_byte l
 
 -- the form, and the settings of ce, oe, cs1, cs2, cs3, cs4
 abbrev pub cs_config_bytes : CsConfig → List ℕ

@@ -1,6 +1,5 @@
 -- Records and descriptions, each way: none is left out. Assumes nothing.
-use Rattle.std.specs.Prelude.{◌≡◌, true, List, ℕ, ◌^◌, ◌<◌, get_or}
-use Rattle.refusal.specs.declared.Answer.TheVariants.{Done}
+use Rattle.std.specs.Prelude.{◌≡◌, true, List, ℕ, ◌^◌, ◌<◌, get_or, Ok}
 use Rattle.slot.specs.declared.description.Description.{Description}
 use Rattle.domain.specs.Domain.{description_in}
 use Rattle.description_record.specs.Record.{record_size, described, decoded_of}
@@ -11,4 +10,4 @@ pub record RecordLaw : Type 0 where
   pub valued : (b : List ℕ) → ((k : ℕ) → get_or b k 0 < 2 ^ 8) → Valued (described b)
   -- 01 Shape 7: every description in the domain has bytes that decode to it
   pub decodes : (d : Description) → Valued d → description_in d ≡ true
-      → Bytes record_size (encoded d) × (decoded_of (encoded d) ≡ record { answer = Done; description = d })
+      → Bytes record_size (encoded d) × (decoded_of (encoded d) ≡ record { answer = Ok tt; description = d })

@@ -3,13 +3,9 @@ use mathlib.Core.Path.{◌≡◌}
 use mathlib.Core.List.{List}
 use Prim.Native.Nat.{ℕ, ◌+◌, ◌*◌, ◌≤◌, ◌<◌}
 use native.Mathlib.Omega.{arith}
-use Rattle.lists.specs.Tab.{tab}
 use Rattle.lists.proofs.Tab.{get_or-tab, tab_cong}
 use Rattle.fields.specs.Fields.{byte_at, bytes_at, four_at}
 use Rattle.fields.specs.Candidates.{pair_at}
-use Rattle.gpio.specs.declared.candidates.Pin.{Pin}
-use Rattle.slot.specs.declared.description.ControlLine.{ControlLine}
-use Rattle.slot.specs.declared.description.Chip.{Chip}
 use Rattle.description_record.specs.Record.{record_size, cs_config_at, multi_at, socket_at, board_at, control_line_at, control_lines_at, chip_at, chips_at, described}
 
 module _ (b : List ℕ) where

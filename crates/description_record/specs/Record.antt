@@ -1,6 +1,6 @@
 -- The description record of docs/INTERFACE.md: what its bytes describe, place by place, and which records are refused.
 -- Assumes nothing.
-use Rattle.std.specs.Prelude.{ℕ, ◌+◌, ◌*◌, ◌-◌, Bool, ◌&&◌, ◌||◌, cond, List, leb, eqb, ℤ, pos, negsuc, length}
+use Rattle.std.specs.Prelude.{ℕ, ◌+◌, ◌*◌, ◌-◌, Bool, ◌&&◌, ◌||◌, cond, List, leb, eqb, ℤ, pos, negsuc, length, Option, Some, None, Ok, Err}
 use Rattle.fields.specs.Fields.{byte_at, bytes_at, four_at}
 use Rattle.fields.specs.Candidates.{pair_at, pair_in}
 use Rattle.lists.specs.Each.{each}
@@ -16,14 +16,11 @@ use Rattle.slot.specs.declared.description.ChipSetType.{ChipSetType}
 use Rattle.slot.specs.declared.description.ChipSetType.TheVariants.{Single, Banked, Multi}
 use Rattle.slot.specs.declared.description.CsLogic.{CsLogic}
 use Rattle.slot.specs.declared.description.CsLogic.TheVariants.{ActiveLow, ActiveHigh, Ignore}
-use Rattle.slot.specs.declared.description.Setting.{Setting}
-use Rattle.slot.specs.declared.description.Setting.TheVariants.{NotGiven, Given}
 use Rattle.slot.specs.declared.description.CsConfig.{CsConfig}
 use Rattle.slot.specs.declared.description.CsConfig.TheVariants.{ChipSelect, CeOe, CeOeExplicit}
 use Rattle.slot.specs.declared.description.MultiCsConfig.{MultiCsConfig}
 use Rattle.slot.specs.declared.description.Description.{Description}
 use Rattle.refusal.specs.declared.Refusal.TheVariants.{OutOfDomain}
-use Rattle.refusal.specs.declared.Answer.TheVariants.{Done, Refused}
 use Rattle.description_record.specs.declared.Decoded.{Decoded}
 
 -- "424 bytes"
@@ -51,8 +48,8 @@ abbrev pub logic_from : ℕ → CsLogic
 logic_from x = cond (eqb x 0) ActiveLow (cond (eqb x 1) ActiveHigh Ignore)
 
 -- "or 255 for not given"
-abbrev pub setting_of : ℕ → Setting
-setting_of x = cond (eqb x 255) NotGiven (Given (logic_from x))
+abbrev pub setting_of : ℕ → Option CsLogic
+setting_of x = cond (eqb x 255) None (Some (logic_from x))
 
 abbrev pub logic_in : ℕ → Bool
 logic_in x = leb x 2
@@ -172,6 +169,6 @@ well_formed b = eqb (length b) record_size && head_in b && cs_config_in b && pai
 -- 01 Number 1: bytes that are not well formed are refused
 abbrev pub decoded_of : List ℕ → Decoded
 decoded_of b = record {
-  answer = cond (well_formed b) Done (Refused OutOfDomain);
+  answer = cond (well_formed b) (Ok tt) (Err OutOfDomain);
   description = described b;
 }

@@ -8,14 +8,16 @@ ghost use Rattle.std.specs.Prelude.{◌≡◌, true};
 ghost use Rattle.fields.specs.Fields.{bytes_at};
 ghost use Rattle.description_record.specs.Record.{record_size, described, well_formed, decoded_of};
 
+use crate::shape::SIZE;
 use fields::fill;
-use refusal::{Answer, Refusal};
+use refusal::Refusal;
 use slot::description::Description;
 
-// The answer, and what the record describes; of a refused record, what is left of it to read.
+// The answer, and what the record describes; of a refused record, what is left of it to read. No Result, since `decode` promises that
+// too (`decoded_of`).
 #[derive(Clone, Copy)]
 pub struct Decoded {
-    pub answer: Answer,
+    pub answer: Result<(), Refusal>,
     pub description: Description,
 }
 
@@ -31,14 +33,14 @@ pub fn description_at(b: &[u8]) -> Description
     requires { well_formed b.now ≡ true }
     ensures { result ≡ described b.now }
 {
-    parts::description(b)
+    parts::description(<&[u8; SIZE]>::try_from(b).unwrap())
 }
 
 // As many bytes as a record has: 0 past the end.
-fn padded(b: &[u8]) -> [u8; 424]
+fn padded(b: &[u8]) -> [u8; SIZE]
     ensures { result ≡ bytes_at b.now 0 record_size }
 {
-    let mut out = [0u8; 424];
+    let mut out = [0u8; SIZE];
     fill(b, 0, &mut out);
     out
 }
@@ -50,14 +52,14 @@ pub fn decode(b: &[u8]) -> Decoded
     if formed(b) {
         let description = description_at(b);
         return Decoded {
-            answer: Answer::Done,
+            answer: Ok(()),
             description,
         };
     }
     let record = padded(b);
     let description = parts::description(&record);
     Decoded {
-        answer: Answer::Refused(Refusal::OutOfDomain),
+        answer: Err(Refusal::OutOfDomain),
         description,
     }
 }

@@ -2,12 +2,13 @@
 ghost use Rattle.std.specs.Prelude.{◌≡◌, ◌+◌, ◌≤◌, length};
 ghost use Rattle.description_record.specs.Record.{record_size, package_of, set_type_of, offset_of, logic_from, setting_of, cs_config_at, multi_at, socket_at, board_at, control_line_at, control_lines_at, control_at, chip_at, chips_at, described};
 
+use crate::shape::SIZE;
 use fields::whole;
 use fields::whole::{entry, pair_at};
 use gpio::candidates::{Candidates, Pin};
 use slot::description::{
     Board, Chip, ChipSetType, ControlLine, ControlLines, CsConfig, CsLogic, Description,
-    MultiCsConfig, Package, Setting,
+    MultiCsConfig, Package,
 };
 
 fn package_of(x: u8) -> Package
@@ -55,17 +56,16 @@ fn logic(x: u8) -> CsLogic
     CsLogic::Ignore
 }
 
-fn setting(x: u8) -> Setting
+fn setting(x: u8) -> Option<CsLogic>
     ensures { result ≡ setting_of x }
 {
     if x == 255 {
-        return Setting::NotGiven;
+        return None;
     }
-    Setting::Given(logic(x))
+    Some(logic(x))
 }
 
-fn cs_config(b: &[u8]) -> CsConfig
-    requires { record_size ≤ length b.now }
+fn cs_config(b: &[u8; SIZE]) -> CsConfig
     ensures { result ≡ cs_config_at b.now }
 {
     let form = entry(b, 16);
@@ -86,38 +86,33 @@ fn cs_config(b: &[u8]) -> CsConfig
     }
 }
 
-fn multi(b: &[u8]) -> MultiCsConfig
-    requires { record_size ≤ length b.now }
+fn multi(b: &[u8; SIZE]) -> MultiCsConfig
     ensures { result ≡ multi_at b.now }
 {
     MultiCsConfig {
         select: entry(b, 23),
-        commoned: whole::eight_at(b, 28),
+        commoned: whole::bytes_at(b, 28),
         num_commoned: entry(b, 24),
-        ignored: whole::eight_at(b, 36),
+        ignored: whole::bytes_at(b, 36),
         num_ignored: entry(b, 25),
     }
 }
 
-fn socket(b: &[u8]) -> [Pin; 40]
-    requires { record_size ≤ length b.now }
+fn socket(b: &[u8; SIZE]) -> [Pin; 40]
     ensures { result ≡ socket_at b.now }
 {
     let absent = Candidates::Absent;
     let pin = Pin { gpios: absent };
     let mut out = [pin; 40];
-    let mut k: usize = 0;
-    while k < 40 {
+    for k in 0..40 {
         out[k] = Pin {
             gpios: pair_at(b, 52 + 2 * k),
         };
-        k += 1;
     }
     out
 }
 
-fn board(b: &[u8]) -> Board
-    requires { record_size ≤ length b.now }
+fn board(b: &[u8; SIZE]) -> Board
     ensures { result ≡ board_at b.now }
 {
     Board {
@@ -143,10 +138,8 @@ fn lines(b: &[u8], p: usize) -> [ControlLine; 8]
     ensures { result ≡ control_lines_at b.now p }
 {
     let mut out = [ControlLine { kind: 0, pin: 0 }; 8];
-    let mut k: usize = 0;
-    while k < 8 {
+    for k in 0..8 {
         out[k] = line(b, p + 48 + 3 * k);
-        k += 1;
     }
     out
 }
@@ -166,9 +159,9 @@ fn chip(b: &[u8], p: usize) -> Chip
     ensures { result ≡ chip_at b.now p }
 {
     Chip {
-        address_pins: whole::twenty_four_at(b, p + 8),
+        address_pins: whole::bytes_at(b, p + 8),
         num_address_pins: entry(b, p + 4),
-        data_pins: whole::sixteen_at(b, p + 32),
+        data_pins: whole::bytes_at(b, p + 32),
         num_data_pins: entry(b, p + 5),
         control: control_lines(b, p),
         size: whole::four_at(b, p),
@@ -176,16 +169,14 @@ fn chip(b: &[u8], p: usize) -> Chip
 }
 
 // Chips 0 to 3, 72 bytes a chip.
-fn chips(b: &[u8]) -> [Chip; 4]
-    requires { record_size ≤ length b.now }
+fn chips(b: &[u8; SIZE]) -> [Chip; 4]
     ensures { result ≡ chips_at b.now }
 {
     [chip(b, 136), chip(b, 208), chip(b, 280), chip(b, 352)]
 }
 
 // What the record describes.
-pub fn description(b: &[u8]) -> Description
-    requires { record_size ≤ length b.now }
+pub fn description(b: &[u8; SIZE]) -> Description
     ensures { result ≡ described b.now }
 {
     Description {
@@ -200,7 +191,7 @@ pub fn description(b: &[u8]) -> Description
         cs_config: cs_config(b),
         has_multi: entry(b, 7) == 1,
         multi: multi(b),
-        qualifiers: whole::eight_at(b, 44),
+        qualifiers: whole::bytes_at(b, 44),
         num_qualifiers: entry(b, 6),
     }
 }

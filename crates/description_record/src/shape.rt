@@ -6,7 +6,7 @@ use fields::whole;
 use fields::whole::{entry, pair_in};
 
 // Bytes of a record.
-const SIZE: usize = 424;
+pub(crate) const SIZE: usize = 424;
 
 fn offset_in(x: u8) -> bool
     ensures { result ≡ offset_in x }
@@ -26,8 +26,7 @@ fn setting_in(x: u8) -> bool
     (x <= 2) | (x == 255)
 }
 
-fn head_in(b: &[u8]) -> bool
-    requires { record_size ≤ length b.now }
+fn head_in(b: &[u8; SIZE]) -> bool
     ensures { result ≡ head_in b.now }
 {
     let package = entry(b, 1);
@@ -47,8 +46,7 @@ fn head_in(b: &[u8]) -> bool
 }
 
 // The form is one of three; the settings that it does not use are 255.
-fn cs_config_in(b: &[u8]) -> bool
-    requires { record_size ≤ length b.now }
+fn cs_config_in(b: &[u8; SIZE]) -> bool
     ensures { result ≡ cs_config_in b.now }
 {
     let form = entry(b, 16);
@@ -69,15 +67,12 @@ fn cs_config_in(b: &[u8]) -> bool
     (form == 2) & logic_in(ce) & logic_in(oe) & no_selects
 }
 
-fn pairs_in(b: &[u8]) -> bool
-    requires { record_size ≤ length b.now }
+fn pairs_in(b: &[u8; SIZE]) -> bool
     ensures { result ≡ pairs_in b.now }
 {
     let mut ok = true;
-    let mut k: usize = 0;
-    while k < 42 {
+    for k in 0..42 {
         ok = ok & pair_in(b, 52 + 2 * k);
-        k += 1;
     }
     ok
 }
@@ -87,10 +82,8 @@ fn levels_in(b: &[u8], p: usize) -> bool
     ensures { result ≡ levels_in b.now p }
 {
     let mut ok = true;
-    let mut k: usize = 0;
-    while k < 8 {
+    for k in 0..8 {
         ok = ok & (entry(b, p + 50 + 3 * k) == 0);
-        k += 1;
     }
     ok
 }
@@ -102,15 +95,12 @@ fn chip_zeros(b: &[u8], p: usize) -> bool
     (entry(b, p + 7) == 0) & levels_in(b, p)
 }
 
-fn chips_in(b: &[u8]) -> bool
-    requires { record_size ≤ length b.now }
+fn chips_in(b: &[u8; SIZE]) -> bool
     ensures { result ≡ chip_places_in b.now }
 {
     let mut ok = true;
-    let mut k: usize = 0;
-    while k < 4 {
+    for k in 0..4 {
         ok = ok & chip_zeros(b, 136 + 72 * k);
-        k += 1;
     }
     ok
 }
@@ -119,8 +109,8 @@ fn chips_in(b: &[u8]) -> bool
 pub fn well_formed(b: &[u8]) -> bool
     ensures { result ≡ well_formed b.now }
 {
-    if b.len() != SIZE {
-        return false;
+    match <&[u8; SIZE]>::try_from(b) {
+        Ok(record) => head_in(record) & cs_config_in(record) & pairs_in(record) & chips_in(record),
+        Err(_) => false,
     }
-    head_in(b) & cs_config_in(b) & pairs_in(b) & chips_in(b)
 }

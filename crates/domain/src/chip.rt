@@ -33,10 +33,8 @@ fn kind_new(c: ControlLines, k: usize) -> bool
 {
     let kind = kind_at(c, k);
     let mut ok = true;
-    let mut j: usize = 0;
-    while j < k {
+    for j in 0..k {
         ok = ok & (kind_at(c, j) != kind);
-        j += 1;
     }
     ok
 }
@@ -56,10 +54,8 @@ fn lines_in(c: ControlLines) -> bool
 {
     let n = c.count as usize;
     let mut ok = true;
-    let mut k: usize = 0;
-    while k < n {
+    for k in 0..n {
         ok = ok & line_in(c, k);
-        k += 1;
     }
     ok
 }

@@ -14,12 +14,10 @@ fn socket_in(b: Board) -> bool
 {
     let socket = b.socket;
     let mut ok = true;
-    let mut k: usize = 0;
-    while k < 40 {
+    for k in 0..40 {
         let pin = socket[k];
         let gpios = pin.gpios;
         ok = ok & gpios.in_domain();
-        k += 1;
     }
     ok
 }
@@ -49,11 +47,9 @@ fn chips_in(chips: [Chip; 4], count: u8, word_bytes: u8) -> bool
 {
     let n = count as usize;
     let mut ok = true;
-    let mut k: usize = 0;
-    while k < 4 {
+    for k in 0..4 {
         let chip = chips[k];
         ok = ok & ((n <= k) | chip_in(chip, word_bytes));
-        k += 1;
     }
     ok
 }
@@ -66,12 +62,10 @@ fn no_candidate_above(b: Board, last: u8) -> bool
     let x1 = b.x1;
     let x2 = b.x2;
     let mut ok = true;
-    let mut k: usize = 0;
-    while k < 40 {
+    for k in 0..40 {
         let pin = socket[k];
         let gpios = pin.gpios;
         ok = ok & gpios.none_above(last);
-        k += 1;
     }
     ok & x1.none_above(last) & x2.none_above(last)
 }

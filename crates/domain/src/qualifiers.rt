@@ -20,11 +20,9 @@ fn near(qualifiers: [u8; 8], count: u8, gpios: [u8; 24], k: usize) -> bool
     let n = count as usize;
     let high = qualifier_gpio(qualifiers, gpios, k) as u16;
     let mut ok = true;
-    let mut j: usize = 0;
-    while j < n {
+    for j in 0..n {
         let low = qualifier_gpio(qualifiers, gpios, j) as u16;
         ok = ok & (high <= low + 7);
-        j += 1;
     }
     ok
 }
@@ -34,11 +32,9 @@ fn each_in(qualifiers: [u8; 8], count: u8, gpios: [u8; 24], lines: u8) -> bool
 {
     let n = count as usize;
     let mut ok = true;
-    let mut k: usize = 0;
-    while k < n {
+    for k in 0..n {
         let line = entry(&qualifiers, k);
         ok = ok & ((line < lines) & near(qualifiers, count, gpios, k));
-        k += 1;
     }
     ok
 }

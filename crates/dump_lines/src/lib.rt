@@ -26,10 +26,8 @@ fn turned(map: Map) -> Map
 {
     let positions = map.positions;
     let mut out = [0u8; 32];
-    let mut k: usize = 0;
-    while k < 32 {
+    for k in 0..32 {
         out[k] = positions[other_byte(k)];
-        k += 1;
     }
     Map {
         positions: out,

@@ -1,4 +1,5 @@
 -- A loop that takes the entries in turn: what the buffers hold of those passed, against what stood there at first. Assumes nothing.
+use Rattle.std.specs.Prelude.{Ok, Err}
 use mathlib.Core.Path.{◌≡◌, refl, sym, ◌∙◌, ap}
 use mathlib.Core.Bool.{true, false}
 use mathlib.Core.List.{List, ◌++◌}
@@ -13,7 +14,6 @@ use Rattle.entry_rows.specs.Design.Walks.{walked_of}
 use Rattle.entry_words.specs.declared.Reading.{Reading}
 use Rattle.entry_words.specs.Design.Lent.{Room}
 use Rattle.entry_rows.specs.Design.Held.{Held, Read}
-use Rattle.entry_rows.specs.declared.Walked.TheVariants.{Through, Disagrees}
 use Rattle.entry_words.proofs.Cong.{output-length, marks-length}
 use Rattle.entry_rows.proofs.Step.{step_skip, step_keep, step_bad}
 
@@ -31,7 +31,7 @@ pub record Entry (w words : ℕ) (t v : ℕ → ℕ) (output₀ marks₀ : List 
 behind : (n : ℕ) (front old new : List ℕ) → length front ≡ n → new ≡ front ++ drop n old → drop n new ≡ drop n old
 behind n front old new l e = ap (λ (x : List ℕ). drop n x) e ∙ drop_at front (drop n old) n l
 
-pub never : (f : ℕ) → Disagrees f ≡ Through → ⊥
+pub never : (f : ℕ) → Err f ≡ Ok (tt {0}) → ⊥
 never f e = zero_one cc
 
 -- buffers as long as those with room have room
@@ -59,7 +59,7 @@ module _ {w words : ℕ} {t v : ℕ → ℕ} {output₀ marks₀ : List ℕ} {m 
 
     -- one entry more
     held_next : (n : ℕ) (output' marks' : List ℕ) → n ≡ suc m → length output' ≡ length output → length marks' ≡ length marks
-        → (walked_of t v words (suc m) ≡ Through) × (output' ≡ output_held w t v words (suc m) output) × (marks' ≡ marks_held t words (suc m) marks)
+        → (walked_of t v words (suc m) ≡ Ok tt) × (output' ≡ output_held w t v words (suc m) output) × (marks' ≡ marks_held t words (suc m) marks)
         → Held w words t v output₀ marks₀ n output' marks'
     held_next n output' marks' e l k s =
         rw e
@@ -76,7 +76,7 @@ module _ {w words : ℕ} {t v : ℕ → ℕ} {output₀ marks₀ : List ℕ} {m 
     held_skip n f e g l = held_next n output marks e refl refl (step_skip w words m t v output marks (rw g at l) h.through own marks-own)
 
     -- the end
-    pub held-done : (n : ℕ) → m ≡ n → Read w words t v n output₀ marks₀ Through output marks
+    pub held-done : (n : ℕ) → m ≡ n → Read w words t v n output₀ marks₀ (Ok tt) output marks
     held-done n e = record {
       answer = sym (rw e at h.through);
       rest = rest;
@@ -106,11 +106,11 @@ module _ {w words : ℕ} {t v : ℕ → ℕ} {output₀ marks₀ : List ℕ} {m 
         held_next h.held n output' marks' e p q
         (step_keep w words m t v output marks output' marks' below h.few room marks-room h.held.through (own h.held) (marks-own h.held) (rw (h.for, h.says) at k))
 
-    pub held_bad : (n : ℕ) → m < n → kept false output' marks' ≡ keep_word w f x output marks → Read w words t v n output₀ marks₀ (Disagrees f) output' marks'
+    pub held_bad : (n : ℕ) → m < n → kept false output' marks' ≡ keep_word w f x output marks → Read w words t v n output₀ marks₀ (Err f) output' marks'
     held_bad n b k =
         let s = step_bad w words m t v output marks output' marks' below h.few room marks-room h.held.through (own h.held) (marks-own h.held) (rw (h.for, h.says) at k) n b in
         record {
-          answer = ap Disagrees h.for ∙ sym s.0;
+          answer = ap Err h.for ∙ sym s.0;
           rest = s.1 ∙ rest h.held;
           marks-rest = s.2 ∙ marks-rest h.held;
           values = λ e. absurd (never f e);

@@ -1,4 +1,5 @@
 -- One entry more: how far the entries are read, and what the buffers then hold. Assumes nothing.
+use Rattle.std.specs.Prelude.{Ok, Err}
 use mathlib.Core.Path.{◌≡◌, refl, sym, ◌∙◌, ap}
 use mathlib.Core.Bool.{Bool, true, false, cond}
 use mathlib.Core.List.{List, ◌∷◌, ◌++◌}
@@ -15,7 +16,6 @@ use Rattle.entry_words.specs.Design.Kept.{first_at, told, mark_after, value_afte
 use Rattle.lent_buffers.specs.Design.Buffers.{Kept, kept, keep_word}
 use Rattle.entry_words.specs.Design.Collected.{output_held, marks_held}
 use Rattle.entry_rows.specs.Design.Walks.{walked_of}
-use Rattle.entry_rows.specs.declared.Walked.TheVariants.{Through, Disagrees}
 use Rattle.lists.proofs.First.{first_more, first_one, first-before, first-within, never_both}
 use Rattle.lists.proofs.Loops.{zero_one}
 use Rattle.entry_rows.proofs.Put.{words_put, marks_put}
@@ -39,20 +39,20 @@ module _ (t v : ℕ → ℕ) (m : ℕ) where
   value_new e = value_more (t m) ∙ rw (e, eq-eqb (t m) (t m) refl)
 
 -- of how far the entries are read
-module _ (t v : ℕ → ℕ) (words m : ℕ) (through : walked_of t v words m ≡ Through) where
-  all_read : (x : ℕ) (b : Bool) → ltb x m ≡ b → x ≤ m → cond b (Disagrees (t x)) Through ≡ Through → x ≡ m
+module _ (t v : ℕ → ℕ) (words m : ℕ) (through : walked_of t v words m ≡ Ok tt) where
+  all_read : (x : ℕ) (b : Bool) → ltb x m ≡ b → x ≤ m → cond b (Err (t x)) (Ok (tt {0})) ≡ Ok (tt {0}) → x ≡ m
   all_read x true e l h = absurd (zero_one cc)
   all_read x false e l h = let g = ltb-false x m e in omega arith
 
   none_bad : first_bad t v words m ≡ m
   none_bad = let x = first_bad t v words m in all_read x (ltb x m) refl (first-within (disagrees t v words) m) through
 
-  pub through_more : disagrees t v words m ≡ false → walked_of t v words (suc m) ≡ Through
+  pub through_more : disagrees t v words m ≡ false → walked_of t v words (suc m) ≡ Ok tt
   through_more e =
-      first_more (λ i. Disagrees (t i)) Through (disagrees t v words) m
+      first_more (λ i. Err (t i)) (Ok tt) (disagrees t v words) m
       ∙ rw (none_bad, le-ltb m m (omega arith), e)
 
-  pub bad_here : disagrees t v words m ≡ true → (n : ℕ) → m < n → walked_of t v words n ≡ Disagrees (t m)
+  pub bad_here : disagrees t v words m ≡ true → (n : ℕ) → m < n → walked_of t v words n ≡ Err (t m)
   bad_here e n l =
       let here : first_bad t v words n ≡ m =
       first_one (disagrees t v words) n m (record {
@@ -70,9 +70,9 @@ module _ (t v : ℕ → ℕ) (words m : ℕ) (nothing : (f : ℕ) → f < words 
   marks-same : marks_after t words (suc m) ≡ marks_after t words m
   marks-same = tab_cong _ _ words (λ f l. value_same t (λ i. 1) m f (nothing f l))
 
-pub step_skip : (w words m : ℕ) (t v : ℕ → ℕ) (output marks : List ℕ) → words ≤ t m → walked_of t v words m ≡ Through
+pub step_skip : (w words m : ℕ) (t v : ℕ → ℕ) (output marks : List ℕ) → words ≤ t m → walked_of t v words m ≡ Ok tt
     → output ≡ output_held w t v words m output → marks ≡ marks_held t words m marks
-    → (walked_of t v words (suc m) ≡ Through) × (output ≡ output_held w t v words (suc m) output) × (marks ≡ marks_held t words (suc m) marks)
+    → (walked_of t v words (suc m) ≡ Ok tt) × (output ≡ output_held w t v words (suc m) output) × (marks ≡ marks_held t words (suc m) marks)
 step_skip w words m t v output marks l through o k =
     let nothing : (f : ℕ) → f < words → t m ≡ f → told t f m ≡ true = λ f h e. absurd (omega arith) in (
       through_more t v words m through (rw (le-ltb (t m) words l)),
@@ -141,9 +141,9 @@ module _ (w words m : ℕ) (t v : ℕ → ℕ) (output marks : List ℕ) (inside
     agrees_new : disagrees t v words m ≡ false
     agrees_new = rw (lt-ltb (t m) words inside, none)
 
-  module _ (through : walked_of t v words m ≡ Through) (output' marks' : List ℕ) where
+  module _ (through : walked_of t v words m ≡ Ok tt) (output' marks' : List ℕ) where
     keep_case : (b : Bool) → told t (t m) m ≡ b → kept true output' marks' ≡ keep_word w (t m) (v m) output marks
-        → (walked_of t v words (suc m) ≡ Through) × (output' ≡ output_held w t v words (suc m) output) × (marks' ≡ marks_held t words (suc m) marks)
+        → (walked_of t v words (suc m) ≡ Ok tt) × (output' ≡ output_held w t v words (suc m) output) × (marks' ≡ marks_held t words (suc m) marks)
     keep_case true has e =
         let s = e ∙ kept-told has in (
           through_more t v words m through (agrees has (sym (ap (λ (x : Kept Bool). x.answer) s))),
@@ -158,7 +158,7 @@ module _ (w words m : ℕ) (t v : ℕ → ℕ) (output marks : List ℕ) (inside
         )
 
     bad_case : (b : Bool) → told t (t m) m ≡ b → kept false output' marks' ≡ keep_word w (t m) (v m) output marks → (n : ℕ) → m < n
-        → (walked_of t v words n ≡ Disagrees (t m)) × (drop (words * w) output' ≡ drop (words * w) output) × (drop words marks' ≡ drop words marks)
+        → (walked_of t v words n ≡ Err (t m)) × (drop (words * w) output' ≡ drop (words * w) output) × (drop words marks' ≡ drop words marks)
     bad_case true has e n l =
         let s = e ∙ kept-told has in (
           bad_here t v words m through (differs has (sym (ap (λ (x : Kept Bool). x.answer) s))) n l,
@@ -168,17 +168,17 @@ module _ (w words m : ℕ) (t v : ℕ → ℕ) (output marks : List ℕ) (inside
     bad_case false none e n l = absurd (never_both true refl (sym (ap (λ (x : Kept Bool). x.answer) (e ∙ kept_new none))))
 
 pub step_keep : (w words m : ℕ) (t v : ℕ → ℕ) (output marks output' marks' : List ℕ) → t m < words → ((i : ℕ) → v i < 2 ^ (8 * w))
-    → words * w ≤ length output → words ≤ length marks → walked_of t v words m ≡ Through
+    → words * w ≤ length output → words ≤ length marks → walked_of t v words m ≡ Ok tt
     → output ≡ output_held w t v words m output → marks ≡ marks_held t words m marks
     → kept true output' marks' ≡ keep_word w (t m) (v m) output marks
-    → (walked_of t v words (suc m) ≡ Through) × (output' ≡ output_held w t v words (suc m) output) × (marks' ≡ marks_held t words (suc m) marks)
+    → (walked_of t v words (suc m) ≡ Ok tt) × (output' ≡ output_held w t v words (suc m) output) × (marks' ≡ marks_held t words (suc m) marks)
 step_keep w words m t v output marks output' marks' inside small _ _ through o k =
     keep_case w words m t v output marks inside small o k through output' marks' (told t (t m) m) refl
 
 pub step_bad : (w words m : ℕ) (t v : ℕ → ℕ) (output marks output' marks' : List ℕ) → t m < words → ((i : ℕ) → v i < 2 ^ (8 * w))
-    → words * w ≤ length output → words ≤ length marks → walked_of t v words m ≡ Through
+    → words * w ≤ length output → words ≤ length marks → walked_of t v words m ≡ Ok tt
     → output ≡ output_held w t v words m output → marks ≡ marks_held t words m marks
     → kept false output' marks' ≡ keep_word w (t m) (v m) output marks → (n : ℕ) → m < n
-    → (walked_of t v words n ≡ Disagrees (t m)) × (drop (words * w) output' ≡ drop (words * w) output) × (drop words marks' ≡ drop words marks)
+    → (walked_of t v words n ≡ Err (t m)) × (drop (words * w) output' ≡ drop (words * w) output) × (drop words marks' ≡ drop words marks)
 step_bad w words m t v output marks output' marks' inside small _ _ through o k =
     bad_case w words m t v output marks inside small o k through output' marks' (told t (t m) m) refl

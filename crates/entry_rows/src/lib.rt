@@ -20,14 +20,6 @@ pub struct Row {
     pub count: u32,
 }
 
-// Whether a row is read to its end, or stops at a word.
-#[derive(Clone, Copy)]
-pub enum Walked {
-    Through,
-    // The word that an entry says another value of than the one kept.
-    Disagrees(u32),
-}
-
 // What an entry says of a word of a ROM, by the tables of its bytes.
 fn said(low_bytes: &[u32], high_bytes: &[u32], rom: u8, entry: u32) -> u32
     requires rom_bound { (rom < 5) × (entry < 2 ^ 16) × (length low_bytes.now ≡ 1280) × (length high_bytes.now ≡ 1280) }
@@ -51,7 +43,7 @@ pub fn read_row(
     stored: &[u8],
     output: &mut [u8],
     marks: &mut [u8],
-) -> Walked
+) -> Result<(), u32>
     requires { OnwardRow r row lows.now low_bytes.now high_bytes.now stored.now output.old marks.old }
     ensures { ReadBy r stored.now (row.start + row.count)
         output.old marks.old result output.new marks.new }
@@ -60,8 +52,7 @@ pub fn read_row(
     let roms = r.roms;
     let extents = r.extents;
     let high = row.high;
-    let mut low: u32 = 0;
-    while low < row.count {
+    for low in 0..row.count {
         let i = row.start + low;
         let rom = roms[(lows[1024 + low as usize] + high[4]) as usize];
         let address = lows[rom as usize * 256 + low as usize] + high[rom as usize];
@@ -70,10 +61,9 @@ pub fn read_row(
         if f < r.words {
             let entry = word_at(stored, i as usize * w, w);
             if !keep(output, marks, w, f, said(low_bytes, high_bytes, rom, entry)) {
-                return Walked::Disagrees(f);
+                return Err(f);
             }
         }
-        low += 1;
     }
-    Walked::Through
+    Ok(())
 }

@@ -1,4 +1,5 @@
 -- Cleared buffers hold what no entry tells. Assumes nothing.
+use Rattle.std.specs.Prelude.{Ok}
 use mathlib.Core.Path.{◌≡◌, refl, ◌∙◌}
 use mathlib.Core.List.{List, ◌++◌}
 use Prim.Native.Nat.{ℕ, zero, suc, ◌*◌}
@@ -10,7 +11,6 @@ use Rattle.words.specs.Words.{bytes_of, words_bytes}
 use Rattle.lists.specs.First.{first_where}
 use Rattle.entry_words.specs.Design.Collected.{output_held, marks_held}
 use Rattle.entry_rows.specs.Design.Walks.{walked_of}
-use Rattle.entry_rows.specs.declared.Walked.TheVariants.{Through}
 use Rattle.entry_rows.specs.Design.Held.{Held}
 
 bytes-zero : (w : ℕ) → bytes_of w 0 ≡ replicate w 0
@@ -33,7 +33,7 @@ module _ (w words : ℕ) (t v : ℕ → ℕ) (output marks : List ℕ) where
   marks-none =
       rw (tab_is (λ f. 0) (replicate words 0) 0 words (length-replicate {A = ℕ} words 0) (λ f l. rw (get_or-replicate {A = ℕ} words f 0 0 l)))
 
-  none_read : walked_of t v words 0 ≡ Through
+  none_read : walked_of t v words 0 ≡ Ok tt
   unfolding first_where
   none_read = refl
 

@@ -1,4 +1,5 @@
 -- All entries: what the walk over them and the marks come to. Assumes nothing.
+use Rattle.std.specs.Prelude.{Result, Ok, Err}
 use mathlib.Core.Path.{◌≡◌, refl, sym, ◌∙◌, ap}
 use mathlib.Core.Bool.{Bool, true, false, cond, not}
 use mathlib.Core.List.{List, ◌++◌}
@@ -12,19 +13,18 @@ use Rattle.entry_words.specs.Design.Collected.{output_held, marks_held, held_by,
 use Rattle.marked_words.specs.Design.Served.{served_by}
 use Rattle.entry_words.specs.declared.Outcome.{Outcome}
 use Rattle.entry_words.specs.declared.Outcome.TheVariants.{Whole, Disagrees, Missing}
-use Rattle.entry_rows.specs.declared.Walked as walked
 use Rattle.lists.proofs.First.{first_cong}
 use Rattle.entry_rows.proofs.Step.{mark-at}
 use Rattle.entry_rows.specs.Design.Held.{Held, Read}
 use Rattle.entry_rows.proofs.RowRead.{row-rest, row_marks_rest, row-through}
 
 -- what the walk comes to is in the outcome
-bad_case : (b : Bool) (x f : ℕ) (o : Outcome) → cond b (walked.TheVariants.Disagrees x) walked.TheVariants.Through ≡ walked.TheVariants.Disagrees f
+bad_case : (b : Bool) (x f : ℕ) (o : Outcome) → cond b (Err x) (Ok (tt {0})) ≡ Err f
     → cond b (Disagrees x) o ≡ Disagrees f
 bad_case true x f o e = let q : x ≡ f = cc in ap Disagrees q
 bad_case false x f o e = cc
 
-through-case : (b : Bool) (x : ℕ) (o : Outcome) → cond b (walked.TheVariants.Disagrees x) walked.TheVariants.Through ≡ walked.TheVariants.Through
+through-case : (b : Bool) (x : ℕ) (o : Outcome) → cond b (Err x) (Ok (tt {0})) ≡ Ok tt
     → cond b (Disagrees x) o ≡ o
 through-case true x o e = cc
 through-case false x o e = refl
@@ -47,15 +47,15 @@ module _ (w : ℕ) (t v : ℕ → ℕ) (words n : ℕ) (output marks : List ℕ)
   served_case false g o k p q c d = rw (p, q)
 
   -- the buffers as they are cleared, and as the walk leaves them
-  module _ {o₁ k₁ : List ℕ} {x : walked.Walked} {o₂ k₂ : List ℕ} (h : Held w words t v output marks 0 o₁ k₁) (s : Read w words t v n o₁ k₁ x o₂ k₂) where
-    pub collected_bad : (f : ℕ) (o₃ k₃ : List ℕ) → x ≡ walked.TheVariants.Disagrees f → o₃ ≡ replicate (words * w) 0 ++ drop (words * w) o₂
+  module _ {o₁ k₁ : List ℕ} {x : Result (Unit {0}) ℕ} {o₂ k₂ : List ℕ} (h : Held w words t v output marks 0 o₁ k₁) (s : Read w words t v n o₁ k₁ x o₂ k₂) where
+    pub collected_bad : (f : ℕ) (o₃ k₃ : List ℕ) → x ≡ Err f → o₃ ≡ replicate (words * w) 0 ++ drop (words * w) o₂
         → k₃ ≡ replicate words 0 ++ drop words k₂ → kept (Disagrees f) o₃ k₃ ≡ collected_of w t v words n output marks
     unfolding collected_of outcome_of
     collected_bad f o₃ k₃ e p q =
         let b = bad_case (ltb (first_bad t v words n) n) (t (first_bad t v words n)) f _ (sym s.answer ∙ e) in
         rw (p, q, row-rest n h s, row_marks_rest n h s) (sym (ap (held_by w t v words n output marks) b))
 
-    pub collected_served : (y : Outcome) (o₃ k₃ : List ℕ) → x ≡ walked.TheVariants.Through → length o₂ ≡ length o₁ → length k₂ ≡ length k₁
+    pub collected_served : (y : Outcome) (o₃ k₃ : List ℕ) → x ≡ Ok tt → length o₂ ≡ length o₁ → length k₂ ≡ length k₁
         → kept y o₃ k₃ ≡ served_by w words o₂ k₂ (first_where words (λ f. eqb (get_or k₂ f 0) 0)) → kept y o₃ k₃ ≡ collected_of w t v words n output marks
     unfolding collected_of outcome_of
     collected_served y o₃ k₃ e l m r =

@@ -11,7 +11,6 @@ ghost use Rattle.entry_words.specs.Design.Collected.{collected_of};
 ghost use Rattle.entry_words.specs.Design.Lent.{Lent};
 
 use crate::walk::walk;
-use entry_rows::Walked;
 use entry_words::{Outcome, Reading};
 use marked_words::{clear_both, served};
 
@@ -30,10 +29,10 @@ pub fn collect_all(
 {
     clear_both(r, output, marks);
     match walk(r, stored, entries, output, marks) {
-        Walked::Disagrees(f) => {
+        Err(f) => {
             clear_both(r, output, marks);
             Outcome::Disagrees(f)
         }
-        Walked::Through => served(r, output, marks),
+        Ok(()) => served(r, output, marks),
     }
 }

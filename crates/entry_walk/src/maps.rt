@@ -29,11 +29,7 @@ fn put_table(out: &mut [u32], at: usize, table: &[u32])
     requires { (at + 256 ≤ length out.old) × (length table.now ≡ 256) }
     ensures { Put at table.now out.old out.new }
 {
-    let mut q: usize = 0;
-    while q < 256 {
-        out[at + q] = table[q];
-        q += 1;
-    }
+    out[at..at + 256].copy_from_slice(table);
 }
 
 // What each map says of each byte, where it stands so many bits up: the 256 of map k from 256 k on.
@@ -42,11 +38,9 @@ pub fn parts(maps: [Map; 5], up: u32) -> [u32; 1280]
     ensures { result ≡ byte_tables maps (2 ^ up) }
 {
     let mut out = [0u32; 1280];
-    let mut k: usize = 0;
-    while k < 5 {
+    for k in 0..5 {
         let table = byte_table(maps[k], up);
         put_table(&mut out, k * 256, &table);
-        k += 1;
     }
     out
 }
@@ -57,10 +51,8 @@ pub fn parts_of(maps: [Map; 5], i: u32) -> [u32; 5]
     ensures { result ≡ high_of maps i }
 {
     let mut out = [0u32; 5];
-    let mut k: usize = 0;
-    while k < 5 {
+    for k in 0..5 {
         out[k] = part_of(maps, k, i);
-        k += 1;
     }
     out
 }

@@ -2,12 +2,17 @@
 ghost use Rattle.entry_rows.specs.Design.Held.{Onward, ReadBy};
 
 use crate::maps::{parts, parts_of};
-use entry_rows::{Row, Walked, read_row};
+use entry_rows::{Row, read_row};
 use entry_words::Reading;
-use lists::number::fewer;
 
 // Reads the entries up to the first that disagrees.
-pub fn walk(r: Reading, stored: &[u8], entries: u32, output: &mut [u8], marks: &mut [u8]) -> Walked
+pub fn walk(
+    r: Reading,
+    stored: &[u8],
+    entries: u32,
+    output: &mut [u8],
+    marks: &mut [u8],
+) -> Result<(), u32>
     requires { Onward r stored.now output.old marks.old 0 entries }
     ensures { ReadBy r stored.now entries
         output.old marks.old result output.new marks.new }
@@ -17,14 +22,15 @@ pub fn walk(r: Reading, stored: &[u8], entries: u32, output: &mut [u8], marks: &
     let lows = parts(address, 0);
     let low_bytes = parts(data_lines, 0);
     let high_bytes = parts(data_lines, 8);
-    let mut i: u32 = 0;
-    while i < entries {
+    // The rows are counted, since `step_by(256)` would call `next` 256 times a row.
+    for k in 0..entries.div_ceil(256) {
+        let start = 256 * k;
         let row = Row {
-            high: parts_of(address, i),
-            start: i,
-            count: fewer(256, entries - i),
+            high: parts_of(address, start),
+            start,
+            count: (entries - start).min(256),
         };
-        match read_row(
+        read_row(
             r,
             row,
             &lows,
@@ -33,11 +39,7 @@ pub fn walk(r: Reading, stored: &[u8], entries: u32, output: &mut [u8], marks: &
             stored,
             output,
             marks,
-        ) {
-            Walked::Disagrees(f) => return Walked::Disagrees(f),
-            Walked::Through => {}
-        }
-        i += row.count;
+        )?;
     }
-    Walked::Through
+    Ok(())
 }

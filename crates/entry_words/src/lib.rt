@@ -39,7 +39,8 @@ pub struct Reading {
     pub words: u32,
 }
 
-// What all entries come to; the word that one is at fault for is counted through all ROMs.
+// What all entries come to; the word that one is at fault for is counted through all ROMs. Three cases, two of them with a word: neither
+// an Option nor a Result has them.
 #[derive(Clone, Copy)]
 pub enum Outcome {
     Whole,

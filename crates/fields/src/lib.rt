@@ -10,22 +10,11 @@ ghost use Rattle.fields.specs.Fields.{bytes_at, four_at, flag_formed};
 
 use lists::array::entry;
 
-fn wide(x: u8) -> u32
-    ensures value { result ≡ x }
-    ensures upper_bound { result < 256 }
-{
-    x as u32
-}
-
 // The number that four bytes make, low byte first.
 fn four_of(x0: u8, x1: u8, x2: u8, x3: u8) -> u32
     ensures { result ≡ x0 + 0x100 * x1 + 0x1_0000 * x2 + 0x100_0000 * x3 }
 {
-    let b0 = wide(x0);
-    let b1 = wide(x1);
-    let b2 = wide(x2);
-    let b3 = wide(x3);
-    b0 + 0x100 * b1 + 0x1_0000 * b2 + 0x100_0000 * b3
+    u32::from_le_bytes([x0, x1, x2, x3])
 }
 
 // The number of four bytes from a place, low byte first.
@@ -46,11 +35,7 @@ fn copy(b: &[u8], p: usize, out: &mut [u8])
     requires { p + length out.old ≤ length b.now }
     ensures { out.new ≡ bytes_at b.now p (length out.old) }
 {
-    let mut k: usize = 0;
-    while k < out.len() {
-        out[k] = b[p + k];
-        k += 1;
-    }
+    out.copy_from_slice(&b[p..p + out.len()]);
 }
 
 // Fills `out` with bytes of which some are past the record's end.
@@ -58,10 +43,8 @@ fn copy_padded(b: &[u8], p: usize, out: &mut [u8])
     requires { p < 2 ^ 32 }
     ensures { out.new ≡ bytes_at b.now p (length out.old) }
 {
-    let mut k: usize = 0;
-    while k < out.len() {
+    for k in 0..out.len() {
         out[k] = entry(b, p + k);
-        k += 1;
     }
 }
 
@@ -77,12 +60,12 @@ pub fn fill(b: &[u8], p: usize, out: &mut [u8])
     }
 }
 
-// The sixteen bytes from a place.
-pub fn sixteen_at(b: &[u8], p: usize) -> [u8; 16]
+// As many bytes from a place as the array has.
+pub fn bytes_at<const N: usize>(b: &[u8], p: usize) -> [u8; N]
     requires { p < 2 ^ 32 }
-    ensures { result ≡ bytes_at b.now p 16 }
+    ensures { result ≡ bytes_at b.now p N }
 {
-    let mut out = [0u8; 16];
+    let mut out = [0u8; N];
     fill(b, p, &mut out);
     out
 }

@@ -1,4 +1,5 @@
-// Numbers at a place of a record that is known to reach so far: no place is tested, and bytes are copied as one block.
+// Numbers at a place of a record that is known to reach so far: no place is tested, and bytes are copied as one block. They stand beside
+// those of the crate that answer for any length: with a test at each byte nothing is copied as a block, and a record is read slower.
 ghost use Rattle.std.specs.Prelude.{◌≡◌, ◌+◌, ◌≤◌, ◌<◌, length};
 ghost use Rattle.fields.specs.Fields.{byte_at, bytes_at, four_at};
 ghost use Rattle.fields.specs.Candidates.{pair_at, pair_in};
@@ -28,32 +29,12 @@ pub fn four_at(b: &[u8], p: usize) -> u32
     )
 }
 
-// The eight bytes from a place.
-pub fn eight_at(b: &[u8], p: usize) -> [u8; 8]
-    requires { p + 8 ≤ length b.now }
-    ensures { result ≡ bytes_at b.now p 8 }
+// As many bytes from a place as the array has.
+pub fn bytes_at<const N: usize>(b: &[u8], p: usize) -> [u8; N]
+    requires { p + N ≤ length b.now }
+    ensures { result ≡ bytes_at b.now p N }
 {
-    let mut out = [0u8; 8];
-    copy(b, p, &mut out);
-    out
-}
-
-// The sixteen bytes from a place.
-pub fn sixteen_at(b: &[u8], p: usize) -> [u8; 16]
-    requires { p + 16 ≤ length b.now }
-    ensures { result ≡ bytes_at b.now p 16 }
-{
-    let mut out = [0u8; 16];
-    copy(b, p, &mut out);
-    out
-}
-
-// The twenty-four bytes from a place.
-pub fn twenty_four_at(b: &[u8], p: usize) -> [u8; 24]
-    requires { p + 24 ≤ length b.now }
-    ensures { result ≡ bytes_at b.now p 24 }
-{
-    let mut out = [0u8; 24];
+    let mut out = [0u8; N];
     copy(b, p, &mut out);
     out
 }

@@ -15,20 +15,18 @@ fn names_it(entry: u8, kind: u8, gpio: u32, found: bool) -> bool
     found | (((entry % 64) as u32 == gpio) & (entry / 64 == kind))
 }
 
-// Whether an override names a GPIO by a kind.
+// Whether an override names a GPIO by a kind. There may be fewer entries than n: those that are missing count as 0.
 fn names(overrides: &[u8], n: u8, kind: u8, gpio: u32) -> bool
     ensures { result ≡ names n overrides.now kind gpio }
 {
     let mut found = false;
-    let mut k: u8 = 0;
-    while k < n {
+    for k in 0..n {
         found = names_it(
             lists::array::entry(overrides, k as usize),
             kind,
             gpio,
             found,
         );
-        k += 1;
     }
     found
 }
@@ -87,10 +85,8 @@ fn mask(s: StoredSlot, low_too: bool) -> u32
     let addr = s.alg_addr;
     let n = addr.num_addr_pins;
     let mut mask: u32 = 0;
-    let mut p: u8 = 0;
-    while p < n {
+    for p in 0..n {
         mask = mask + bit_if(forces(s, low_too, p), p);
-        p += 1;
     }
     mask
 }

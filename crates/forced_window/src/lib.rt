@@ -26,11 +26,9 @@ pub fn nothing_forced(a: AddrLayout, s: StoredSlot) -> bool
     let overrides = s.overrides;
     let n = s.num_overrides;
     let mut ok = true;
-    let mut k: u8 = 0;
-    while k < n {
+    for k in 0..n {
         let over = entry(&overrides, k as usize);
         ok = ok & !forces(a, over);
-        k += 1;
     }
     ok
 }

@@ -14,13 +14,12 @@ ghost use Rattle.round_trip.specs.Chain.{trip, read_of, build_trip, select_trip,
 
 use crate::stored::stored_slot;
 use addr_layout::derive_addr_layout;
-use addr_layout::layout::{AddrLayout, AddrOutcome};
+use addr_layout::layout::AddrLayout;
 use build_args::BuildArgs;
 use build_args::images::ImageSpan;
 use build_faults::table_size;
 use cs_data_layout::derive_cs_data_layout;
-use cs_data_layout::layout::{CsDataOutcome, GivenLayout};
-use refusal::Answer;
+use refusal::Refusal;
 use rom_image::build_rom_image;
 use slot::description::Description;
 use unscramble::unscramble_slot;
@@ -33,7 +32,7 @@ fn read_table(
     table: &[u8],
     output: &mut [u8],
     marks: &mut [u8],
-) -> Answer
+) -> Result<(), Refusal>
     requires { Readable b × (table_size b.description b.addr ≤ length table.now) }
     ensures { trip result table.now output.new marks.new
         ≡ read_of order b table.now output.old marks.old }
@@ -53,14 +52,12 @@ fn build_and_read(
     table: &mut [u8],
     output: &mut [u8],
     marks: &mut [u8],
-) -> Answer
+) -> Result<(), Refusal>
     ensures { trip result table.new output.new marks.new
         ≡ build_trip order b output.old marks.old (build_of order b images.now table.old) }
 {
-    match build_rom_image(order, b, images, table) {
-        Answer::Refused(why) => Answer::Refused(why),
-        Answer::Done => read_table(order, b, table, output, marks),
-    }
+    build_rom_image(order, b, images, table)?;
+    read_table(order, b, table, output, marks)
 }
 
 // The select search by the address layout found, and what follows it.
@@ -73,32 +70,19 @@ fn select_and_build(
     table: &mut [u8],
     output: &mut [u8],
     marks: &mut [u8],
-) -> Answer
+) -> Result<(), Refusal>
     ensures { trip result table.new output.new marks.new
         ≡ select_trip order d a images.now spans table.old output.old marks.old
-        (cs_data_answer d (record { given = true; layout = a })) }
+        (cs_data_answer d (Some a)) }
 {
-    let found = derive_cs_data_layout(
-        d,
-        GivenLayout {
-            given: true,
-            layout: a,
-        },
-    );
-    let outcome = found.outcome;
-    match outcome {
-        CsDataOutcome::Refused(why) => Answer::Refused(why),
-        CsDataOutcome::LaidOut => {
-            let c = found.layout;
-            let args = BuildArgs {
-                description: d,
-                addr: a,
-                cs_data: c,
-                spans,
-            };
-            build_and_read(order, args, images, table, output, marks)
-        }
-    }
+    let c = derive_cs_data_layout(d, Some(a))?;
+    let args = BuildArgs {
+        description: d,
+        addr: a,
+        cs_data: c,
+        spans,
+    };
+    build_and_read(order, args, images, table, output, marks)
 }
 
 // Both searches, the build and read-back in turn. The first that refuses answers; a well wired slot that is not refused reads back as
@@ -111,18 +95,12 @@ pub fn round_trip(
     table: &mut [u8],
     output: &mut [u8],
     marks: &mut [u8],
-) -> Answer
+) -> Result<(), Refusal>
     ensures marks_after { trip result table.new output.new marks.new
         ≡ round_trip_of order d images.now spans table.old output.old marks.old }
     ensures as_demanded { AsDemanded order d images.now spans table.old output.old marks.old
         (read_back result output.new marks.new) }
 {
-    let found = derive_addr_layout(d);
-    let outcome = found.outcome;
-    match outcome {
-        AddrOutcome::Refused(why) => Answer::Refused(why),
-        AddrOutcome::LaidOut => {
-            select_and_build(order, d, found.layout, images, spans, table, output, marks)
-        }
-    }
+    let a = derive_addr_layout(d)?;
+    select_and_build(order, d, a, images, spans, table, output, marks)
 }

@@ -9,7 +9,6 @@ use build_args::images::chip_size;
 use build_args::lines::first_select;
 use build_faults::table_size;
 use cs_data_layout::layout::CsDataLayout;
-use gpio::line::LineGpio;
 use lists::array::entry;
 use slot::description::Description;
 use stored_slot::stored::{AlgAddr, AlgCs, AlgData, AlgDma, Rom, SlotType, StoredSlot};
@@ -29,10 +28,8 @@ fn map_of(gpios: &[u8], n: u8) -> [u8; 32]
     ensures { result ≡ map_list gpios.now n }
 {
     let mut out = [0u8; 32];
-    let mut k: usize = 0;
-    while k < 32 {
+    for k in 0..32 {
         out[k] = map_entry(gpios, n, k);
-        k += 1;
     }
     out
 }
@@ -76,21 +73,19 @@ fn roms(d: Description, a: AddrLayout, c: CsDataLayout) -> [Rom; 4]
         data_lines: [0u8; 32],
     };
     let mut out = [none; 4];
-    let mut k: u8 = 0;
-    while k < 4 {
+    for k in 0u8..4 {
         out[k as usize] = rom(d, a, c, k);
-        k += 1;
     }
     out
 }
 
 // A line's GPIO; 0 where there is none.
-fn gpio_or_0(x: LineGpio) -> u8
+fn gpio_or_0(x: Option<u8>) -> u8
     ensures { result ≡ gpio_or0 x }
 {
     match x {
-        LineGpio::Unused => 0,
-        LineGpio::At(gpio) => gpio,
+        None => 0,
+        Some(gpio) => gpio,
     }
 }
 

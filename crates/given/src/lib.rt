@@ -87,10 +87,8 @@ fn all_mapped(d: Description, a: AddrLayout, c: CsDataLayout, s: StoredSlot, n: 
     ensures { result ≡ each n (λ k. mapped_as d a c s k) }
 {
     let mut ok = true;
-    let mut k: u8 = 0;
-    while k < n {
+    for k in 0..n {
         ok = ok & mapped_as(d, a, c, s, k);
-        k += 1;
     }
     ok
 }

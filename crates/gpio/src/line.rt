@@ -4,21 +4,12 @@ ghost use Rattle.gpio.specs.Line.{line_gpio_in};
 
 use crate::LAST_GPIO;
 
-// An X pin that picks a bank or a chip, or a select line: its GPIO, or that there is none.
-#[derive(Clone, Copy)]
-pub enum LineGpio {
-    Unused,
-    At(u8),
-}
-
-impl LineGpio {
-    // Whether the GPIO, if there is one, is a GPIO of the RP2350.
-    pub fn in_domain(self) -> bool
-        ensures { result ≡ line_gpio_in self }
-    {
-        match self {
-            LineGpio::Unused => true,
-            LineGpio::At(g) => g <= LAST_GPIO,
-        }
+// Whether the GPIO of a line, if it has one, is a GPIO of the RP2350.
+pub fn line_gpio_in(line: Option<u8>) -> bool
+    ensures { result ≡ line_gpio_in line }
+{
+    match line {
+        None => true,
+        Some(g) => g <= LAST_GPIO,
     }
 }

@@ -5,8 +5,6 @@ ghost use Rattle.std.specs.Prelude.{◌≡◌, ◌%◌};
 ghost use Rattle.hex_base.specs.Size.{too_long};
 ghost use Rattle.hex_base.specs.Sum.{bytes_total, checksum_of};
 
-use std::num::{wrapping_add_u8, wrapping_sub_u8};
-
 // Whether a chip of so many bytes is larger than any that is read or written.
 pub fn too_long(size: usize) -> bool
     ensures { result ≡ too_long size }
@@ -19,10 +17,8 @@ pub fn sum(bytes: &[u8]) -> u8
     ensures { result ≡ bytes_total bytes.now % 256 }
 {
     let mut s: u8 = 0;
-    let mut k: usize = 0;
-    while k < bytes.len() {
-        s = wrapping_add_u8(s, bytes[k]);
-        k += 1;
+    for byte in bytes {
+        s = s.wrapping_add(*byte);
     }
     s
 }
@@ -31,5 +27,5 @@ pub fn sum(bytes: &[u8]) -> u8
 pub fn checksum(bytes: &[u8]) -> u8
     ensures { result ≡ checksum_of bytes.now }
 {
-    wrapping_sub_u8(0, sum(bytes))
+    0u8.wrapping_sub(sum(bytes))
 }

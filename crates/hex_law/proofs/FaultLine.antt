@@ -1,4 +1,5 @@
 -- The line that a caller is told of is the one that the read was refused for. Assumes nothing.
+use Rattle.std.specs.Prelude.{Ok, Err}
 use mathlib.Core.Path.{◌≡◌, refl}
 use mathlib.Core.Bool.{Bool, true, false}
 use mathlib.Core.List.{List}
@@ -8,13 +9,11 @@ use native.Mathlib.Omega.{arith}
 use lib.ListN.{length}
 use borrow.Author.Tests.{ltb-true}
 use Rattle.lists.proofs.Loops.{zero_one}
-use Rattle.refusal.specs.declared.Answer.TheVariants.{Done, Refused}
 use Rattle.refusal.specs.declared.Refusal.{Refusal}
 use Rattle.refusal.specs.declared.Refusal.TheVariants.{OutOfDomain}
 use Rattle.hex_base.specs.Size.{too_long}
 use Rattle.hex_read.specs.Lines.{lines_of}
-use Rattle.hex_read.specs.Read.{verdict_of, read_of, fault_line}
-use Rattle.hex_read.specs.declared.judge.Verdict.TheVariants.{Sound, Fault}
+use Rattle.hex_read.specs.Read.{no_fault, fault_at, verdict_of, read_of, fault_line}
 use Rattle.hex_law.specs.Verdicts.{SoundText, FaultyAt, Faulty}
 use Rattle.hex_law.specs.FaultLine.{FaultLineLaw}
 use Rattle.hex_law.proofs.Verdicts.{verdict_law}
@@ -28,31 +27,31 @@ module _ (text chip : List ℕ) where
   unfolding fault_line
   long-line e = rw e
 
-  long-answer : too_long size ≡ true → (read_of text chip).answer ≡ Refused OutOfDomain
+  long-answer : too_long size ≡ true → (read_of text chip).answer ≡ Err OutOfDomain
   unfolding read_of
   long-answer e = rw e
 
-  sound-line : too_long size ≡ false → verdict_of text size ≡ Sound → fault_line text size ≡ 0
+  sound-line : too_long size ≡ false → verdict_of text size ≡ no_fault → fault_line text size ≡ 0
   unfolding fault_line
   sound-line e f = rw (e, f)
 
-  sound-answer : too_long size ≡ false → verdict_of text size ≡ Sound → (read_of text chip).answer ≡ Done
+  sound-answer : too_long size ≡ false → verdict_of text size ≡ no_fault → (read_of text chip).answer ≡ Ok tt
   unfolding read_of
   sound-answer e f = rw (e, f)
 
-  fault-line : (at : ℕ) (why : Refusal) → too_long size ≡ false → verdict_of text size ≡ Fault at why → fault_line text size ≡ at
+  fault-line : (at : ℕ) (why : Refusal) → too_long size ≡ false → verdict_of text size ≡ fault_at at why → fault_line text size ≡ at
   unfolding fault_line
   fault-line at why e f = rw (e, f)
 
-  fault-answer : (at : ℕ) (why : Refusal) → too_long size ≡ false → verdict_of text size ≡ Fault at why → (read_of text chip).answer ≡ Refused why
+  fault-answer : (at : ℕ) (why : Refusal) → too_long size ≡ false → verdict_of text size ≡ fault_at at why → (read_of text chip).answer ≡ Err why
   unfolding read_of
   fault-answer at why e f = rw (e, f)
 
   -- the two together: one of three, each with what is known of it
   data Comes : Type 0 where
-    long : 2 ^ 24 < size → fault_line text size ≡ 0 → (read_of text chip).answer ≡ Refused OutOfDomain → Comes
-    sound : fault_line text size ≡ 0 → (read_of text chip).answer ≡ Done → Comes
-    fault : (at : ℕ) (why : Refusal) → fault_line text size ≡ at + 1 → (read_of text chip).answer ≡ Refused why → FaultyAt size (lines_of text) at why → Comes
+    long : 2 ^ 24 < size → fault_line text size ≡ 0 → (read_of text chip).answer ≡ Err OutOfDomain → Comes
+    sound : fault_line text size ≡ 0 → (read_of text chip).answer ≡ Ok tt → Comes
+    fault : (at : ℕ) (why : Refusal) → fault_line text size ≡ at + 1 → (read_of text chip).answer ≡ Err why → FaultyAt size (lines_of text) at why → Comes
 
   comes : Comes
   comes = by (too_long size) refl (verdict_law text size).either
@@ -64,17 +63,17 @@ module _ (text chip : List ℕ) where
           let v = (verdict_law text size).is_fault f.at f.why f.first in
           fault f.at f.why (fault-line _ _ e v) (fault-answer _ _ e v) f.first
 
-  to_told : Comes → (at : ℕ) → fault_line text size ≡ at + 1 → (why : Refusal) × (((read_of text chip).answer ≡ Refused why) × FaultyAt size (lines_of text) at why)
+  to_told : Comes → (at : ℕ) → fault_line text size ≡ at + 1 → (why : Refusal) × (((read_of text chip).answer ≡ Err why) × FaultyAt size (lines_of text) at why)
   to_told (long h l a) at e = absurd (omega arith)
   to_told (sound l a) at e = absurd (omega arith)
   to_told (fault k why l a f) at e = let p : k ≡ at = omega arith in (why, (a, rw p at f))
 
-  to_none : Comes → fault_line text size ≡ 0 → ((read_of text chip).answer ≡ Done) ⊎ ((2 ^ 24 < size) × ((read_of text chip).answer ≡ Refused OutOfDomain))
+  to_none : Comes → fault_line text size ≡ 0 → ((read_of text chip).answer ≡ Ok tt) ⊎ ((2 ^ 24 < size) × ((read_of text chip).answer ≡ Err OutOfDomain))
   to_none (long h l a) e = inr (h, a)
   to_none (sound l a) e = inl a
   to_none (fault k why l a f) e = absurd (omega arith)
 
-  to_refused : Comes → (why : Refusal) → size ≤ 2 ^ 24 → (read_of text chip).answer ≡ Refused why
+  to_refused : Comes → (why : Refusal) → size ≤ 2 ^ 24 → (read_of text chip).answer ≡ Err why
       → (at : ℕ) × ((fault_line text size ≡ at + 1) × FaultyAt size (lines_of text) at why)
   to_refused (long h l a) why small e = absurd (omega arith)
   to_refused (sound l a) why small e = absurd (zero_one cc)

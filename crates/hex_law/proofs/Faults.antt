@@ -1,4 +1,6 @@
 -- Which fault of a line answers. Assumes nothing.
+use Rattle.std.specs.Prelude.{Option, Some, None}
+use Rattle.refusal.specs.declared.Refusal.{Refusal}
 use mathlib.Core.Path.{◌≡◌, refl, sym, ◌∙◌, ap}
 use mathlib.Core.Bool.{Bool, true, false, not, ◌&&◌}
 use mathlib.Core.List.{List}
@@ -11,8 +13,6 @@ use Rattle.lists.proofs.Loops.{zero_one}
 use Rattle.refusal.specs.First.{or_else, fault_if}
 use Rattle.refusal.specs.Refusal.{number_of}
 use Rattle.refusal.specs.declared.Refusal.TheVariants.{BadRecord, BadChecksum, PastChip}
-use Rattle.refusal.specs.declared.first.FirstFault.{FirstFault}
-use Rattle.refusal.specs.declared.first.FirstFault.TheVariants.{None, Of}
 use Rattle.hex_record.specs.Record.{count_of, sum_of, shaped, is_data, address_of, past_chip, line_fault}
 use Rattle.hex_record.proofs.Shapes.{shape-fault, sum-fault, last-fault}
 use Rattle.hex_law.specs.Faults.{BytePast, FaultLaw}
@@ -30,11 +30,11 @@ module _ (size upper : ℕ) (line : List ℕ) where
       record { has_data = named; at = count_of line - 1; within = omega arith; past = omega arith }
 
 -- the numbers tell the faults apart
-abbrev told : FirstFault → ℕ
+abbrev told : Option Refusal → ℕ
 told None = 0
-told (Of why) = number_of why
+told (Some why) = number_of why
 
-only-past : (a b c : Bool) → or_else (fault_if (not a) BadRecord) (or_else (fault_if (not b) BadChecksum) (fault_if c PastChip)) ≡ Of PastChip → c ≡ true
+only-past : (a b c : Bool) → or_else (fault_if (not a) BadRecord) (or_else (fault_if (not b) BadChecksum) (fault_if c PastChip)) ≡ Some PastChip → c ≡ true
 only-past true true true e = refl
 only-past true true false e = absurd (omega (arith, ap told e))
 only-past true false c e = absurd (omega (arith, ap told e))

@@ -1,4 +1,5 @@
 -- What a record that was written comes to when it is read. Assumes nothing.
+use Rattle.std.specs.Prelude.{None}
 use mathlib.Core.Path.{◌≡◌, refl, sym, ◌∙◌}
 use mathlib.Core.Bool.{true, false}
 use mathlib.Core.List.{List, [], ◌∷◌, ◌++◌, append_assoc}
@@ -9,7 +10,6 @@ use lib.ListN.{length, get_or, length-append, get_or-append}
 use lib.Seq.{get_or-append_seam}
 use borrow.Author.Tests.{eq-eqb}
 use Rattle.lists.proofs.Each.{each_all}
-use Rattle.refusal.specs.declared.first.FirstFault.TheVariants.{None}
 use Rattle.lists.specs.Each.{total}
 use Rattle.hex_base.specs.Sum.{checksum_of}
 use Rattle.hex_base.proofs.Sums.{checksum_law}

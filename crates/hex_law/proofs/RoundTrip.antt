@@ -1,4 +1,5 @@
 -- A chip comes back through its own text. Assumes nothing.
+use Rattle.std.specs.Prelude.{Ok}
 use mathlib.Core.Path.{◌≡◌, refl, sym, ◌∙◌}
 use mathlib.Core.Bool.{Bool, true, false}
 use mathlib.Core.List.{List, [], append-nil}
@@ -9,16 +10,14 @@ use lib.ListN.{length, take, drop, length-replicate, drop_of_length-le}
 use lib.Seq.{take_all, take-add, take-append_seam, length-take-le}
 use borrow.Author.Tests.{ltb-true, ltb-false, eqb-true, eqb-false, le-ltb}
 use Rattle.lists.specs.Tab.{joined}
-use Rattle.refusal.specs.declared.Answer.TheVariants.{Done}
 use Rattle.laid_bytes.specs.Laid.{laid}
 use Rattle.laid_bytes.proofs.Laids.{laid-behind, laid-front}
 use Rattle.hex_record.specs.Digits.{digit_of}
 use Rattle.hex_record.specs.Record.{record_byte, is_data, is_end}
-use Rattle.hex_record.specs.Design.Same.{end_line}
+use Rattle.hex_record.specs.Design.End.{end_line}
 use Rattle.hex_record.proofs.Shapes.{end-sound}
 use Rattle.hex_read.specs.Lines.{lines_of}
-use Rattle.hex_read.specs.Read.{judged, stored, blank, verdict_of, read_as, read_of}
-use Rattle.hex_read.specs.declared.judge.Verdict.TheVariants.{Sound}
+use Rattle.hex_read.specs.Read.{no_fault, judged, stored, blank, verdict_of, read_as, read_of}
 use Rattle.hex_write.specs.Text.{ahead, chunk, data_bytes, end_text, hex_text, piece_text, record_text, records}
 use Rattle.hex_write.specs.Write.{write_of}
 use Rattle.hex_write.proofs.Pieces.{first-none, within_none, block_ahead}
@@ -28,7 +27,7 @@ use Rattle.hex_law.proofs.Digits.{bytes_take, bytes_drop}
 use Rattle.hex_law.proofs.Passes.{Passes, passes_none, passes_both, data_passes, block_passes}
 
 -- the text's end, in whatever state it is reached
-end_sound_text : (size upper at : ℕ) → judged size upper at (lines_of end_text) ≡ Sound
+end_sound_text : (size upper at : ℕ) → judged size upper at (lines_of end_text) ≡ no_fault
 unfolding lines_of judged is_end record_byte digit_of
 end_sound_text size upper at = rw (sym (end-sound end_line size upper refl))
 
@@ -82,7 +81,7 @@ module _ (chip : List ℕ) (bytes : Bytes chip) (small : length chip ≤ 2 ^ 24)
       let e : suc k - 1 ≡ k = omega arith in
       rw e (passes_both (pieces_pass k (omega arith)) (passes_both (ahead_passes size k (begun k) (omega arith)) (data_step k (omega arith))))
 
-  text-sound : verdict_of (hex_text chip) size ≡ Sound
+  text-sound : verdict_of (hex_text chip) size ≡ no_fault
   unfolding hex_text
   text-sound = let p = pieces_pass (records size) (omega arith) in (p.judges 1).1 end_text ∙ end_sound_text size _ _
 
@@ -97,12 +96,12 @@ module _ (chip : List ℕ) (bytes : Bytes chip) (small : length chip ≤ 2 ^ 24)
   unfolding hex_text
   text_stores = (pieces_pass (records size) (omega arith)).stores end_text ∙ end_stores _ _ ∙ begun_all
 
-  comes_back : (buffer : List ℕ) → length buffer ≡ size → read_of (hex_text chip) buffer ≡ read_as Done chip
+  comes_back : (buffer : List ℕ) → length buffer ≡ size → read_of (hex_text chip) buffer ≡ read_as (Ok tt) chip
   unfolding read_of
   comes_back buffer e = rw (e, le-ltb (2 ^ 24) size small, text-sound, e, text_stores)
 
   comes_through : (text buffer : List ℕ) → length (hex_text chip) ≤ length text → length buffer ≡ size
-      → read_of (take (length (hex_text chip)) (write_of chip text).text) buffer ≡ read_as Done chip
+      → read_of (take (length (hex_text chip)) (write_of chip text).text) buffer ≡ read_as (Ok tt) chip
   unfolding write_of
   comes_through text buffer h e =
       rw (le-ltb (2 ^ 24) size small, le-ltb (length text) (length (hex_text chip)) h, take-append_seam (hex_text chip) (drop (length (hex_text chip)) text))

@@ -1,5 +1,6 @@
 -- A text is sound or has a first line at fault, and its verdict says which. Assumes nothing.
-use mathlib.Core.Path.{◌≡◌, refl, ◌∙◌}
+use Rattle.std.specs.Prelude.{Option, Some, None}
+use mathlib.Core.Path.{◌≡◌, refl, ◌∙◌, ap}
 use mathlib.Core.Bool.{Bool, true, false, cond}
 use mathlib.Core.List.{List, []}
 use mathlib.Core.Logic.{◌⊎◌, inl, inr}
@@ -12,13 +13,10 @@ use lib.Seq.{drop-cons}
 use Rattle.lists.proofs.Loops.{zero_one}
 use Rattle.refusal.specs.declared.Refusal.{Refusal}
 use Rattle.refusal.specs.declared.Refusal.TheVariants.{BadRecord}
-use Rattle.refusal.specs.declared.first.FirstFault.{FirstFault}
-use Rattle.refusal.specs.declared.first.FirstFault.TheVariants.{None, Of}
 use Rattle.hex_record.specs.Record.{is_end, line_fault}
 use Rattle.hex_read.specs.Lines.{lines_of}
-use Rattle.hex_read.specs.Read.{of_line, behind_end, judged}
-use Rattle.hex_read.specs.declared.judge.Verdict.{Verdict}
-use Rattle.hex_read.specs.declared.judge.Verdict.TheVariants.{Sound, Fault}
+use Rattle.hex_read.specs.Read.{Verdict, no_fault, fault_at, of_line, behind_end, judged}
+use Rattle.hex_read.specs.declared.judge.Fault.{Fault}
 use Rattle.hex_law.specs.Verdicts.{line_at, upper_at, SoundAt, GoesOn, SoundText, FaultyAt, own, behind, missing, Faulty, VerdictLaw}
 
 module _ (size : ℕ) (lines : List (List ℕ)) where
@@ -50,12 +48,12 @@ module _ (size : ℕ) (lines : List (List ℕ)) where
       → verdict ≡ behind_end (suc (suc k)) (drop (suc k) lines)
   ended k h g e f = gone k (omega arith) g ∙ line_first k h ∙ rw (e, f)
 
-  is_sound : SoundText size lines → verdict ≡ Sound
+  is_sound : SoundText size lines → verdict ≡ no_fault
   is_sound s =
       let long = s.long in
       ended s.last (omega arith) s.before s.sound s.end ∙ rw (drop_of_length-le lines {i = suc s.last} (omega arith))
 
-  is_fault : (k : ℕ) (why : Refusal) → FaultyAt size lines k why → verdict ≡ Fault (k + 1) why
+  is_fault : (k : ℕ) (why : Refusal) → FaultyAt size lines k why → verdict ≡ fault_at (k + 1) why
   unfolding judged
   is_fault k why (own h g e) = gone k (omega arith) g ∙ line_first k h ∙ rw (e, add-one k)
   is_fault k why (behind e q h g s n w) = ended e (omega arith) g s n ∙ rw (drop-cons lines (suc e) [] (omega arith), q, w, add-one (e + 1), add-one e)
@@ -76,28 +74,29 @@ module _ (size : ℕ) (lines : List (List ℕ)) where
   stops zero k e g = faulty k BadRecord (missing (omega arith) g refl)
   stops (suc n) k e g = by (line_fault size (upper_at lines k) (line_at lines k)) refl (is_end (line_at lines k)) refl (stops n (suc k) (omega arith))
     where
-      by : (f : FirstFault) → line_fault size (upper_at lines k) (line_at lines k) ≡ f → (t : Bool) → is_end (line_at lines k) ≡ t → (GoesOn size lines (suc k) → Stops) → Stops
-      by (Of why) f t h more = faulty k why (own (omega arith) g f)
+      by : (f : Option Refusal) → line_fault size (upper_at lines k) (line_at lines k) ≡ f → (t : Bool) → is_end (line_at lines k) ≡ t → (GoesOn size lines (suc k) → Stops) → Stops
+      by (Some why) f t h more = faulty k why (own (omega arith) g f)
       by None f true h more = at-end n k e g f h
       by None f false h more = more (goes_more k g f h)
 
   stops_somewhere : Stops
   stops_somewhere = stops (length lines) 0 (omega arith) (λ k h. absurd (omega arith))
 
-  to_sound : Stops → verdict ≡ Sound → SoundText size lines
+  to_sound : Stops → verdict ≡ no_fault → SoundText size lines
   to_sound (inl s) e = s
   to_sound (inr f) e = let g = is_fault f.at f.why f.first in absurd (zero_one cc)
 
-  to_fault : Stops → (at : ℕ) (why : Refusal) → verdict ≡ Fault (at + 1) why → FaultyAt size lines at why
+  to_fault : Stops → (at : ℕ) (why : Refusal) → verdict ≡ fault_at (at + 1) why → FaultyAt size lines at why
   to_fault (inl s) at why e = let g = is_sound s in absurd (zero_one cc)
   to_fault (inr f) at why e = same f.at f.why f.first
     where
       same : (k : ℕ) (w : Refusal) → FaultyAt size lines k w → FaultyAt size lines at why
       same k w h =
           let g = is_fault k w h in
-          let l : k + 1 ≡ at + 1 = cc in
+          let f : ◌≡◌ {A = Fault} (record { line = k + 1; why = w }) (record { line = at + 1; why = why }) = cc in
+          let l : k + 1 ≡ at + 1 = ap (λ (x : Fault). x.line) f in
           let p : k ≡ at = omega arith in
-          let q : w ≡ why = cc in
+          let q : w ≡ why = ap (λ (x : Fault). x.why) f in
           rw (p, q) at h
 
 pub verdict_law : (text : List ℕ) (size : ℕ) → VerdictLaw text size

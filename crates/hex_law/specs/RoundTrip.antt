@@ -1,6 +1,5 @@
 -- A chip through its own text and back. Assumes nothing.
-use Rattle.std.specs.Prelude.{ℕ, ◌*◌, ◌^◌, ◌<◌, ◌≤◌, ◌≡◌, List, length, get_or, take}
-use Rattle.refusal.specs.declared.Answer.TheVariants.{Done}
+use Rattle.std.specs.Prelude.{ℕ, ◌*◌, ◌^◌, ◌<◌, ◌≤◌, ◌≡◌, List, length, get_or, take, Ok}
 use Rattle.hex_read.specs.Read.{read_as, read_of}
 use Rattle.hex_write.specs.Text.{hex_text}
 use Rattle.hex_write.specs.Length.{text_length}
@@ -14,10 +13,10 @@ Bytes l = (k : ℕ) → get_or l k 0 < 256
 
 pub record HexRoundTrip : Type 0 where
   -- 02 Slip 1 6: what is read of a chip's own text is the chip, whatever stood where it is read to
-  pub back : (chip buffer : List ℕ) → Bytes chip → length chip ≤ 2 ^ 24 → length buffer ≡ length chip → read_of (hex_text chip) buffer ≡ read_as Done chip
+  pub back : (chip buffer : List ℕ) → Bytes chip → length chip ≤ 2 ^ 24 → length buffer ≡ length chip → read_of (hex_text chip) buffer ≡ read_as (Ok tt) chip
   -- so through the two calls: what a write leaves in a buffer that has room, read by its length
   pub through : (chip text buffer : List ℕ) → Bytes chip → length chip ≤ 2 ^ 24 → length (hex_text chip) ≤ length text → length buffer ≡ length chip
-      → read_of (take (length (hex_text chip)) (write_of chip text).text) buffer ≡ read_as Done chip
+      → read_of (take (length (hex_text chip)) (write_of chip text).text) buffer ≡ read_as (Ok tt) chip
 
 -- the same of what C callers get
 pub record CallsRoundTrip : Type 0 where

@@ -1,8 +1,9 @@
 -- What is stored of a text, byte by byte and line by line. Assumes nothing.
+use Rattle.std.specs.Prelude.{None}
 use mathlib.Core.Path.{◌≡◌, refl, ◌∙◌, subst}
 use mathlib.Core.Bool.{Bool, true, false, cond}
-use mathlib.Core.List.{List, [], ◌∷◌, ◌++◌}
-use Prim.Native.Nat.{ℕ, zero, suc, ◌+◌, ◌-◌, ◌<◌, ◌≤◌}
+use mathlib.Core.List.{List, [], ◌∷◌}
+use Prim.Native.Nat.{ℕ, ◌+◌, ◌-◌, ◌≤◌}
 use native.Mathlib.Numerals.{add-one}
 use native.Mathlib.Omega.{arith}
 use lib.ListN.{length, take, drop, set}
@@ -10,7 +11,6 @@ use Rattle.lists.specs.Tab.{tab}
 use Rattle.lists.proofs.Tab.{tab-length}
 use Rattle.laid_bytes.specs.Laid.{laid}
 use Rattle.laid_bytes.proofs.Laids.{laid_one, laid-length}
-use Rattle.refusal.specs.declared.first.FirstFault.TheVariants.{None}
 use Rattle.hex_record.specs.Record.{count_of, data_byte, data_of, is_data, address_of, line_fault, upper_after}
 use Rattle.hex_record.proofs.Shapes.{Sound, sound-line, data-inside, bytes-there}
 use Rattle.hex_read.specs.Lines.{lines_of}

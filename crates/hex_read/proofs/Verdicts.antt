@@ -1,8 +1,9 @@
 -- The first fault of a text, line by line. Assumes nothing.
-use mathlib.Core.Path.{◌≡◌, refl, sym, ◌∙◌, ap}
+use Rattle.std.specs.Prelude.{Option, Some, None, Ok, Err}
+use mathlib.Core.Path.{◌≡◌, refl, sym, ap}
 use mathlib.Core.Bool.{Bool, true, false, ◌&&◌, cond}
 use mathlib.Core.List.{List, [], ◌∷◌}
-use Prim.Native.Nat.{ℕ, zero, suc, ◌+◌, ◌-◌, ◌<◌, ◌≤◌}
+use Prim.Native.Nat.{ℕ, suc, ◌+◌, ◌-◌, ◌<◌, ◌≤◌}
 use native.Mathlib.Numerals.{add-one}
 use native.Mathlib.Omega.{arith}
 use lib.Dec.{eqb}
@@ -13,26 +14,23 @@ use Rattle.lists.proofs.Bools.{and_right}
 use Rattle.lists.proofs.Loops.{zero_one}
 use Rattle.refusal.specs.declared.Refusal.{Refusal}
 use Rattle.refusal.specs.declared.Refusal.TheVariants.{BadRecord}
-use Rattle.refusal.specs.declared.first.FirstFault.{FirstFault}
-use Rattle.refusal.specs.declared.first.FirstFault.TheVariants.{None, Of}
 use Rattle.hex_base.specs.Size.{too_long}
 use Rattle.hex_record.specs.Record.{is_end, line_fault, upper_after}
 use Rattle.hex_read.specs.Lines.{onto, lines_of}
-use Rattle.hex_read.specs.Read.{of_line, behind_end, judged, verdict_of, line_in, fault_line}
-use Rattle.hex_read.specs.declared.judge.Verdict.{Verdict}
-use Rattle.hex_read.specs.declared.judge.Verdict.TheVariants.{Sound, Fault}
+use Rattle.hex_read.specs.Read.{Verdict, no_fault, fault_at, of_line, behind_end, judged, verdict_of, line_in, fault_line}
+use Rattle.hex_read.specs.declared.judge.Fault.{Fault}
 use Rattle.hex_read.specs.Design.Places.{FirstLine, AllSound}
 
 -- a text that has a byte has a line
-abbrev Some : List (List ℕ) → Type 0
-Some [] = ⊥
-Some (line ∷ lines) = Unit
+abbrev HasLine : List (List ℕ) → Type 0
+HasLine [] = ⊥
+HasLine (line ∷ lines) = Unit
 
-onto-some : (c : ℕ) (lines : List (List ℕ)) → Some (onto c lines)
+onto-some : (c : ℕ) (lines : List (List ℕ)) → HasLine (onto c lines)
 onto-some c [] = tt
 onto-some c (line ∷ lines) = tt
 
-some-lines : (text : List ℕ) → 0 < length text → Some (lines_of text)
+some-lines : (text : List ℕ) → 0 < length text → HasLine (lines_of text)
 unfolding lines_of
 some-lines [] h = absurd (omega arith)
 some-lines (c ∷ text) h = by (eqb c 10) (eqb c 13 && eqb (get_or text 0 0) 10) refl (λ l. some-lines text l)
@@ -41,20 +39,20 @@ some-lines (c ∷ text) h = by (eqb c 10) (eqb c 13 && eqb (get_or text 0 0) 10)
     filled [] e = absurd (omega (arith, eqb-true 0 10 (and_right (eqb c 13) _ e)))
     filled (d ∷ s) e = omega arith
 
-    by : (t u : Bool) → eqb c 13 && eqb (get_or text 0 0) 10 ≡ u → (0 < length text → Some (lines_of text))
-        → Some (cond t ([] ∷ lines_of text) (cond u (lines_of text) (onto c (lines_of text))))
+    by : (t u : Bool) → eqb c 13 && eqb (get_or text 0 0) 10 ≡ u → (0 < length text → HasLine (lines_of text))
+        → HasLine (cond t ([] ∷ lines_of text) (cond u (lines_of text) (onto c (lines_of text))))
     by true u e more = tt
     by false true e more = more (filled text e)
     by false false e more = onto-some c (lines_of text)
 
-fault-behind : (at : ℕ) (lines : List (List ℕ)) → Some lines → Fault at BadRecord ≡ behind_end at lines
+fault-behind : (at : ℕ) (lines : List (List ℕ)) → HasLine lines → fault_at at BadRecord ≡ behind_end at lines
 fault-behind at [] s = absurd s
 fault-behind at (line ∷ lines) s = refl
 
-pub text-behind : (text : List ℕ) (at : ℕ) → 0 < length text → Fault at BadRecord ≡ behind_end at (lines_of text)
+pub text-behind : (text : List ℕ) (at : ℕ) → 0 < length text → fault_at at BadRecord ≡ behind_end at (lines_of text)
 text-behind text at h = fault-behind at (lines_of text) (some-lines text h)
 
-pub nothing-behind : (text : List ℕ) (at : ℕ) → length text ≤ 0 → Sound ≡ behind_end at (lines_of text)
+pub nothing-behind : (text : List ℕ) (at : ℕ) → length text ≤ 0 → no_fault ≡ behind_end at (lines_of text)
 unfolding lines_of
 nothing-behind [] at h = refl
 nothing-behind (c ∷ text) at h = absurd (omega arith)
@@ -73,9 +71,18 @@ shorter text next h l = omega (arith, tail_length text next)
 pub counted : (text : List ℕ) (at next n : ℕ) → 0 < next → next ≤ length text → at + length text ≤ n → at + 1 + length (take (length text - next) (drop next text)) ≤ n
 counted text at next n h l e = omega (arith, tail_length text next)
 
+-- what is left where a test for the other case failed
+pub left_none : (f : Option Refusal) → ((why : Refusal) → f ≡ Some why → ⊥) → f ≡ None
+left_none (Some why) h = absurd (h why refl)
+left_none None h = refl
+
+pub left_ok : (v : Verdict) → ((fault : Fault) → v ≡ Err fault → ⊥) → v ≡ no_fault
+left_ok (Ok u) h = refl
+left_ok (Err fault) h = absurd (h fault refl)
+
 -- a loop that judges line by line: a line at fault, a sound end, a sound line, and no line left
-pub line_faulty : (text : List ℕ) (size upper at end next : ℕ) (why : Refusal) (v : Verdict) → FirstLine text end next → line_fault size upper (take end text) ≡ Of why
-    → judged size upper at (lines_of text) ≡ v → Fault at why ≡ v
+pub line_faulty : (text : List ℕ) (size upper at end next : ℕ) (why : Refusal) (v : Verdict) → FirstLine text end next → line_fault size upper (take end text) ≡ Some why
+    → judged size upper at (lines_of text) ≡ v → fault_at at why ≡ v
 unfolding judged
 line_faulty text size upper at end next why v f e h = rw (f.lines, e) at h
 
@@ -90,28 +97,28 @@ pub line-sound : (text rest : List ℕ) (size upper new at end next : ℕ) (v : 
 unfolding judged
 line-sound text rest size upper new at end next v f r u e g h = rw (r, tail text next, u, add-one) (rw (f.lines, e, g) at h)
 
-pub no_line : (text : List ℕ) (size upper at : ℕ) (v : Verdict) → length text ≤ 0 → judged size upper at (lines_of text) ≡ v → Fault at BadRecord ≡ v
+pub no_line : (text : List ℕ) (size upper at : ℕ) (v : Verdict) → length text ≤ 0 → judged size upper at (lines_of text) ≡ v → fault_at at BadRecord ≡ v
 unfolding judged lines_of
 no_line [] size upper at v h e = e
 no_line (c ∷ text) size upper at v h e = absurd (omega arith)
 
 -- no line of a sound text has a fault
 abbrev told : Verdict → ℕ
-told Sound = 0
-told (Fault at why) = 1
+told (Ok u) = 0
+told (Err fault) = 1
 
-pub all_sound : (lines : List (List ℕ)) (size upper at : ℕ) → judged size upper at lines ≡ Sound → AllSound size upper lines
+pub all_sound : (lines : List (List ℕ)) (size upper at : ℕ) → judged size upper at lines ≡ no_fault → AllSound size upper lines
 unfolding judged
 all_sound [] size upper at e = tt
 all_sound (line ∷ lines) size upper at e = by (line_fault size upper line) (is_end line) e (λ f. all_sound lines size (upper_after upper line) (suc at) f)
   where
-    behind : (ls : List (List ℕ)) (at upper : ℕ) → behind_end at ls ≡ Sound → AllSound size upper ls
+    behind : (ls : List (List ℕ)) (at upper : ℕ) → behind_end at ls ≡ no_fault → AllSound size upper ls
     behind [] at upper e = tt
     behind (l ∷ ls) at upper e = absurd (zero_one (ap told (sym e)))
 
-    by : (f : FirstFault) (t : Bool) → of_line at f (cond t (behind_end (suc at) lines) (judged size (upper_after upper line) (suc at) lines)) ≡ Sound
-        → (judged size (upper_after upper line) (suc at) lines ≡ Sound → AllSound size (upper_after upper line) lines) → (f ≡ None) × AllSound size (upper_after upper line) lines
-    by (Of why) t e more = absurd (zero_one (ap told (sym e)))
+    by : (f : Option Refusal) (t : Bool) → of_line at f (cond t (behind_end (suc at) lines) (judged size (upper_after upper line) (suc at) lines)) ≡ no_fault
+        → (judged size (upper_after upper line) (suc at) lines ≡ no_fault → AllSound size (upper_after upper line) lines) → (f ≡ None) × AllSound size (upper_after upper line) lines
+    by (Some why) t e more = absurd (zero_one (ap told (sym e)))
     by None true e more = (refl, behind lines (suc at) (upper_after upper line) e)
     by None false e more = (refl, more e)
 

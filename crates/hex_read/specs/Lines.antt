@@ -1,5 +1,5 @@
 -- The lines of a text. Assumes nothing.
-use Rattle.std.specs.Prelude.{ℕ, Bool, ◌&&◌, cond, List, [], ◌∷◌, eqb, get_or}
+use Rattle.std.specs.Prelude.{ℕ, ◌&&◌, cond, List, [], ◌∷◌, eqb, get_or}
 
 -- a character ahead of a text's first line, which begins with it if there is none yet
 abbrev pub onto : ℕ → List (List ℕ) → List (List ℕ)

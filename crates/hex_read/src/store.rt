@@ -1,7 +1,6 @@
 // What a sound text says, stored in a chip.
 ghost use Rattle.std.specs.Prelude.{◌≡◌, length};
 ghost use Rattle.lists.specs.Tab.{tab};
-ghost use Rattle.refusal.specs.declared.first.FirstFault.TheVariants.{None};
 ghost use Rattle.laid_bytes.specs.Laid.{laid};
 ghost use Rattle.hex_record.specs.Record.{data_byte, line_fault};
 ghost use Rattle.hex_read.specs.Lines.{lines_of};
@@ -17,10 +16,8 @@ fn put_data(line: &[u8], chip: &mut [u8], at: usize, n: usize)
     requires { DataFits line.now chip.old at n }
     ensures { chip.new ≡ laid chip.old at (tab n (data_byte line.now)) }
 {
-    let mut k: usize = 0;
-    while k < n {
+    for k in 0..n {
         chip[at + k] = byte_at(line, k + 4);
-        k += 1;
     }
 }
 
@@ -41,6 +38,7 @@ pub fn store(text: &[u8], chip: &mut [u8])
 {
     let mut rest = text;
     let mut upper: u32 = 0;
+    // What is left gets shorter by a line, however long: no index is counted.
     while 0 < rest.len() {
         let first = first_line(rest);
         let end = first.end;

@@ -1,34 +1,18 @@
--- Two lines compared, the types of records, and what a line comes to that has no fault. Assumes nothing.
-use Rattle.std.proofs.Common.{◌≡◌, ℕ, ◌+◌, ◌-◌, ◌*◌, ◌%◌, ◌<◌, ◌≤◌, Bool, true, false, cond, not, ◌&&◌, eqb, ltb, leb, ◌≢◌, List, length, get_or, sym, refl, ap, ◌∙◌, arith, ext_get_or, ltb-false, lt-ltb, eq-eqb, ne_eqb, eqb-true}
+-- The types of records, and what a line comes to that has no fault. Assumes nothing.
+use Rattle.std.specs.Prelude.{Option, Some, None}
+use Rattle.refusal.specs.declared.Refusal.{Refusal}
+use Rattle.std.proofs.Common.{◌≡◌, ℕ, ◌+◌, ◌-◌, ◌*◌, ◌<◌, ◌≤◌, Bool, true, false, not, ◌&&◌, eqb, ltb, leb, ◌≢◌, List, length, get_or, sym, refl, ap, ◌∙◌, arith, ltb-false, lt-ltb, eq-eqb, ne_eqb, eqb-true}
 use Rattle.lists.specs.Each.{each}
 use Rattle.lists.proofs.Each.{each_at}
 use Rattle.lists.proofs.Bools.{both}
 use Rattle.lists.proofs.Loops.{zero_one}
 use Rattle.refusal.specs.First.{or_else, fault_if}
-use Rattle.refusal.specs.declared.first.FirstFault.{FirstFault}
-use Rattle.refusal.specs.declared.first.FirstFault.TheVariants.{None, Of}
 use Rattle.refusal.specs.declared.Refusal.TheVariants.{BadRecord, BadChecksum, PastChip}
 use Rattle.lists.specs.Each.{total}
 use Rattle.hex_record.specs.Digits.{digit_of, is_digit}
 use Rattle.hex_record.specs.Record.{record_byte, count_of, offset_of, type_of, sum_of, well_formed, type_sound, shaped, is_data, address_of, past_chip, line_fault, upper_after}
-use Rattle.hex_record.specs.Design.Same.{same, end_line}
+use Rattle.hex_record.specs.Design.End.{end_line}
 use Rattle.hex_record.specs.Design.There.{BytesThere}
-
--- the comparison: where the lengths differ, and where the loop has passed all bytes
-pub same-short : (a b : List ℕ) → length a ≢ length b → false ≡ same a b
-unfolding same
-same-short a b h = rw (ne_eqb _ _ h) refl
-
-pub same-done : (a b : List ℕ) (k : ℕ) (ok : Bool) → length a ≡ length b → k ≡ length b → ok ≡ each k (λ j. eqb (get_or a j 0) (get_or b j 0)) → ok ≡ same a b
-unfolding same
-same-done a b k ok l e h = rw (eq-eqb _ _ l) (rw e at h)
-
-pub same_lists : (a b : List ℕ) → same a b ≡ true → a ≡ b
-unfolding same
-same_lists a b e =
-    let (l, each_same) = both (eqb (length a) (length b)) _ e in
-    let long : length a ≡ length b = eqb-true _ _ l in
-    ext_get_or 0 a b long (λ i h. eqb-true _ _ (each_at (λ j. eqb (get_or a j 0) (get_or b j 0)) (length b) each_same i (omega arith)))
 
 -- the types, one after the other
 pub of_type-zero : (kind count offset : ℕ) → kind ≡ 0 → leb (offset + count) 65536 ≡ type_sound kind count offset
@@ -88,11 +72,11 @@ pub end-sound : (line : List ℕ) (size upper : ℕ) → line ≡ end_line → N
 unfolding line_fault shaped type_sound record_byte digit_of total each is_data
 end-sound line size upper e = rw e refl
 
-pub shape-fault : (line : List ℕ) (size upper : ℕ) → shaped line ≡ false → Of BadRecord ≡ line_fault size upper line
+pub shape-fault : (line : List ℕ) (size upper : ℕ) → shaped line ≡ false → Some BadRecord ≡ line_fault size upper line
 unfolding line_fault
 shape-fault line size upper e = rw e refl
 
-pub sum-fault : (line : List ℕ) (size upper s : ℕ) → shaped line ≡ true → s ≡ sum_of line → s ≢ 0 → Of BadChecksum ≡ line_fault size upper line
+pub sum-fault : (line : List ℕ) (size upper s : ℕ) → shaped line ≡ true → s ≡ sum_of line → s ≢ 0 → Some BadChecksum ≡ line_fault size upper line
 unfolding line_fault
 sum-fault line size upper s e f h = rw (e, ne_eqb (sum_of line) 0 (λ g. h (f ∙ g))) refl
 
@@ -107,9 +91,9 @@ unfolding is_data
 past_by line size upper kind n at e f g = rw (e, f, g) refl
 
 -- a line without a fault passes all three tests
-abbrev told : FirstFault → ℕ
+abbrev told : Option Refusal → ℕ
 told None = 0
-told (Of why) = 1
+told (Some why) = 1
 
 passed : (a b c : Bool) → or_else (fault_if (not a) BadRecord) (or_else (fault_if (not b) BadChecksum) (fault_if c PastChip)) ≡ None → (a ≡ true) × (b ≡ true) × (c ≡ false)
 passed true true false e = (refl, refl, refl)

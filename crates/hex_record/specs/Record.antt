@@ -1,10 +1,10 @@
 -- What a line says that is a record, and what it is refused for. A line here has no line end. Assumes nothing.
-use Rattle.std.specs.Prelude.{ℕ, ◌+◌, ◌-◌, ◌*◌, ◌%◌, Bool, cond, not, ◌&&◌, List, length, ◌==◌, nat_le, nat_lt, slice_index}
+use Rattle.refusal.specs.declared.Refusal.{Refusal}
+use Rattle.std.specs.Prelude.{ℕ, ◌+◌, ◌-◌, ◌*◌, ◌%◌, Bool, cond, not, ◌&&◌, List, length, ◌==◌, nat_le, nat_lt, slice_index, Option}
 use Rattle.lists.specs.Each.{each}
 use Rattle.lists.specs.Tab.{tab}
 use Rattle.refusal.specs.First.{or_else, fault_if}
 use Rattle.refusal.specs.declared.Refusal.TheVariants.{BadRecord, BadChecksum, PastChip}
-use Rattle.refusal.specs.declared.first.FirstFault.{FirstFault}
 use Rattle.lists.specs.Each.{total}
 use Rattle.hex_record.specs.Digits.{digit_of, is_digit}
 
@@ -62,7 +62,7 @@ abbrev pub past_chip : ℕ → ℕ → List ℕ → Bool
 past_chip size upper line = is_data line && nat_lt 0 (count_of line) && nat_lt size (address_of upper line + count_of line)
 
 -- 02 Slip 1 12: a line's first fault, where its shape comes before its sum, and its sum before the places of its data
-unfoldable pub line_fault : ℕ → ℕ → List ℕ → FirstFault
+unfoldable pub line_fault : ℕ → ℕ → List ℕ → Option Refusal
 line_fault size upper line =
     or_else (fault_if (not (shaped line)) BadRecord)
     (or_else (fault_if (not (sum_of line == 0)) BadChecksum) (fault_if (past_chip size upper line) PastChip))

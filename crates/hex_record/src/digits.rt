@@ -7,7 +7,6 @@ ghost use Rattle.hex_record.specs.Record.{record_byte};
 ghost use Rattle.hex_record.specs.Design.There.{ByteThere, BytesThere};
 
 use lists::array::entry;
-use std::num::wrapping_add_u8;
 
 // Whether a character is a hex digit.
 fn is_digit(c: u8) -> bool
@@ -57,29 +56,26 @@ pub fn byte_at(line: &[u8], k: usize) -> u8
     16 * high + low
 }
 
-// Whether all behind the first character are digits.
+// Whether all behind the first character are digits. No character ends the loop early: it takes many at a time.
 pub fn all_digits(line: &[u8]) -> bool
     ensures { result ≡ each (length line.now - 1) (λ k. is_digit (slice_index line.now (k + 1))) }
 {
     let mut ok = true;
-    let mut k: usize = 0;
-    while k + 1 < line.len() {
-        ok = ok & is_digit(line[k + 1]);
-        k += 1;
+    for k in 1..line.len() {
+        ok = ok & is_digit(line[k]);
     }
     ok
 }
 
-// The sum of a record's first n bytes, modulo 256, where the line has their digits.
+// The sum of a record's first n bytes, modulo 256, where the line has their digits. That of hex_base takes bytes out of a slice; one
+// function for both would take a closure, whose digits each call would have to show.
 pub fn sum(line: &[u8], n: usize) -> u8
     requires { BytesThere line.now n }
     ensures { result ≡ total n (record_byte line.now) % 256 }
 {
     let mut s: u8 = 0;
-    let mut k: usize = 0;
-    while k < n {
-        s = wrapping_add_u8(s, byte_at(line, k));
-        k += 1;
+    for k in 0..n {
+        s = s.wrapping_add(byte_at(line, k));
     }
     s
 }

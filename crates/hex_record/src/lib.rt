@@ -6,12 +6,10 @@ pub mod digits; // a record's bytes, out of its digits
 ghost use Rattle.std.specs.Prelude.{◌≡◌, ◌+◌, ◌*◌, ◌^◌, ◌<◌, ◌≤◌, ◌&&◌, ◌==◌, nat_lt};
 ghost use Rattle.hex_record.specs.Record.{count_of, offset_of, address_of, well_formed, type_sound, shaped, line_fault, is_end, is_data, upper_after};
 ghost use Rattle.hex_record.specs.Design.Fields.{Fields};
-ghost use Rattle.hex_record.specs.Design.Same.{same};
 
 use crate::digits::{all_digits, record_byte, sum};
 use lists::array::entry;
 use refusal::Refusal;
-use refusal::first::{FirstFault, fault_if};
 
 // How many data bytes a record has.
 pub fn count(line: &[u8]) -> usize
@@ -75,41 +73,26 @@ fn past_chip(kind: u16, n: usize, address: usize, size: usize) -> bool
     (kind == 0) & (0 < n) & (size < address + n)
 }
 
-// Whether two byte strings are the same.
-fn same(line: &[u8], want: &[u8]) -> bool
-    ensures { result ≡ same line.now want.now }
-{
-    if line.len() != want.len() {
-        return false;
-    }
-    let mut ok = true;
-    let mut k: usize = 0;
-    while k < want.len() {
-        ok = ok & (line[k] == want[k]);
-        k += 1;
-    }
-    ok
-}
-
 // What a line is refused for, behind an upper half of addresses, for a chip of `size` bytes. The end record as it is written here,
 // and by most programs, is sound; small letters make it another text, and that too is read.
-pub fn line_fault(line: &[u8], upper: u32, size: usize) -> FirstFault
+pub fn line_fault(line: &[u8], upper: u32, size: usize) -> Option<Refusal>
     ensures { result ≡ line_fault size upper line.now }
 {
-    if same(line, b":00000001FF") {
-        return FirstFault::None;
+    let end: &[u8] = b":00000001FF";
+    if line == end {
+        return None;
     }
     let kind = record_byte(line, 3);
     let n = count(line);
     let at = offset(line);
     if !shaped(line, kind, n, at) {
-        return FirstFault::Of(Refusal::BadRecord);
+        return Some(Refusal::BadRecord);
     }
     if sum(line, n + 5) != 0 {
-        return FirstFault::Of(Refusal::BadChecksum);
+        return Some(Refusal::BadChecksum);
     }
     let past = past_chip(kind, n, 65536 * upper as usize + at, size);
-    fault_if(past, Refusal::PastChip)
+    past.then_some(Refusal::PastChip)
 }
 
 // Whether a record is the end.

@@ -13,16 +13,13 @@ ghost use Rattle.hex_write.specs.Write.{wrote_as, write_of};
 use crate::record::put_record;
 use hex_base::too_long;
 use laid_bytes::put;
-use refusal::{Refusal, WriteAnswer};
+use refusal::Refusal;
 
 // How many blocks of 64 KiB a chip of so many bytes reaches into after the first.
 fn later_blocks(size: usize) -> usize
     ensures { result ≡ later_blocks size }
 {
-    if size == 0 {
-        return 0;
-    }
-    (size - 1) / 65536
+    size.saturating_sub(1) / 65536
 }
 
 // How long the text of a chip of so many bytes is.
@@ -70,10 +67,7 @@ fn chunk_end(size: usize, from: usize) -> usize
     requires { from ≤ size }
     ensures { result ≡ from + min 16 (size - from) }
 {
-    if size - from < 16 {
-        return size;
-    }
-    from + 16
+    from + (size - from).min(16)
 }
 
 // Writes all data records of a chip, and says where they end.
@@ -84,27 +78,25 @@ fn put_chip(text: &mut [u8], chip: &[u8]) -> usize
 {
     let count = (chip.len() + 15) / 16;
     let mut at: usize = 0;
-    let mut k: usize = 0;
-    while k < count {
+    for k in 0..count {
         at = put_ahead(text, at, k);
         at = put_data(text, at, chip, k);
-        k += 1;
     }
     at
 }
 
 // Writes a chip's text, and says how long it is.
-pub fn write_hex(chip: &[u8], text: &mut [u8]) -> WriteAnswer
+pub fn write_hex(chip: &[u8], text: &mut [u8]) -> Result<usize, Refusal>
     ensures { wrote_as result text.new ≡ write_of chip.now text.old }
 {
     if too_long(chip.len()) {
-        return WriteAnswer::Refused(Refusal::OutOfDomain);
+        return Err(Refusal::OutOfDomain);
     }
     let n = text_length(chip.len());
     if text.len() < n {
-        return WriteAnswer::Refused(Refusal::ShortBuffer);
+        return Err(Refusal::ShortBuffer);
     }
     let end = put_chip(text, chip);
     put(text, end, b":00000001FF\n");
-    WriteAnswer::Written(n)
+    Ok(n)
 }

@@ -30,10 +30,8 @@ fn put_bytes(text: &mut [u8], at: usize, bytes: &[u8])
     requires { at + 2 * length bytes.now ≤ length text.old }
     ensures { text.new ≡ laid text.old at (hex_bytes bytes.now) }
 {
-    let mut k: usize = 0;
-    while k < bytes.len() {
+    for k in 0..bytes.len() {
         put_byte(text, at + 2 * k, bytes[k]);
-        k += 1;
     }
 }
 

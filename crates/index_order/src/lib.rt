@@ -42,10 +42,8 @@ fn with_picks(map: Map, picks: Map) -> Map
     let positions = picks.positions;
     let n = picks.lines;
     let mut out = map;
-    let mut k: u8 = 0;
-    while k < n {
+    for k in 0..n {
         out = push(out, entry(&positions, k as usize));
-        k += 1;
     }
     out
 }
@@ -55,10 +53,8 @@ fn with_free(map: Map, taken: u32, pins: u8) -> Map
     ensures { Extends map result }
 {
     let mut out = map;
-    let mut p: u8 = 0;
-    while p < pins {
+    for p in 0..pins {
         out = push_free(out, p, bit_at(taken, p) == 0);
-        p += 1;
     }
     out
 }
@@ -90,12 +86,10 @@ fn apart(positions: &[u8], n: usize, pins: u8) -> bool
 {
     let mut ok = true;
     let mut seen: u32 = 0;
-    let mut k: usize = 0;
-    while k < n {
+    for k in 0..n {
         let p = entry(positions, k);
         ok = ok & (p < pins) & (bit_at(seen, p) == 0);
         seen = seen | 1u32 << (p % 32);
-        k += 1;
     }
     ok
 }

@@ -1,6 +1,6 @@
 -- The slots of the joint table, and the layouts and bytes of its builds: Single, one chip in a socket of 24 pins, 8-bit mode, L 256.
 -- Assumes nothing.
-use Rattle.std.specs.Prelude.{ℕ, ◌-◌, true, false, List, [], ◌∷◌, ◌++◌, map, pos, length, replicate}
+use Rattle.std.specs.Prelude.{ℕ, ◌-◌, true, false, List, [], ◌∷◌, ◌++◌, map, pos, length, replicate, None, Option}
 use Rattle.gpio.specs.declared.candidates.Candidates.{Candidates}
 use Rattle.gpio.specs.declared.candidates.Candidates.TheVariants.{Absent, One}
 use Rattle.slot.specs.Description.{no_pin, no_line}
@@ -12,12 +12,8 @@ use Rattle.slot.specs.declared.description.CsConfig.TheVariants.{CeOe}
 use Rattle.slot.specs.declared.description.Description.{Description}
 use Rattle.multi_select.specs.MultiCsConfig.{nothing}
 use Rattle.addr_layout.specs.Layout.{no_layout}
-use Rattle.gpio.specs.declared.line.LineGpio.TheVariants.{Unused}
 use Rattle.addr_layout.specs.declared.layout.AddrLayout.{AddrLayout}
 use Rattle.cs_data_layout.specs.Layout.{line}
-use Rattle.cs_data_layout.specs.declared.layout.GivenLayout.{GivenLayout}
-use Rattle.cs_data_layout.specs.declared.layout.IgnoreIndex.TheVariants.{None}
-use Rattle.cs_data_layout.specs.declared.layout.Qualifiers.{Qualifiers}
 use Rattle.cs_data_layout.specs.declared.layout.CsDataLayout.{CsDataLayout}
 use Rattle.build_args.specs.Images.{no_span}
 use Rattle.build_args.specs.declared.images.ImageSpan.{ImageSpan}
@@ -66,8 +62,8 @@ selects_at ce oe =
     (chip_with (4 ∷ []) (1 ∷ []) (record { kind = 0; pin = 2 } ∷ record { kind = 1; pin = 3 } ∷ []) 2)
 
 -- no address layout is handed to the select search
-abbrev pub not_given : GivenLayout
-not_given = record { given = false; layout = no_layout }
+abbrev pub not_given : Option AddrLayout
+not_given = None
 
 -- a build goes by the layouts handed in, and looks at no candidate
 -- 01 Bench 6: a chip of as many bytes, with two address lines and eight data lines
@@ -79,8 +75,8 @@ abbrev pub address_lines : AddrLayout
 address_lines = record {
   gpio_base = 0;
   num_addr_pins = 2;
-  x1_gpio = Unused;
-  x2_gpio = Unused;
+  x1_gpio = None;
+  x2_gpio = None;
   gpios = array 24 (0 ∷ 1 ∷ []) 0;
   num_lines = 2;
   num_excess = 0;
@@ -100,7 +96,7 @@ data_lines_at gpios = record {
   num_select_lines = 0;
   commoned_lines = replicate 6 (line 0 0);
   num_commoned_lines = 0;
-  qualifiers = Qualifiers.Absent;
+  qualifiers = None;
 }
 
 abbrev pub in_order : CsDataLayout

@@ -2,12 +2,13 @@
 use mathlib.Core.Path.{◌≡◌, refl, ◌∙◌}
 use mathlib.Core.List.{List, [], ◌∷◌, ◌++◌}
 use mathlib.Core.Logic.{◌⊎◌, inl, inr}
-use Prim.Native.Nat.{ℕ, zero, suc, ◌+◌, ◌<◌, ◌≤◌}
+use Prim.Native.Nat.{ℕ, zero, suc, ◌+◌, ◌-◌, ◌<◌, ◌≤◌}
 use native.Mathlib.Nat.{add-zero, zero-add}
 use native.Mathlib.Numerals.{add-one}
 use native.Mathlib.Omega.{arith}
 use lib.ListN.{length, get_or, take, drop, set, length-set}
-use lib.Seq.{take-suc, take_all, length-take-le, get_or-set_same, get_or-set_other, sets, sets-eq}
+use Rattle.std.proofs.Common.{append_assoc}
+use lib.Seq.{drop-drop, take-suc, take_all, length-take-le, get_or-set_same, get_or-set_other, sets, sets-eq}
 use Rattle.laid_bytes.specs.Laid.{laid}
 use Rattle.laid_bytes.specs.Law.{LaidLaw}
 
@@ -71,6 +72,13 @@ laid_sets b at (x ∷ xs) = rw add-one (laid_sets (set b at x) (suc at) xs)
 -- bytes that a buffer has room for, with what stands before them and behind them
 pub laid_parts : (b : List ℕ) (at : ℕ) (xs : List ℕ) → at + length xs ≤ length b → laid b at xs ≡ take at b ++ xs ++ drop (at + length xs) b
 laid_parts b at xs h = laid_sets b at xs ∙ sets-eq xs b at h
+
+-- the same of a part of the buffer that holds them
+pub laid_part : (b part xs : List ℕ) (at : ℕ) → at + length xs ≤ length b → part ≡ xs
+    → take at b ++ (part ++ drop (at + length xs - at) (drop at b)) ≡ laid b at xs
+laid_part b part xs at h e =
+    let n : at + length xs - at ≡ length xs = omega arith in
+    rw (laid_parts b at xs h, e, n, drop-drop, append_assoc)
 
 pub laid-front : (b xs : List ℕ) → length xs ≤ length b → laid b 0 xs ≡ xs ++ drop (length xs) b
 laid-front b xs h = rw zero-add at (laid_parts b 0 xs (omega arith))

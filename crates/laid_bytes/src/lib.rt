@@ -5,20 +5,18 @@ ghost use Rattle.std.specs.Prelude.{◌≡◌, ◌+◌, ◌++◌, ◌≤◌, len
 ghost use Rattle.laid_bytes.specs.Laid.{laid};
 
 // Lays bytes over a buffer's from a place on, and says where they end.
+#[tactic(auto, using(crate::proofs::Laids::laid_part))]
 pub fn put(buffer: &mut [u8], at: usize, bytes: &[u8]) -> usize
     requires { at + length bytes.now ≤ length buffer.old }
     ensures value { result ≡ at + length bytes.now }
     ensures buffer_after { buffer.new ≡ laid buffer.old at bytes.now }
 {
-    let mut k: usize = 0;
-    while k < bytes.len() {
-        buffer[at + k] = bytes[k];
-        k += 1;
-    }
-    at + bytes.len()
+    let end = at + bytes.len();
+    buffer[at..end].copy_from_slice(bytes);
+    end
 }
 
-// Lays bytes over the front of a buffer.
+// Lays bytes over the front of a buffer: `put` at 0, promised by what stands behind them, as who copies a whole file reads it.
 pub fn copy(bytes: &[u8], buffer: &mut [u8])
     requires { length bytes.now ≤ length buffer.old }
     ensures len { length buffer.new ≡ length buffer.old }

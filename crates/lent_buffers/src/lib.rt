@@ -7,16 +7,12 @@ ghost use Rattle.lent_buffers.specs.Design.Buffers.{WordIn, kept, keep_word};
 
 use words::{put_word, word_at};
 
-// Makes each of the first n bytes the same.
+// Makes each of the first n bytes the same, by the slice's own `fill`: here is what it leaves of the whole buffer.
 pub fn fill(buffer: &mut [u8], n: usize, byte: u8)
     requires { n ≤ length buffer.old }
     ensures { buffer.new ≡ replicate n byte ++ drop n buffer.old }
 {
-    let mut k: usize = 0;
-    while k < n {
-        buffer[k] = byte;
-        k += 1;
-    }
+    buffer[..n].fill(byte);
 }
 
 // Keeps a value of word f where it has none yet. Whether it is the one kept.
@@ -39,12 +35,10 @@ pub fn first_missing(marks: &[u8], words: u32) -> u32
     requires { words ≤ length marks.now }
     ensures { result ≡ first_where words (λ f. eqb (get_or marks.now f 0) 0) }
 {
-    let mut f: u32 = 0;
-    while f < words {
+    for f in 0..words {
         if marks[f as usize] == 0 {
             return f;
         }
-        f += 1;
     }
     words
 }

@@ -1,5 +1,6 @@
 -- In a description of the domain the candidates of a chip's pin and of X1 and X2 are GPIOs of the RP2350. Lists of such pins, and
 -- the GPIO that a choice takes from one. Assumes nothing.
+use Rattle.std.specs.Prelude.{Some, None}
 use mathlib.Core.Path.{◌≡◌, refl}
 use mathlib.Core.Bool.{Bool, true, false, ◌&&◌, ◌||◌, cond}
 use mathlib.Core.List.{List, [], ◌∷◌, ◌++◌}
@@ -15,7 +16,6 @@ use Rattle.lists.proofs.Bools.{and_left, and_right}
 use Rattle.slot.specs.SlotContext.{board_pins_in, raised_of}
 use Rattle.slot.specs.declared.description.Board.{Board}
 use Rattle.slot.specs.declared.description.Description.{Description}
-use Rattle.slot.specs.declared.slot_context.Socket.TheVariants.{On, Off}
 use Rattle.domain.specs.Domain.{description_in}
 use Rattle.domain.proofs.Bounds.{BoardIn, description_in_lem}
 use Rattle.listing.specs.Choice.{low_bit, chosen, pin_at, rest_at, gpio_at, GpiosIn}
@@ -65,7 +65,7 @@ module _ (b : Board) (e : BoardIn b) where
   place_in (suc s) l = rw (le-leb 1 (suc s) (omega arith)) (e.socket (suc s - 1) (omega arith))
 
   -- on the socket by the test t, or off it
-  on_in : (s : ℕ) (t : Bool) → leb 1 s && leb s b.pins ≡ t → candidates_in (socket_candidates b (cond t (On s) Off)) ≡ true
+  on_in : (s : ℕ) (t : Bool) → leb 1 s && leb s b.pins ≡ t → candidates_in (socket_candidates b (cond t (Some s) None)) ≡ true
   on_in s false h = refl
   on_in s true h =
       let pins = pins-fit b.pins e.pins in

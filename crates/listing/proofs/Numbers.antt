@@ -1,4 +1,5 @@
 -- The choice numbers are the choices of candidates, one each. Assumes nothing.
+use Rattle.std.specs.Prelude.{None}
 use mathlib.Core.Path.{◌≡◌, refl, sym, ◌∙◌, ap}
 use mathlib.Core.Bool.{Bool, true, false, cond, ◌&&◌}
 use mathlib.Core.List.{List, [], ◌∷◌}
@@ -13,7 +14,6 @@ use Rattle.lists.proofs.Bools.{and_right}
 use Rattle.gpio.specs.Candidates.{two, gpio_in, candidates_in}
 use Rattle.gpio.specs.declared.candidates.Candidates.{Candidates}
 use Rattle.gpio.specs.declared.candidates.Candidates.TheVariants.{Absent, One, Two}
-use Rattle.refusal.specs.declared.first.FirstFault.TheVariants.{None}
 use Rattle.listing.specs.Choice.{low_bit, chosen, left_by, CandidateOf, pin_at, rest_at, gpio_at, GpiosIn, bit_of}
 use Rattle.listing.specs.Law.{Assigned, Makes, Numbers}
 use Rattle.listing.specs.Listing.{count, twos, first_fault}

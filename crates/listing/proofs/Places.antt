@@ -1,4 +1,5 @@
 -- The first fault of a list is one of document 01's rows, with a place of 48 bits, if each pin's fault is; lists put together of such pins. Assumes nothing.
+use Rattle.std.specs.Prelude.{Option, None}
 use Prim.Native.Nat.{ℕ, zero, suc, ◌<◌}
 use mathlib.Core.Bool.{Bool, true, false, cond}
 use mathlib.Core.List.{List, [], ◌∷◌, ◌++◌}
@@ -8,8 +9,6 @@ use Rattle.gpio.specs.declared.candidates.Candidates.{Candidates}
 use Rattle.gpio.specs.declared.candidates.Candidates.TheVariants.{Absent, One, Two}
 use Rattle.slot.specs.declared.description.Board.{Board}
 use Rattle.refusal.specs.declared.Refusal.{Refusal}
-use Rattle.refusal.specs.declared.first.FirstFault.{FirstFault}
-use Rattle.refusal.specs.declared.first.FirstFault.TheVariants.{None}
 use Rattle.refusal.proofs.Places.{FirstRow, Small, small_or}
 use Rattle.listing.specs.Listing.{x_pins, fault_of, keep_fault, fault_from, first_fault}
 use Rattle.listing.specs.declared.Listed.{Listed}
@@ -45,7 +44,7 @@ small_of Absent why h = h
 small_of (One g) why h = tt
 small_of (Two g k) why h = tt
 
-small_from : (f : FirstFault) (ls : List Listed) → Small f → Placed ls → Small (fault_from f ls)
+small_from : (f : Option Refusal) (ls : List Listed) → Small f → Placed ls → Small (fault_from f ls)
 unfolding fault_from
 small_from f [] s p = s
 small_from f (l ∷ ls) s p =

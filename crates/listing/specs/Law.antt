@@ -1,15 +1,15 @@
 -- The first fault of a list; demand 2's choices of candidates, and the numbers that they go by. Assumes nothing.
-use Rattle.std.specs.Prelude.{ℕ, ◌/◌, ◌%◌, ◌^◌, ◌<◌, ◌≡◌, cond, List, eqb, length, get_or}
+use Rattle.refusal.specs.declared.Refusal.{Refusal}
+use Rattle.std.specs.Prelude.{ℕ, ◌/◌, ◌%◌, ◌^◌, ◌<◌, ◌≡◌, cond, List, eqb, length, get_or, Option}
 use Rattle.gpio.specs.declared.candidates.Candidates.TheVariants.{Absent, Two}
 use Rattle.refusal.specs.First.{first_of}
 use Rattle.refusal.specs.declared.Refusal.TheVariants.{OutOfDomain}
-use Rattle.refusal.specs.declared.first.FirstFault.{FirstFault}
 use Rattle.listing.specs.Choice.{CandidateOf, pin_at, gpio_at, bit_of}
 use Rattle.listing.specs.Listing.{listed, twos, fault_of, first_fault}
 use Rattle.listing.specs.declared.Listed.{Listed}
 
 -- the fault of the k-th pin, where it has no candidate
-abbrev pub fault_at : List Listed → ℕ → FirstFault
+abbrev pub fault_at : List Listed → ℕ → Option Refusal
 fault_at ls k = fault_of (pin_at ls k) (get_or ls k (listed Absent OutOfDomain)).fault
 
 -- 01 addr_layout 6: the first fault of a list is that of its lowest pin that has no candidate

@@ -1,5 +1,5 @@
 -- A chip's pins in the socket, and its control lines by kind. Assumes nothing.
-use Rattle.std.specs.Prelude.{ℕ, zero, suc, cond, eqb}
+use Rattle.std.specs.Prelude.{ℕ, zero, suc, cond, eqb, Option, Some, None}
 use Rattle.gpio.specs.declared.candidates.Candidates.{Candidates}
 use Rattle.gpio.specs.declared.candidates.Candidates.TheVariants.{Absent}
 use Rattle.slot.specs.Description.{chip0, line_at, kind_at}
@@ -7,19 +7,17 @@ use Rattle.slot.specs.SlotContext.{raised_of, socket_of}
 use Rattle.slot.specs.declared.description.Board.{Board}
 use Rattle.slot.specs.declared.description.ControlLines.{ControlLines}
 use Rattle.slot.specs.declared.description.Description.{Description}
-use Rattle.slot.specs.declared.slot_context.Socket.{Socket}
-use Rattle.slot.specs.declared.slot_context.Socket.TheVariants.{On, Off}
 use Rattle.listing.specs.Listing.{candidates_at}
 
 -- the socket pin under a chip pin
 -- 01 slot_context 2: the offset from chip pin to socket pin is taken from the description
-abbrev pub pin_socket : Description → ℕ → Socket
+abbrev pub pin_socket : Description → ℕ → Option ℕ
 pin_socket d pin = socket_of pin (raised_of d.pin_offset) d.board.pins
 
 -- the candidates at a place of the socket: none off it
-abbrev pub socket_candidates : Board → Socket → Candidates
-socket_candidates b (On s) = candidates_at b s
-socket_candidates b Off = Absent
+abbrev pub socket_candidates : Board → Option ℕ → Candidates
+socket_candidates b (Some s) = candidates_at b s
+socket_candidates b None = Absent
 
 unfoldable pub pin_candidates : Description → ℕ → Candidates
 pin_candidates d pin = socket_candidates d.board (pin_socket d pin)

@@ -1,5 +1,5 @@
 -- The pins that a search lists. Assumes nothing.
-use Rattle.std.specs.Prelude.{ℕ, ◌+◌, ◌-◌, Bool, cond, List, [], ◌∷◌, leb, eqb, get_or}
+use Rattle.std.specs.Prelude.{ℕ, ◌+◌, ◌-◌, Bool, cond, List, [], ◌∷◌, leb, eqb, get_or, Option, Some, None}
 use Rattle.gpio.specs.Candidates.{two}
 use Rattle.gpio.specs.declared.candidates.Candidates.{Candidates}
 use Rattle.gpio.specs.declared.candidates.Candidates.TheVariants.{Absent, One, Two}
@@ -9,8 +9,6 @@ use Rattle.refusal.specs.First.{or_else}
 use Rattle.refusal.specs.declared.Refusal.{Refusal}
 use Rattle.refusal.specs.declared.Refusal.TheVariants.{MissingXPin}
 use Rattle.listing.specs.declared.Listed.{Listed}
-use Rattle.refusal.specs.declared.first.FirstFault.{FirstFault}
-use Rattle.refusal.specs.declared.first.FirstFault.TheVariants.{None, Of}
 
 -- a pin with its candidates, and the refusal that answers where it has none
 abbrev pub listed : Candidates → Refusal → Listed
@@ -40,18 +38,18 @@ unfoldable pub twos : List Listed → ℕ
 twos [] = 0
 twos (l ∷ ls) = count (two_listed l) + twos ls
 
-abbrev pub fault_of : Candidates → Refusal → FirstFault
-fault_of Absent r = Of r
+abbrev pub fault_of : Candidates → Refusal → Option Refusal
+fault_of Absent r = Some r
 fault_of (One g) r = None
 fault_of (Two g h) r = None
 
-abbrev pub keep_fault : FirstFault → Listed → FirstFault
+abbrev pub keep_fault : Option Refusal → Listed → Option Refusal
 keep_fault f l = or_else f (fault_of l.gpios l.fault)
 
-unfoldable pub fault_from : FirstFault → List Listed → FirstFault
+unfoldable pub fault_from : Option Refusal → List Listed → Option Refusal
 fault_from f [] = f
 fault_from f (l ∷ ls) = fault_from (keep_fault f l) ls
 
 -- 01 addr_layout 6: the fault of the first pin in the list that has no candidate
-abbrev pub first_fault : List Listed → FirstFault
+abbrev pub first_fault : List Listed → Option Refusal
 first_fault ls = fault_from None ls

@@ -1,6 +1,6 @@
 // What a choice number makes of a list of pins: each two-candidate pin takes the lowest bit of what the pins before it
 // left of the number.
-ghost use Rattle.std.specs.Prelude.{◌≡◌, cond, ◌≤◌};
+ghost use Rattle.std.specs.Prelude.{◌≡◌, cond, ◌≤◌, ltb, get_or};
 ghost use Rattle.lists.specs.Tab.{tab};
 ghost use Rattle.listing.specs.Design.Packed.{list_of};
 ghost use Rattle.listing.specs.Choice.{chosen, left_by, gpio_at};
@@ -55,15 +55,13 @@ pub fn resolve(l: Listing, choice: u32) -> [u8; 30]
     let count = l.count;
     let mut out = [0u8; 30];
     let mut rest = choice;
-    let mut k: usize = 0;
-    while k < count {
+    for k in 0..count {
         let packed = l.pins[k];
         let pin = packed.listed();
         let gpios = pin.gpios;
         let picked = pick(gpios, rest);
         out[k] = picked.gpio;
         rest = picked.rest;
-        k += 1;
     }
     out
 }
@@ -73,4 +71,16 @@ pub fn gpio_if(there: bool, g: u8) -> u8
     ensures { result ≡ cond there g 0 }
 {
     if there { g } else { 0 }
+}
+
+// The GPIOs of so many lines, 0 past them.
+pub fn first_gpios<const N: usize>(all: [u8; 30], lines: usize) -> [u8; N]
+    requires { N ≤ 30 }
+    ensures { result ≡ tab N (λ k. cond (ltb k lines) (get_or all k 0) 0) }
+{
+    let mut out = [0u8; N];
+    for k in 0..N {
+        out[k] = gpio_if(k < lines, all[k]);
+    }
+    out
 }

@@ -12,7 +12,6 @@ ghost use Rattle.listing.specs.Design.Packed.{listed_by, list_of};
 use gpio::candidates::Candidates;
 use packed::{MISSING_X_PIN, Packed, pack};
 use refusal::Refusal;
-use refusal::first::FirstFault;
 use slot::description::Board;
 
 // A listed pin.
@@ -117,30 +116,26 @@ pub fn choice_bits(l: Listing) -> u32
 {
     let n = l.count;
     let mut sum: u32 = 0;
-    let mut k: usize = 0;
-    while k < n {
+    for k in 0..n {
         let pin = l.pins[k];
         sum += bits(pin.listed());
-        k += 1;
     }
     sum
 }
 
 // The fault of the first listed pin without candidates. Pins that have some are passed by their number alone.
-pub fn first_fault(l: Listing) -> FirstFault
+pub fn first_fault(l: Listing) -> Option<Refusal>
     requires { l.count ≤ 30 }
     ensures { result ≡ first_fault (list_of l) }
 {
     let n = l.count;
-    let mut k: usize = 0;
-    while k < n {
+    for k in 0..n {
         let pin = l.pins[k];
         if pin.candidates == 0 {
             let listed = pin.listed();
             let fault = listed.fault;
-            return FirstFault::Of(fault);
+            return Some(fault);
         }
-        k += 1;
     }
-    FirstFault::None
+    None
 }

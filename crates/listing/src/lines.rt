@@ -7,10 +7,9 @@ use gpio::candidates::Candidates;
 use lists::array::entry;
 use slot::description::{ControlLine, ControlLines, Description};
 use slot::slot_context;
-use slot::slot_context::Socket;
 
 // The socket pin under a chip pin.
-pub fn pin_socket(d: Description, pin: u8) -> Socket
+pub fn pin_socket(d: Description, pin: u8) -> Option<u8>
     ensures { result ≡ pin_socket d pin }
 {
     let board = d.board;
@@ -25,8 +24,8 @@ pub fn pin_candidates(d: Description, pin: u8) -> Candidates
     let board = d.board;
     let s = pin_socket(d, pin);
     match s {
-        Socket::On(socket_pin) => crate::candidates_at(board, socket_pin),
-        Socket::Off => Candidates::Absent,
+        Some(socket_pin) => crate::candidates_at(board, socket_pin),
+        None => Candidates::Absent,
     }
 }
 
@@ -43,10 +42,8 @@ fn pin_of(lines: ControlLines, kind: u8) -> u8
 {
     let count = lines.count as usize;
     let mut pin: u8 = 0;
-    let mut k: usize = 0;
-    while k < count {
+    for k in 0..count {
         pin = pin_if(control_line(lines, k), kind, pin);
-        k += 1;
     }
     pin
 }

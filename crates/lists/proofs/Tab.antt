@@ -3,12 +3,13 @@ use mathlib.Core.Path.{◌≡◌, refl, sym, ◌∙◌, ap}
 use mathlib.Core.Bool.{Bool, true, false}
 use mathlib.Core.List.{List, [], ◌∷◌}
 use mathlib.Core.Logic.{inl, inr}
-use Prim.Native.Nat.{ℕ, zero, suc, ◌+◌, ◌≤◌, ◌<◌}
+use Prim.Native.Nat.{ℕ, zero, suc, ◌+◌, ◌-◌, ◌≤◌, ◌<◌}
 use native.Mathlib.Numerals.{add-one}
 use native.Mathlib.Omega.{arith}
 use native.Mathlib.Nat.{le_of_suc-le-suc, eq-or-lt_of_le}
 use lib.Dec.{ltb}
-use lib.ListN.{length, take, get_or, set, replicate, length-set, length-append, length-replicate, get_or-append}
+use lib.ListN.{length, take, drop, get_or, set, replicate, length-set, length-append, length-replicate, length-take, length-drop, get_or-append}
+use Rattle.std.proofs.lemmas.List.{get_or-drop}
 use lib.Seq.{take-suc-set, take_all, take-suc, get_or_at, get_or-take, get_or-set_other}
 use borrow.Author.Tests.{ltb-true, ltb-false}
 use Rattle.lists.specs.Tab.{tab, joined}
@@ -64,6 +65,13 @@ module _ {A : Type 0} (f : ℕ → A) where
         | inl e ↦ rw e (get_or_at (tab n f) (f n) [] z n (tab-length n))
         | inr l ↦ get_or-append (tab n f) (f n ∷ []) z k (rw (tab-length n) l) ∙ get_or-tab n k z l
       ]
+
+-- the part of a list from p to e, entry by entry
+pub tab_part : (l : List ℕ) (p e n : ℕ) → e ≡ p + n → e ≤ length l → take (e - p) (drop p l) ≡ tab n (λ k. get_or l (p + k) 0)
+tab_part l p e n q h =
+    let m : e - p ≡ n = omega arith in
+    rw m (sym (tab_is (λ k. get_or l (p + k) 0) (take n (drop p l)) 0 n (simp (length-take, length-drop) (omega arith))
+    (λ j q. sym (get_or-take n (drop p l) j 0 q ∙ get_or-drop p l j 0))))
 
 -- two fillings that agree below the count
 pub tab_cong : {A : Type 0} (f g : ℕ → A) (n : ℕ) → ((k : ℕ) → k < n → f k ≡ g k) → tab n f ≡ tab n g

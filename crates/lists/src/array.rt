@@ -27,11 +27,9 @@ pub fn all_between(list: &[u8], count: u8, low: u8, high: u8) -> bool
 {
     let n = count as usize;
     let mut ok = true;
-    let mut k: usize = 0;
-    while k < n {
+    for k in 0..n {
         let x = entry(list, k);
         ok = ok & ((low <= x) & (x <= high));
-        k += 1;
     }
     ok
 }

@@ -2,4 +2,3 @@
 #![tactic(auto)]
 
 pub mod array; // an array's entries
-pub mod number; // the lower of two numbers

@@ -1,4 +1,5 @@
 -- The lines sorted one by one come to what the tests pick. Assumes nothing.
+use Rattle.std.specs.Prelude.{Result, Ok, Err}
 use mathlib.Core.Path.{◌≡◌, refl, sym, ◌∙◌, ap}
 use mathlib.Core.Bool.{Bool, true, false, ◌&&◌, ◌||◌, not, cond}
 use mathlib.Core.List.{List, [], ◌∷◌, ◌++◌, append_assoc, append-nil}
@@ -12,11 +13,11 @@ use borrow.Author.Tests.{ne_eqb}
 use Rattle.slot.specs.Description.{kind_at}
 use Rattle.slot.specs.declared.description.ControlLines.{ControlLines}
 use Rattle.slot.specs.declared.description.CsConfig.{CsConfig}
+use Rattle.slot.specs.declared.description.MultiCsConfig.{MultiCsConfig}
 use Rattle.control.specs.CsConfig.{ignores}
-use Rattle.multi_select.specs.MultiCsConfig.{named, named_count, is_ignored, is_commoned, kinds_of, last_of, eight, config_of, selects_of, config_from, multi_refused, multi_answer_of}
+use Rattle.multi_select.specs.MultiCsConfig.{named, named_count, is_ignored, is_commoned, kinds_of, last_of, eight, config_of, selects_of, config_from, multi_answer_of}
+use Rattle.refusal.specs.declared.Refusal.{Refusal}
 use Rattle.refusal.specs.declared.Refusal.TheVariants.{NoActiveLine}
-use Rattle.multi_select.specs.declared.MultiAnswer.{MultiAnswer}
-use Rattle.multi_select.specs.declared.MultiOutcome.TheVariants.{Derived}
 use Rattle.multi_select.specs.Design.Sorted.{line_part, sorted_with, sorted}
 use Rattle.multi_select.specs.declared.Part.TheVariants.{Dropped, Select, Commoned, Ignored}
 use Rattle.multi_select.specs.declared.Sorted.{Sorted}
@@ -98,9 +99,9 @@ module _ (lines : ControlLines) (chip0 secondary : CsConfig) where
 
   -- and answer so
   pub answers : (s : Sorted) → lines.count ≤ 8 → s ≡ sorted lines chip0 secondary lines.count
-      → multi_answer_of lines chip0 secondary ≡ cond s.found (record { outcome = Derived; config = s.config }) (multi_refused NoActiveLine)
+      → multi_answer_of lines chip0 secondary ≡ cond s.found (Ok s.config) (Err NoActiveLine)
   answers s l e = rw (e, sorted_is lines.count l) (turned (eqb (length (selects_of lines secondary lines.count)) 0) _ _)
     where
-      turned : (t : Bool) (x y : MultiAnswer) → cond t x y ≡ cond (not t) y x
+      turned : (t : Bool) (x y : Result MultiCsConfig Refusal) → cond t x y ≡ cond (not t) y x
       turned true x y = refl
       turned false x y = refl

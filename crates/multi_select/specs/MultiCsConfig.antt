@@ -1,5 +1,5 @@
 -- multi_cs_config.rs: the part of each control line in a Multi set. Assumes nothing.
-use Rattle.std.specs.Prelude.{ℕ, zero, suc, ◌-◌, Bool, ◌&&◌, ◌||◌, not, cond, List, [], ◌∷◌, ◌++◌, leb, eqb, length, get_or, replicate}
+use Rattle.std.specs.Prelude.{ℕ, zero, suc, ◌-◌, Bool, ◌&&◌, ◌||◌, not, cond, List, [], ◌∷◌, ◌++◌, leb, eqb, length, get_or, replicate, Result, Ok, Err}
 use Rattle.lists.specs.Each.{tally}
 use Rattle.slot.specs.Description.{kind_at, cs4_kind}
 use Rattle.slot.specs.declared.description.ControlLines.{ControlLines}
@@ -10,9 +10,6 @@ use Rattle.refusal.specs.declared.Refusal.{Refusal}
 use Rattle.refusal.specs.declared.Refusal.TheVariants.{OutOfDomain, NoActiveLine}
 use Rattle.domain.specs.Domain.{control_in}
 use Rattle.control.specs.CsConfig.{ignores}
-use Rattle.multi_select.specs.declared.MultiOutcome.{MultiOutcome}
-use Rattle.multi_select.specs.declared.MultiOutcome.TheVariants.{Derived, Refused}
-use Rattle.multi_select.specs.declared.MultiAnswer.{MultiAnswer}
 
 -- 01 Shape 5: a line has a name if its kind is at most 5
 abbrev pub named : ℕ → Bool
@@ -70,26 +67,23 @@ config_from lines chip0 secondary n =
     config_of (selects_of lines secondary n) (kinds_of lines (is_commoned (eqb (named_count lines) 1) chip0 secondary) n)
     (kinds_of lines (is_ignored (eqb (named_count lines) 1) chip0 secondary) n)
 
-abbrev pub multi_refused : Refusal → MultiAnswer
-multi_refused why = record { outcome = Refused why; config = nothing }
-
 -- 01 Numbers 1: the code of a Multi configuration
-abbrev pub multi_code : MultiOutcome → Code
-multi_code Derived = success
-multi_code (Refused why) = refusal_code why
+abbrev pub multi_code : Result MultiCsConfig Refusal → Code
+multi_code (Ok config) = success
+multi_code (Err why) = refusal_code why
 
 -- 01 Number 25: no line became the select
-abbrev pub multi_derived : List ℕ → MultiCsConfig → MultiAnswer
+abbrev pub multi_derived : List ℕ → MultiCsConfig → Result MultiCsConfig Refusal
 multi_derived selects config =
-    cond (eqb (length selects) 0) (multi_refused NoActiveLine) (record { outcome = Derived; config = config })
+    cond (eqb (length selects) 0) (Err NoActiveLine) (Ok config)
 
 -- the lines by their parts, line by line
-abbrev pub multi_answer_of : ControlLines → CsConfig → CsConfig → MultiAnswer
+abbrev pub multi_answer_of : ControlLines → CsConfig → CsConfig → Result MultiCsConfig Refusal
 multi_answer_of lines chip0 secondary =
     multi_derived (selects_of lines secondary lines.count) (config_from lines chip0 secondary lines.count)
 
 -- 01 Number 1: the control lines are outside the domain
 -- 01 Numbers 2: the domain is tested before any line is looked at
-abbrev pub multi_answer : ControlLines → CsConfig → CsConfig → MultiAnswer
+abbrev pub multi_answer : ControlLines → CsConfig → CsConfig → Result MultiCsConfig Refusal
 multi_answer lines chip0 secondary =
-    cond (control_in lines) (multi_answer_of lines chip0 secondary) (multi_refused OutOfDomain)
+    cond (control_in lines) (multi_answer_of lines chip0 secondary) (Err OutOfDomain)

@@ -3,7 +3,7 @@
 #![tactic(auto)]
 
 ghost use Rattle.std.specs.Prelude.{◌≡◌, cond, ◌≤◌, ◌<◌};
-ghost use Rattle.multi_select.specs.MultiCsConfig.{named, named_count, nothing, multi_refused, multi_answer};
+ghost use Rattle.multi_select.specs.MultiCsConfig.{named, named_count, nothing, multi_answer};
 ghost use Rattle.multi_select.specs.Design.Sorted.{line_part, sorted_with, sorted};
 
 use control::cs_config::line_ignored;
@@ -21,25 +21,12 @@ pub enum Part {
     Ignored,
 }
 
-// The lines passed so far by their parts, and whether one of them was a select.
+// The lines passed so far by their parts, and whether one of them was a select. The flag stands beside the lists, since they count
+// without a select too, in the definition (`sorted`).
 #[derive(Clone, Copy)]
 pub struct Sorted {
     pub config: MultiCsConfig,
     pub found: bool,
-}
-
-// Whether a configuration is derived, and if not why.
-#[derive(Clone, Copy)]
-pub enum MultiOutcome {
-    Derived,
-    Refused(Refusal),
-}
-
-// The answer, and the configuration; of a refused call the configuration is all 0.
-#[derive(Clone, Copy)]
-pub struct MultiAnswer {
-    pub outcome: MultiOutcome,
-    pub config: MultiCsConfig,
 }
 
 // What a line adds to the number of named lines.
@@ -57,11 +44,9 @@ fn named_count(lines: ControlLines) -> u8
 {
     let n = lines.count as usize;
     let mut count: u8 = 0;
-    let mut k: usize = 0;
-    while k < n {
+    for k in 0..n {
         let kind = kind_at(lines, k);
         count += counted(kind);
-        k += 1;
     }
     count
 }
@@ -160,22 +145,12 @@ fn sort(lines: ControlLines, chip0: CsConfig, secondary: CsConfig) -> Sorted
         config,
         found: false,
     };
-    let mut k: usize = 0;
-    while k < n {
+    for k in 0..n {
         let kind = kind_at(lines, k);
         let part = part_of(single, chip0, secondary, kind);
         s = place(part, kind, s);
-        k += 1;
     }
     s
-}
-
-fn refused(why: Refusal) -> MultiAnswer
-    ensures { result ≡ multi_refused why }
-{
-    let outcome = MultiOutcome::Refused(why);
-    let config = nothing();
-    MultiAnswer { outcome, config }
 }
 
 // The select configuration of a Multi set: `secondary` are the settings that the chips after chip 0 share.
@@ -183,17 +158,16 @@ pub fn derive_multi_cs_config(
     lines: ControlLines,
     chip0: CsConfig,
     secondary: CsConfig,
-) -> MultiAnswer
+) -> Result<MultiCsConfig, Refusal>
     ensures { result ≡ multi_answer lines chip0 secondary }
 {
-    if control_in(lines) {
-        let s = sort(lines, chip0, secondary);
-        if s.found {
-            let outcome = MultiOutcome::Derived;
-            let config = s.config;
-            return MultiAnswer { outcome, config };
-        }
-        return refused(Refusal::NoActiveLine);
+    if !control_in(lines) {
+        return Err(Refusal::OutOfDomain);
     }
-    refused(Refusal::OutOfDomain)
+    let s = sort(lines, chip0, secondary);
+    if s.found {
+        Ok(s.config)
+    } else {
+        Err(Refusal::NoActiveLine)
+    }
 }

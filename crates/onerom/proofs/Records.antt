@@ -1,4 +1,5 @@
 -- What the calls share: a description record that is one or none, and whether the other records are. Assumes nothing.
+use Rattle.std.specs.Prelude.{Result, Ok, Err}
 use mathlib.Core.Path.{◌≡◌, ap, sym, ◌∙◌}
 use mathlib.Core.Bool.{Bool, true, false, not, cond}
 use mathlib.Core.List.{List}
@@ -7,25 +8,23 @@ use Rattle.slot.specs.declared.description.Description.{Description}
 use Rattle.refusal.specs.declared.Refusal.{Refusal}
 use Rattle.refusal.specs.declared.Refusal.TheVariants.{OutOfDomain}
 use Rattle.description_record.specs.Record.{described, well_formed, decoded_of}
-use Rattle.refusal.specs.declared.Answer.{Answer}
-use Rattle.refusal.specs.declared.Answer.TheVariants.{Done, Refused}
 use Rattle.description_record.specs.declared.Decoded.{Decoded}
 use Rattle.calls.specs.Calls.{if_described, if_record}
 
 module _ {A : Type 0} (f : Description → A) (refuse : Refusal → A) (b : List ℕ) (dec : Decoded) (e : dec ≡ decoded_of b) where
-  told : (a : Answer) → dec.answer ≡ a → if_described f refuse a dec.description ≡ if_record f refuse (decoded_of b)
-  told a t = ap (λ (x : Answer). if_described f refuse x dec.description) (sym t) ∙ ap (if_record f refuse) e
+  told : (a : Result (Unit {0}) Refusal) → dec.answer ≡ a → if_described f refuse a dec.description ≡ if_record f refuse (decoded_of b)
+  told a t = ap (λ (x : Result (Unit {0}) Refusal). if_described f refuse x dec.description) (sym t) ∙ ap (if_record f refuse) e
 
-  pub taken : dec.answer ≡ Done → f dec.description ≡ if_record f refuse (decoded_of b)
-  taken t = told Done t
+  pub taken : dec.answer ≡ Ok tt → f dec.description ≡ if_record f refuse (decoded_of b)
+  taken t = told (Ok tt) t
 
-  pub no_record : (why : Refusal) → dec.answer ≡ Refused why → refuse why ≡ if_record f refuse (decoded_of b)
-  no_record why t = told (Refused why) t
+  pub no_record : (why : Refusal) → dec.answer ≡ Err why → refuse why ≡ if_record f refuse (decoded_of b)
+  no_record why t = told (Err why) t
 
 -- a description record whose bytes are tested before it is read
 module _ {A : Type 0} (f : Description → A) (refuse : Refusal → A) (b : List ℕ) where
   abbrev by : Bool → A
-  by w = if_described f refuse (cond w Done (Refused OutOfDomain)) (described b)
+  by w = if_described f refuse (cond w (Ok tt) (Err OutOfDomain)) (described b)
 
   pub described_so : (t : Bool) → t ≡ well_formed b → not t ≡ false → f (described b) ≡ if_record f refuse (decoded_of b)
   described_so true e n = ap by e

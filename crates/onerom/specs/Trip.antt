@@ -1,8 +1,7 @@
 -- What the call of the round trip answers, and what the buffers lent to it hold then; and demand 3 of it. Assumes nothing.
-use Rattle.std.specs.Prelude.{ℕ, ◌≡◌, Bool, true, cond, ◌&&◌, List}
+use Rattle.std.specs.Prelude.{ℕ, ◌≡◌, Bool, true, cond, ◌&&◌, List, Ok}
 use Rattle.slot.specs.declared.description.Description.{Description}
 use Rattle.refusal.specs.declared.Refusal.TheVariants.{OutOfDomain}
-use Rattle.refusal.specs.declared.Answer.{Answer}
 use Rattle.description_record.specs.Record.{decoded_of}
 use Rattle.addr_layout.specs.declared.layout.AddrLayout.{AddrLayout}
 use Rattle.cs_data_layout.specs.declared.layout.CsDataLayout.{CsDataLayout}
@@ -57,7 +56,7 @@ TripDemanded order d spans images table output marks r =
 -- 00 Demand 3: the same over bytes, where description and spans are records, and the number is a byte order's
 abbrev pub CallDemanded : List ℕ → List ℕ → List ℕ → ℕ → List ℕ → List ℕ → List ℕ → ReadReturned → Type 0
 CallDemanded description spans images order table output marks r =
-    (decoded_of description).answer ≡ Answer.Done → trip_formed spans order ≡ true
+    (decoded_of description).answer ≡ Ok tt → trip_formed spans order ≡ true
     → TripDemanded (order_at order) (decoded_of description).description spans images table output marks r
 
 -- its number and its place come out of its result too

@@ -1,9 +1,8 @@
 -- What the call that tests a slot's wiring answers. Assumes nothing.
-use Rattle.std.specs.Prelude.{ℕ, ◌≡◌, true, cond, List}
+use Rattle.std.specs.Prelude.{ℕ, ◌≡◌, true, cond, List, Ok}
 use Rattle.slot.specs.declared.description.Description.{Description}
 use Rattle.domain.specs.Domain.{package_in}
 use Rattle.refusal.specs.declared.Refusal.TheVariants.{OutOfDomain}
-use Rattle.refusal.specs.declared.Answer.{Answer}
 use Rattle.description_record.specs.Record.{decoded_of}
 use Rattle.addr_record.specs.AddrRecord.{layout_at, layout_formed}
 use Rattle.premises.specs.WellWired.{WellWired}
@@ -35,7 +34,7 @@ InPackage d = package_in d.«package» d.board ≡ true
 -- package
 pub record WiredLaw (description layout : List ℕ) : Type 0 where
   pub zero_is : wired_call description layout ≡ 0
-      → ((decoded_of description).answer ≡ Answer.Done) × (layout_formed layout ≡ true) × InPackage (decoded_of description).description
+      → ((decoded_of description).answer ≡ Ok tt) × (layout_formed layout ≡ true) × InPackage (decoded_of description).description
       × WellWired (decoded_of description).description (layout_at layout)
-  pub zero_if : (decoded_of description).answer ≡ Answer.Done → layout_formed layout ≡ true → InPackage (decoded_of description).description
+  pub zero_if : (decoded_of description).answer ≡ Ok tt → layout_formed layout ≡ true → InPackage (decoded_of description).description
       → WellWired (decoded_of description).description (layout_at layout) → wired_call description layout ≡ 0

@@ -22,7 +22,7 @@ use cs_data_layout::derive_cs_data_layout;
 use description_record::description_at;
 use hex_read::{fault_line, read_hex};
 use hex_write::write_hex;
-use refusal::{Answer, Refusal};
+use refusal::Refusal;
 use search_calls::{addr, cs_data};
 use table_calls::{build, read_back};
 
@@ -78,7 +78,7 @@ pub fn onerom_build_rom_image(
     let decoded = description_record::decode(description);
     let outcome = decoded.answer;
     match outcome {
-        Answer::Done => {
+        Ok(()) => {
             build::hand_over(
                 order,
                 decoded.description,
@@ -89,7 +89,7 @@ pub fn onerom_build_rom_image(
                 table,
             )
         }
-        Answer::Refused(why) => packed(why),
+        Err(why) => packed(why),
     }
 }
 
@@ -134,7 +134,7 @@ pub fn onerom_round_trip(
     let decoded = description_record::decode(description);
     let outcome = decoded.answer;
     match outcome {
-        Answer::Done => {
+        Ok(()) => {
             trip::hand_over(
                 order,
                 decoded.description,
@@ -145,7 +145,7 @@ pub fn onerom_round_trip(
                 marks,
             )
         }
-        Answer::Refused(why) => packed(why),
+        Err(why) => packed(why),
     }
 }
 
@@ -159,8 +159,8 @@ pub fn onerom_well_wired(description: &[u8], addr_layout: &[u8]) -> u64
     let decoded = description_record::decode(description);
     let outcome = decoded.answer;
     match outcome {
-        Answer::Done => wiring::tested(decoded.description, addr_layout),
-        Answer::Refused(why) => packed(why),
+        Ok(()) => wiring::tested(decoded.description, addr_layout),
+        Err(why) => packed(why),
     }
 }
 

@@ -1,4 +1,6 @@
 -- What the byte order changes of a build: the same words of every chip build the same table. Assumes nothing.
+use Rattle.std.specs.Prelude.{Option, Some, None, Ok, Err}
+use Rattle.refusal.specs.declared.Refusal.{Refusal}
 use mathlib.Core.Path.{◌≡◌, refl, sym, ◌∙◌, ap}
 use mathlib.Core.Bool.{Bool, true, false, cond}
 use mathlib.Core.List.{List, ◌++◌}
@@ -16,13 +18,8 @@ use Rattle.words.proofs.Words.{words_cong, words-room}
 use Rattle.words.proofs.Chip.{chip_part}
 use Rattle.refusal.specs.First.{or_else, fault_if, first_of}
 use Rattle.refusal.specs.declared.Refusal.TheVariants.{OutOfDomain, RomTableTooLarge, ShortImageData, ShortBuffer}
-use Rattle.refusal.specs.declared.Answer.{Answer}
-use Rattle.refusal.specs.declared.first.FirstFault.{FirstFault}
-use Rattle.refusal.specs.declared.first.FirstFault.TheVariants.{None, Of}
 use Rattle.slot.specs.Description.{no_chip}
 use Rattle.picks.specs.Picks.{chips_fit}
-use Rattle.picks.specs.declared.Picked.{Picked}
-use Rattle.picks.specs.declared.Picked.TheVariants.{NoChip, Chip}
 use Rattle.picks.proofs.Picking.{picked-below}
 use Rattle.build_args.specs.Images.{chip_span, chip_bytes}
 use Rattle.build_args.specs.Picks.{num_picks, pick_position}
@@ -69,10 +66,10 @@ module _ (b : BuildArgs) where
 
   module _ (order : ByteOrder) (images : List ℕ) (order' : ByteOrder) (images' : List ℕ) where
     module _ (same : Same order images order' images') (fit : chips_fit b.description.set_type chips ≡ true) where
-      word_same : (pad n : ℕ) (p : Picked) → ((k : ℕ) → p ≡ Chip k → k < chips)
+      word_same : (pad n : ℕ) (p : Option ℕ) → ((k : ℕ) → p ≡ Some k → k < chips)
           → word_of pad order b.description images b.spans p n ≡ word_of pad order' b.description images' b.spans p n
-      word_same pad n NoChip h = refl
-      word_same pad n (Chip k) h = by (pad_of pad b.description) (ltb n (count k)) refl (power_of_two (count k)) refl
+      word_same pad n None h = refl
+      word_same pad n (Some k) h = by (pad_of pad b.description) (ltb n (count k)) refl (power_of_two (count k)) refl
         where
           by : (none : ℕ) (t : Bool) → ltb n (count k) ≡ t → (u : Bool) → power_of_two (count k) ≡ u
               → cond t (word_in order images k n) (cond u (word_in order images k (n % count k)) none)
@@ -105,22 +102,22 @@ module _ (b : BuildArgs) where
 
       -- the words count only where each chip has its bytes
       module _ (same : Whole images → Same order images order' images') (lent : List ℕ) where
-        after_same : (t : Bool) → build_in b ≡ t → (f : FirstFault) → build_fault b images (length lent) ≡ f
-            → cond t (build_after order b images lent f) (built (Answer.Refused OutOfDomain) lent)
-            ≡ cond t (build_after order' b images' lent f) (built (Answer.Refused OutOfDomain) lent)
+        after_same : (t : Bool) → build_in b ≡ t → (f : Option Refusal) → build_fault b images (length lent) ≡ f
+            → cond t (build_after order b images lent f) (built (Err OutOfDomain) lent)
+            ≡ cond t (build_after order' b images' lent f) (built (Err OutOfDomain) lent)
         after_same false e f g = refl
-        after_same true e (Of why) g = refl
+        after_same true e (Some why) g = refl
         after_same true e None g =
             let past : PastTests b images (length lent) = record { domain = e; no_fault = g } in
             let able = buildable b.description b.addr b.cs_data images b.spans (length lent) past in
-            ap (λ (t : List ℕ). built Answer.Done (t ++ drop (table_size b.description b.addr) lent))
+            ap (λ (t : List ℕ). built (Ok tt) (t ++ drop (table_size b.description b.addr) lent))
             (table_same (same able.lent) able.chips pad_byte)
 
         build-same : build_of order b images lent ≡ build_of order' b images' lent
         unfolding build_of
         build-same =
             after_same (build_in b) refl (build_fault b images (length lent)) refl
-            ∙ ap (λ (f : FirstFault). cond (build_in b) (build_after order' b images' lent f) (built (Answer.Refused OutOfDomain) lent))
+            ∙ ap (λ (f : Option Refusal). cond (build_in b) (build_after order' b images' lent f) (built (Err OutOfDomain) lent))
             (fault-same (length lent))
 
   -- a word that is counted has its bytes in the dump

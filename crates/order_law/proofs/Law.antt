@@ -1,10 +1,11 @@
 -- The laws of the byte order, and that they leave nothing open. Assumes nothing.
+use Rattle.std.specs.Prelude.{Result}
+use Rattle.refusal.specs.declared.Refusal.{Refusal}
 use mathlib.Core.Path.{◌≡◌, sym, ◌∙◌, ap}
 use mathlib.Core.List.{List}
 use Prim.Native.Nat.{ℕ}
 use Rattle.words.specs.declared.ByteOrder.{ByteOrder}
 use Rattle.words.specs.declared.ByteOrder.TheVariants.{LowFirst}
-use Rattle.refusal.specs.declared.Answer.{Answer}
 use Rattle.stored_slot.specs.Words.{all_words}
 use Rattle.stored_slot.specs.declared.stored.StoredSlot.{StoredSlot}
 use Rattle.unscramble.specs.Recovered.{ReadBack}
@@ -26,7 +27,7 @@ one-build b one other law also low = record {
 module _ (s : StoredSlot) (one other : ByteOrder → List ℕ → List ℕ → List ℕ → ReadBack) (law : ReadLaw s one) (also : ReadLaw s other)
     (low : (stored output marks : List ℕ) → one LowFirst stored output marks ≡ other LowFirst stored output marks) where
   -- the other answers low byte first as the one does
-  as_one : (stored output marks : List ℕ) (x : Answer) → (one LowFirst stored output marks).answer ≡ x
+  as_one : (stored output marks : List ℕ) (x : Result (Unit {0}) Refusal) → (one LowFirst stored output marks).answer ≡ x
       → (other LowFirst stored output marks).answer ≡ x
   as_one stored output marks x a = ap (λ (r : ReadBack). r.answer) (sym (low stored output marks)) ∙ a
 

@@ -1,4 +1,5 @@
 -- What the byte order changes of a read-back: the bytes of words, and nothing else. Assumes nothing.
+use Rattle.std.specs.Prelude.{Option, Some, Ok, Err, None, Result}
 use mathlib.Core.Path.{◌≡◌, refl, sym, ◌∙◌, ap}
 use mathlib.Core.Bool.{Bool, true, false, cond}
 use mathlib.Core.List.{List, ◌++◌}
@@ -12,9 +13,6 @@ use Rattle.slot.specs.declared.description.ChipSetType.{ChipSetType}
 use Rattle.refusal.specs.First.{or_else}
 use Rattle.refusal.specs.declared.Refusal.{Refusal}
 use Rattle.refusal.specs.declared.Refusal.TheVariants.{OutOfDomain, WrongSize, UnknownSlotType}
-use Rattle.refusal.specs.declared.Answer.TheVariants.{Done, Refused}
-use Rattle.refusal.specs.declared.first.FirstFault.{FirstFault}
-use Rattle.refusal.specs.declared.first.FirstFault.TheVariants.{None, Of}
 use Rattle.stored_slot.specs.Stored.{stored_in, word_bytes}
 use Rattle.stored_slot.specs.Faults.{wrong_size, roms_fault}
 use Rattle.stored_slot.specs.Words.{all_words}
@@ -33,22 +31,22 @@ module _ (s : StoredSlot) (stored output marks : List ℕ) where
 
   -- what is read back of ROMs where nothing is refused
   abbrev whole_read : List ℕ → ReadBack
-  whole_read bytes = read_back Done (front bytes output) (front (replicate (all_words s) 1) marks)
+  whole_read bytes = read_back (Ok tt) (front bytes output) (front (replicate (all_words s) 1) marks)
 
   -- how a read-back ends: refused, with the bytes of a plugin, or with those of words. The order counts for the last alone
   data End : Type 0 where
-    stopped : (why : Refusal) (o m : List ℕ) → ((order : ByteOrder) → read order ≡ read_back (Refused why) o m) → End
+    stopped : (why : Refusal) (o m : List ℕ) → ((order : ByteOrder) → read order ≡ read_back (Err why) o m) → End
     of_plugin : s.slot_type ≡ Plugin → (r : ReadBack) → ((order : ByteOrder) → read order ≡ r) → End
     of_words : (set : ChipSetType) → s.slot_type ≡ Roms set → ((order : ByteOrder) → read order ≡ whole_read (recovered order s set stored)) → End
 
-  entries-end : (set : ChipSetType) → s.slot_type ≡ Roms set → (f : FirstFault)
+  entries-end : (set : ChipSetType) → s.slot_type ≡ Roms set → (f : Option Refusal)
       → ((order : ByteOrder) → read order ≡ after_entries order s set stored output marks f) → End
   entries-end set k None e = of_words set k e
-  entries-end set k (Of why) e = stopped why _ _ e
+  entries-end set k (Some why) e = stopped why _ _ e
 
-  roms-end : (set : ChipSetType) → s.slot_type ≡ Roms set → (f : FirstFault)
+  roms-end : (set : ChipSetType) → s.slot_type ≡ Roms set → (f : Option Refusal)
       → ((order : ByteOrder) → read order ≡ read_after order s set stored output marks f) → End
-  roms-end set k (Of why) e = stopped why _ _ e
+  roms-end set k (Some why) e = stopped why _ _ e
   roms-end set k None e = entries-end set k (or_else (inconsistent s set stored) (unserved s set)) e
 
   type_end : (t : SlotType) → s.slot_type ≡ t → ((order : ByteOrder) → read order ≡ of_type order s stored output marks t) → End
@@ -77,7 +75,7 @@ module _ (s : StoredSlot) (stored output marks : List ℕ) where
   not-plugin : (set : ChipSetType) → s.slot_type ≡ Plugin → s.slot_type ≡ Roms set → ⊥
   not-plugin set p r = zero_one cc
 
-  not_done : (why : Refusal) → Refused why ≡ Done → ⊥
+  not_done : (why : Refusal) → ◌≡◌ {A = Result (Unit {0}) Refusal} (Err why) (Ok tt) → ⊥
   not_done why e = zero_one cc
 
   -- the first bytes of the output are the words, and those behind them stay
@@ -90,8 +88,8 @@ module _ (s : StoredSlot) (stored output marks : List ℕ) where
       let first : take (2 * all_words s) (front low output) ≡ low = take_at low behind (2 * all_words s) long in
       let rest : drop (2 * all_words s) (front low output) ≡ behind = drop_at low behind (2 * all_words s) long in
       ap whole_read (recovered-swapped s set stored e)
-      ∙ ap (λ (n : ℕ). read_back Done (swapped low ++ drop n output) (front (replicate (all_words s) 1) marks)) (swapped-length low)
-      ∙ (λ i. read_back Done (swapped (sym first i) ++ sym rest i) (front (replicate (all_words s) 1) marks))
+      ∙ ap (λ (n : ℕ). read_back (Ok tt) (swapped low ++ drop n output) (front (replicate (all_words s) 1) marks)) (swapped-length low)
+      ∙ (λ i. read_back (Ok tt) (swapped (sym first i) ++ sym rest i) (front (replicate (all_words s) 1) marks))
 
   -- the laws, by how it ends
 
@@ -105,12 +103,12 @@ module _ (s : StoredSlot) (stored output marks : List ℕ) where
   plugin_by p (of_plugin k r u) = u HighFirst ∙ sym (u LowFirst)
   plugin_by p (of_words set k u) = absurd (not-plugin set p k)
 
-  refused_by : (why : Refusal) → (read LowFirst).answer ≡ Refused why → End → read HighFirst ≡ read LowFirst
+  refused_by : (why : Refusal) → (read LowFirst).answer ≡ Err why → End → read HighFirst ≡ read LowFirst
   refused_by why a (stopped other o m u) = u HighFirst ∙ sym (u LowFirst)
   refused_by why a (of_plugin k r u) = u HighFirst ∙ sym (u LowFirst)
   refused_by why a (of_words set k u) = absurd (not_done why (sym a ∙ ap (λ (r : ReadBack). r.answer) (u LowFirst)))
 
-  swap_by : (set : ChipSetType) → s.slot_type ≡ Roms set → word_bytes s ≡ 2 → (read LowFirst).answer ≡ Done → End
+  swap_by : (set : ChipSetType) → s.slot_type ≡ Roms set → word_bytes s ≡ 2 → (read LowFirst).answer ≡ Ok tt → End
       → read HighFirst ≡ words_swapped (all_words s) (read LowFirst)
   swap_by set t e a (stopped why o m u) = absurd (not_done why (sym (ap (λ (r : ReadBack). r.answer) (u LowFirst)) ∙ a))
   swap_by set t e a (of_plugin k r u) = absurd (not-plugin set k t)

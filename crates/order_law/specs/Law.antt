@@ -1,9 +1,8 @@
 -- What the byte order changes of a build and of a read-back, and what it does not. Assumes nothing.
-use Rattle.std.specs.Prelude.{ℕ, ◌+◌, ◌*◌, ◌<◌, ◌≡◌, List, [], ◌∷◌, ◌++◌, length, get_or, take, drop}
+use Rattle.std.specs.Prelude.{ℕ, ◌+◌, ◌*◌, ◌<◌, ◌≡◌, List, [], ◌∷◌, ◌++◌, length, get_or, take, drop, Ok, Err}
 use Rattle.words.specs.declared.ByteOrder.{ByteOrder}
 use Rattle.words.specs.declared.ByteOrder.TheVariants.{LowFirst, HighFirst}
 use Rattle.refusal.specs.declared.Refusal.{Refusal}
-use Rattle.refusal.specs.declared.Answer.TheVariants.{Done, Refused}
 use Rattle.slot.specs.declared.description.ChipSetType.{ChipSetType}
 use Rattle.build_args.specs.Images.{chip_span, chip_bytes}
 use Rattle.build_args.specs.Faults.{entries_of}
@@ -62,11 +61,11 @@ pub record ReadLaw (s : StoredSlot) (read : ByteOrder → List ℕ → List ℕ 
   -- a plugin has no words
   pub plugin : s.slot_type ≡ Plugin → (stored output marks : List ℕ) → read HighFirst stored output marks ≡ read LowFirst stored output marks
   -- a refusal does not depend on the order, 23 and 24 included
-  pub refused : (why : Refusal) (stored output marks : List ℕ) → (read LowFirst stored output marks).answer ≡ Refused why
+  pub refused : (why : Refusal) (stored output marks : List ℕ) → (read LowFirst stored output marks).answer ≡ Err why
       → read HighFirst stored output marks ≡ read LowFirst stored output marks
   -- 02 Slip 5 2: read back high byte first, words have the bytes of each pair exchanged
   pub swap : (set : ChipSetType) (stored output marks : List ℕ) → s.slot_type ≡ Roms set → word_bytes s ≡ 2
-      → (read LowFirst stored output marks).answer ≡ Done
+      → (read LowFirst stored output marks).answer ≡ Ok tt
       → read HighFirst stored output marks ≡ words_swapped (all_words s) (read LowFirst stored output marks)
 
 -- 02 Slip 5 2: the definitions keep these laws, for every slot
@@ -92,10 +91,10 @@ OneBuild =
 pub record ReadsAgree (s : StoredSlot) (one other : ByteOrder → List ℕ → List ℕ → List ℕ → ReadBack) : Type 0 where
   pub eight : word_bytes s ≡ 1 → (stored output marks : List ℕ) → one HighFirst stored output marks ≡ other HighFirst stored output marks
   pub plugin : s.slot_type ≡ Plugin → (stored output marks : List ℕ) → one HighFirst stored output marks ≡ other HighFirst stored output marks
-  pub refused : (why : Refusal) (stored output marks : List ℕ) → (one LowFirst stored output marks).answer ≡ Refused why
+  pub refused : (why : Refusal) (stored output marks : List ℕ) → (one LowFirst stored output marks).answer ≡ Err why
       → one HighFirst stored output marks ≡ other HighFirst stored output marks
   pub sixteen : (set : ChipSetType) (stored output marks : List ℕ) → s.slot_type ≡ Roms set → word_bytes s ≡ 2
-      → (one LowFirst stored output marks).answer ≡ Done → one HighFirst stored output marks ≡ other HighFirst stored output marks
+      → (one LowFirst stored output marks).answer ≡ Ok tt → one HighFirst stored output marks ≡ other HighFirst stored output marks
 
 -- two read-backs likewise
 abbrev pub OneRead : Type 0

@@ -1,4 +1,6 @@
 -- What the build, the round trip and the wiring's test answered before does not hang on the package either. Assumes nothing.
+use Rattle.std.specs.Prelude.{Option, Some, None, Result, Ok, Err}
+use Rattle.refusal.specs.declared.Refusal.{Refusal}
 use mathlib.Core.Path.{◌≡◌, refl, ap, ◌∙◌}
 use mathlib.Core.Bool.{true, cond}
 use mathlib.Core.List.{List, ◌++◌}
@@ -9,19 +11,10 @@ use Rattle.slot.specs.declared.description.Package.{Package}
 use Rattle.slot.specs.declared.description.Description.{Description}
 use Rattle.domain.specs.Domain.{slot_in}
 use Rattle.refusal.specs.declared.Refusal.TheVariants.{OutOfDomain}
-use Rattle.refusal.specs.declared.Answer.{Answer}
-use Rattle.refusal.specs.declared.first.FirstFault.{FirstFault}
-use Rattle.refusal.specs.declared.first.FirstFault.TheVariants.{None, Of}
 use Rattle.listing.specs.Lines.{pin_candidates}
 use Rattle.addr_lines.specs.Range.{reach}
 use Rattle.addr_layout.specs.declared.layout.AddrLayout.{AddrLayout}
-use Rattle.addr_layout.specs.declared.layout.AddrOutcome.{AddrOutcome}
-use Rattle.addr_layout.specs.declared.layout.AddrAnswer.{AddrAnswer}
-use Rattle.cs_data_layout.specs.declared.layout.GivenLayout.{GivenLayout}
 use Rattle.cs_data_layout.specs.declared.layout.CsDataLayout.{CsDataLayout}
-use Rattle.cs_data_layout.specs.declared.layout.CsDataOutcome.{CsDataOutcome}
-use Rattle.picks.specs.declared.Picked.{Picked}
-use Rattle.picks.specs.declared.Picked.TheVariants.{NoChip, Chip}
 use Rattle.words.specs.declared.ByteOrder.{ByteOrder}
 use Rattle.build_args.specs.Args.{args_of}
 use Rattle.build_args.specs.Faults.{entries_of, table_size, picks_in, build_fault}
@@ -32,7 +25,7 @@ use Rattle.premises.specs.Wired.{wired}
 use Rattle.round_trip.specs.Stored.{stored_of}
 use Rattle.round_trip.specs.Chain.{after_build, build_trip}
 use Rattle.onerom.specs.Wired.{wired_as}
-use Rattle.package_law.specs.Before.{addr_before, cs_data_before, build_in_before, build_before, after_select_before, select_trip_before, after_address_before, trip_before}
+use Rattle.package_law.specs.Before.{addr_before, cs_data_before, build_in_before, build_before, select_trip_before, address_trip_before, trip_before}
 use Rattle.package_law.specs.Law.{on}
 use Rattle.package_law.proofs.AddrSame.{addr_same}
 use Rattle.package_law.proofs.SelectSame.{cs_data_same}
@@ -41,9 +34,9 @@ module _ (order : ByteOrder) (p : Package) (d : Description) where
   -- the build
 
   module _ (a : AddrLayout) (c : CsDataLayout) (spans : List ImageSpan) (images : List ℕ) where
-    word_same : (pad : ℕ) (x : Picked) (n : ℕ) → word_of pad order (on p d) images spans x n ≡ word_of pad order d images spans x n
-    word_same pad NoChip n = refl
-    word_same pad (Chip k) n = refl
+    word_same : (pad : ℕ) (x : Option ℕ) (n : ℕ) → word_of pad order (on p d) images spans x n ≡ word_of pad order d images spans x n
+    word_same pad None n = refl
+    word_same pad (Some k) n = refl
 
     entry-same : (pad n : ℕ) → entry_at pad order (args_of (on p d) a c spans) images n ≡ entry_at pad order (args_of d a c spans) images n
     unfolding entry_at scrambled chip_picked
@@ -53,9 +46,9 @@ module _ (order : ByteOrder) (p : Package) (d : Description) where
     unfolding table_of
     table_same pad = λ i. entries_bytes d.word_bytes (λ n. entry-same pad n i) (entries_of a)
 
-    after_same : (lent : List ℕ) (f : FirstFault) → build_after order (args_of (on p d) a c spans) images lent f ≡ build_after order (args_of d a c spans) images lent f
-    after_same lent (Of why) = refl
-    after_same lent None = λ i. built Answer.Done (table_same pad_byte i ++ drop (table_size d a) lent)
+    after_same : (lent : List ℕ) (f : Option Refusal) → build_after order (args_of (on p d) a c spans) images lent f ≡ build_after order (args_of d a c spans) images lent f
+    after_same lent (Some why) = refl
+    after_same lent None = λ i. built (Ok tt) (table_same pad_byte i ++ drop (table_size d a) lent)
 
     fault-same : (n : ℕ) → build_fault (args_of (on p d) a c spans) images n ≡ build_fault (args_of d a c spans) images n
     unfolding build_fault picks_in
@@ -66,36 +59,34 @@ module _ (order : ByteOrder) (p : Package) (d : Description) where
     build-same lent =
         let b = args_of d a c spans in
         rw (fault-same (length lent))
-        (ap (λ (x : Built). cond (build_in_before b) x (built (Answer.Refused OutOfDomain) lent)) (after_same lent (build_fault b images (length lent))))
+        (ap (λ (x : Built). cond (build_in_before b) x (built (Err OutOfDomain) lent)) (after_same lent (build_fault b images (length lent))))
 
   -- the round trip
 
   module _ (images : List ℕ) (spans : List ImageSpan) (table output marks : List ℕ) where
-    read_same : (a : AddrLayout) (c : CsDataLayout) (x : Answer) (t : List ℕ)
+    read_same : (a : AddrLayout) (c : CsDataLayout) (x : Result (Unit {0}) Refusal) (t : List ℕ)
         → after_build order (args_of (on p d) a c spans) output marks x t ≡ after_build order (args_of d a c spans) output marks x t
     unfolding stored_of
-    read_same a c Answer.Done t = refl
-    read_same a c (Answer.Refused why) t = refl
+    read_same a c (Ok tt) t = refl
+    read_same a c (Err why) t = refl
 
-    select-same : (a : AddrLayout) (x : CsDataOutcome) (c : CsDataLayout)
-        → after_select_before order (on p d) a images spans table output marks x c ≡ after_select_before order d a images spans table output marks x c
-    select-same a CsDataOutcome.LaidOut c =
+    select-same : (a : AddrLayout) (x : Result CsDataLayout Refusal)
+        → select_trip_before order (on p d) a images spans table output marks x ≡ select_trip_before order d a images spans table output marks x
+    select-same a (Ok c) =
         let b = build_before order (args_of d a c spans) images table in
         ap (build_trip order (args_of (on p d) a c spans) output marks) (build-same a c spans images table) ∙ read_same a c b.answer b.table
-    select-same a (CsDataOutcome.Refused why) c = refl
+    select-same a (Err why) = refl
 
-    address_same : (x : AddrOutcome) (a : AddrLayout)
-        → after_address_before order (on p d) images spans table output marks x a ≡ after_address_before order d images spans table output marks x a
-    address_same AddrOutcome.LaidOut a =
-        let g : GivenLayout = record { given = true; layout = a } in
-        let x = cs_data_before d g in
-        ap (select_trip_before order (on p d) a images spans table output marks) (cs_data_same p d g) ∙ select-same a x.outcome x.layout
-    address_same (AddrOutcome.Refused why) a = refl
+    address_same : (x : Result AddrLayout Refusal)
+        → address_trip_before order (on p d) images spans table output marks x ≡ address_trip_before order d images spans table output marks x
+    address_same (Ok a) =
+        ap (select_trip_before order (on p d) a images spans table output marks) (cs_data_same p d (Some a)) ∙ select-same a (cs_data_before d (Some a))
+    address_same (Err why) = refl
 
     pub trip-same : trip_before order (on p d) images spans table output marks ≡ trip_before order d images spans table output marks
     trip-same =
-        ap (λ (x : AddrAnswer). after_address_before order (on p d) images spans table output marks x.outcome x.layout) (addr_same p d)
-        ∙ address_same (addr_before d).outcome (addr_before d).layout
+        ap (address_trip_before order (on p d) images spans table output marks) (addr_same p d)
+        ∙ address_same (addr_before d)
 
 -- the wiring's test
 

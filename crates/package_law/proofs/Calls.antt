@@ -1,4 +1,5 @@
 -- The laws of the package over the exported calls: what they make of place 1 of a description's record. Assumes nothing.
+use Rattle.std.specs.Prelude.{Result, Ok, Err}
 use mathlib.Core.Path.{◌≡◌, refl, sym, ap, subst, ◌∙◌}
 use mathlib.Core.Bool.{Bool, true, false, ◌&&◌, cond}
 use mathlib.Core.List.{List, ◌∷◌}
@@ -13,13 +14,11 @@ use Rattle.slot.specs.declared.description.Board.{Board}
 use Rattle.slot.specs.declared.description.Package.TheVariants.{A, B}
 use Rattle.slot.specs.declared.description.Description.{Description}
 use Rattle.refusal.specs.declared.Refusal.{Refusal}
+use Rattle.cs_data_layout.specs.declared.layout.CsDataLayout.{CsDataLayout}
+use Rattle.addr_layout.specs.declared.layout.AddrLayout.{AddrLayout}
 use Rattle.refusal.specs.declared.Refusal.TheVariants.{OutOfDomain}
-use Rattle.refusal.specs.declared.Answer.{Answer}
-use Rattle.refusal.specs.declared.Answer.TheVariants.{Done, Refused}
 use Rattle.description_record.specs.Record.{record_size, board_at, cs_config_at, multi_at, chip_at, described, head_in, cs_config_in, pairs_in, chip_places_in, well_formed, decoded_of}
-use Rattle.addr_layout.specs.declared.layout.AddrAnswer.{AddrAnswer}
 use Rattle.addr_record.specs.AddrRecord.{layout_at, layout_formed, given_at, given_formed}
-use Rattle.cs_data_layout.specs.declared.layout.CsDataAnswer.{CsDataAnswer}
 use Rattle.cs_data_record.specs.CsDataRecord.{cs_data_at}
 use Rattle.image_record.specs.ImageRecord.{spans_at}
 use Rattle.round_trip.specs.Chain.{stopped}
@@ -84,15 +83,15 @@ module _ (pins : ℕ) (rest : List ℕ) where
       let b = pins ∷ x ∷ rest in
       second_fails (eqb (length b) record_size) (head_in b) (cs_config_in b) (pairs_in b) (chip_places_in b) (head_fails x l)
 
-abbrev answer_of : Bool → Answer
-answer_of formed = cond formed Done (Refused OutOfDomain)
+abbrev answer_of : Bool → Result (Unit {0}) Refusal
+answer_of formed = cond formed (Ok tt) (Err OutOfDomain)
 
 -- what a call makes of bytes, by what it answers to a description
 abbrev called_by : {R : Type 0} → Bool → (Description → R) → (Refusal → R) → List ℕ → R
 called_by formed now refuse description = cond formed (if_record now refuse (decoded_of description)) (refuse OutOfDomain)
 
 module _ {R : Type 0} (formed : Bool) (now before : Description → R) (refuse : Refusal → R) (law : PackageLaw now before (refuse OutOfDomain)) where
-  abbrev by : Answer → Description → R
+  abbrev by : Result (Unit {0}) Refusal → Description → R
   by x d = if_described now refuse x d
 
   -- the board keeps to its package, or it does not
@@ -101,9 +100,9 @@ module _ {R : Type 0} (formed : Bool) (now before : Description → R) (refuse :
   b_same true d = law.on_b d
   b_same false d = refl
 
-  a_same : (x : Answer) (d : Description) → ((g : ℕ) → CandidateOn d.board g → g ≤ 29) → by x (on A d) ≡ by x (on B d)
-  a_same Done d h = law.on_a d h
-  a_same (Refused why) d h = refl
+  a_same : (x : Result (Unit {0}) Refusal) (d : Description) → ((g : ℕ) → CandidateOn d.board g → g ≤ 29) → by x (on A d) ≡ by x (on B d)
+  a_same (Ok tt) d h = law.on_a d h
+  a_same (Err why) d h = refl
 
   a_above : (t : Bool) (d : Description) (g : ℕ) → CandidateOn d.board g → 29 < g → by (answer_of t) (on A d) ≡ refuse OutOfDomain
   a_above true d g e l = law.above d g e l
@@ -142,10 +141,10 @@ pub place_laws : PlaceLaws
 unfolding addr_call cs_data_call build_call trip_call wired_call
 place_laws = record {
   address = λ buffer.
-      place_law true _ _ (λ why. call_refused why buffer) (through (λ (x : AddrAnswer). addr_found x buffer) package_laws.address);
+      place_law true _ _ (λ why. call_refused why buffer) (through (λ (x : Result AddrLayout Refusal). addr_found x buffer) package_laws.address);
   select = λ layout buffer.
       place_law (given_formed layout) _ _ (λ why. call_refused why buffer)
-      (through (λ (x : CsDataAnswer). cs_data_found x buffer) (package_laws.select (given_at layout)));
+      (through (λ (x : Result CsDataLayout Refusal). cs_data_found x buffer) (package_laws.select (given_at layout)));
   build = λ addr csData spans images order table.
       place_law (build_formed addr csData spans order) _ _ (λ why. build_refused why table)
       (package_laws.build (order_at order) (layout_at addr) (cs_data_at csData) (spans_at spans) images table);

@@ -11,11 +11,12 @@ use Rattle.addr_lines.specs.Range.{reach}
 use Rattle.select_span.specs.Selects.{fixed_span}
 use Rattle.addr_choices.specs.Choices.{span_up_to, span_trial}
 use Rattle.addr_layout.specs.Search.{addr_best}
-use Rattle.package_law.specs.Padded.{PaddedLaw}
+use Rattle.addr_layout.specs.Layouts.{addr_layout_of}
+use Rattle.package_law.specs.Padded.{last_three, PaddedLaw}
 
 pub padded_law : PaddedLaw
 unfolding each tally tab
     socket_in lines_in chips_in slot_in no_candidate_above package_in description_in
     best twos fault_from rest_at gpio_at
     line_socket line_listed addr_listed reach fixed_span span_up_to span_trial addr_best
-padded_law = record { found = refl; base = refl; pins = refl }
+padded_law = record { layout = addr_layout_of last_three (addr_listed last_three) 0; found = refl; base = refl; pins = refl }

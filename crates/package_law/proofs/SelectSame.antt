@@ -1,4 +1,7 @@
 -- What the select search answered before does not hang on the package either. Assumes nothing.
+use Rattle.std.specs.Prelude.{Option, Some, None, Err, Result}
+use Rattle.refusal.specs.declared.Refusal.{Refusal}
+use Rattle.cs_data_layout.specs.declared.layout.CsDataLayout.{CsDataLayout}
 use mathlib.Core.Path.{◌≡◌, refl, ap, ◌∙◌}
 use mathlib.Core.Bool.{cond}
 use mathlib.Core.List.{List, ◌∷◌, ◌++◌}
@@ -11,14 +14,11 @@ use Rattle.slot.specs.declared.description.Description.{Description}
 use Rattle.domain.specs.Domain.{slot_in}
 use Rattle.refusal.specs.First.{or_else}
 use Rattle.refusal.specs.declared.Refusal.TheVariants.{OutOfDomain}
-use Rattle.refusal.specs.declared.first.FirstFault.{FirstFault}
-use Rattle.refusal.specs.declared.first.FirstFault.TheVariants.{None, Of}
 use Rattle.listing.specs.Listing.{x_pins, twos, first_fault}
 use Rattle.listing.specs.Lines.{pin_candidates}
 use Rattle.listing.specs.declared.Listed.{Listed}
 use Rattle.search.specs.Search.{best}
 use Rattle.search.specs.declared.Found.{Found}
-use Rattle.search.specs.declared.Found.TheVariants.{Nothing, At}
 use Rattle.cs_pins.specs.Pins.{pin_listed, data_listed, if_active, active_listed, kind_listed, select_listed, commoned_listed, numbered}
 use Rattle.cs_checked.specs.Checked.{or_no_active, ignored_listed, multi_checked, checked}
 use Rattle.cs_roles.specs.Roles.{x_roles, if_active_kind, active_kinds, select_roles}
@@ -26,11 +26,9 @@ use Rattle.cs_verdict.specs.Verdict.{verdict_trial}
 use Rattle.cs_choices.specs.Sets.{verdict_on}
 use Rattle.cs_choices.specs.Nothing.{nothing_fits}
 use Rattle.addr_layout.specs.declared.layout.AddrLayout.{AddrLayout}
-use Rattle.cs_data_layout.specs.Layout.{cs_data_refused, handed}
+use Rattle.cs_data_layout.specs.Layout.{handed}
 use Rattle.cs_data_layout.specs.Choices.{fixed_of, with_candidates, ignored_at, ignored_set}
 use Rattle.cs_data_layout.specs.Search.{missing_layout, rom_too_large, earlier, cs_best, or_no_layout, none_fits, cs_data_answer_of, after_earlier}
-use Rattle.cs_data_layout.specs.declared.layout.GivenLayout.{GivenLayout}
-use Rattle.cs_data_layout.specs.declared.layout.CsDataAnswer.{CsDataAnswer}
 use Rattle.package_law.specs.Before.{cs_data_in_before, cs_data_before}
 use Rattle.package_law.specs.Law.{on}
 
@@ -78,7 +76,7 @@ module _ (p : Package) (d : Description) where
   unfolding checked
   checked-same = λ i. cond (is_multi d.set_type) (multi-same i) (or_no_active (active-same controls i))
 
-  earlier-same : (a : GivenLayout) → earlier (on p d) a ≡ earlier d a
+  earlier-same : (a : Option AddrLayout) → earlier (on p d) a ≡ earlier d a
   unfolding earlier
   earlier-same a = λ i.
       or_else (missing_layout d a) (or_else (rom_too_large d (handed a)) (or_else (first_fault (data-same i)) (first_fault (checked-same i))))
@@ -112,16 +110,16 @@ module _ (p : Package) (d : Description) where
   none-same h = λ i.
       or_no_layout (nothing_fits (ignored-same i) (λ c. verdict_on (numbered-same i) (fixed_of d h) c) (2 ^ twos (numbered-same i)))
 
-  found-same : (h : AddrLayout) (x : Found) → cs_data_answer_of (on p d) h x ≡ cs_data_answer_of d h x
-  found-same h Nothing = none-same h
-  found-same h (At c s) = rw (numbered-same, roles_same)
+  found-same : (h : AddrLayout) (x : Option Found) → cs_data_answer_of (on p d) h x ≡ cs_data_answer_of d h x
+  found-same h None = none-same h
+  found-same h (Some f) = rw (numbered-same, roles_same)
 
-  after_same : (h : AddrLayout) (f : FirstFault) → after_earlier (on p d) h f ≡ after_earlier d h f
-  after_same h (Of r) = refl
+  after_same : (h : AddrLayout) (f : Option Refusal) → after_earlier (on p d) h f ≡ after_earlier d h f
+  after_same h (Some r) = refl
   after_same h None = ap (cs_data_answer_of (on p d) h) (best-same h) ∙ found-same h (cs_best d h)
 
-  pub cs_data_same : (a : GivenLayout) → cs_data_before (on p d) a ≡ cs_data_before d a
+  pub cs_data_same : (a : Option AddrLayout) → cs_data_before (on p d) a ≡ cs_data_before d a
   unfolding slot_in
   cs_data_same a =
       rw (numbered-same, earlier-same a)
-      (ap (λ (x : CsDataAnswer). cond (cs_data_in_before d a) x (cs_data_refused OutOfDomain)) (after_same (handed a) (earlier d a)))
+      (ap (λ (x : Result CsDataLayout Refusal). cond (cs_data_in_before d a) x (Err OutOfDomain)) (after_same (handed a) (earlier d a)))

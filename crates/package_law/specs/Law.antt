@@ -1,20 +1,16 @@
 -- Slip 3 of document 02 over each call that is given a description: on B its earlier answer, on A the answer on B, or 1. Assumes nothing.
-use Rattle.std.specs.Prelude.{◌≡◌, true, List, ℕ, ◌≤◌, ◌<◌, get_or}
+use Rattle.std.specs.Prelude.{◌≡◌, true, List, ℕ, ◌≤◌, ◌<◌, get_or, Err, Option}
 use Rattle.slot.specs.Description.{no_pin}
 use Rattle.slot.specs.declared.description.Board.{Board}
 use Rattle.slot.specs.declared.description.Package.{Package}
 use Rattle.slot.specs.declared.description.Package.TheVariants.{A, B}
 use Rattle.slot.specs.declared.description.Description.{Description}
 use Rattle.refusal.specs.declared.Refusal.TheVariants.{OutOfDomain}
-use Rattle.refusal.specs.declared.Answer.{Answer}
 use Rattle.domain.specs.Domain.{no_candidate_above}
 use Rattle.listing.specs.Choice.{CandidateOf}
-use Rattle.addr_layout.specs.Layout.{addr_refused}
 use Rattle.addr_layout.specs.Search.{addr_answer}
 use Rattle.addr_layout.specs.declared.layout.AddrLayout.{AddrLayout}
-use Rattle.cs_data_layout.specs.Layout.{cs_data_refused}
 use Rattle.cs_data_layout.specs.Search.{cs_data_answer}
-use Rattle.cs_data_layout.specs.declared.layout.GivenLayout.{GivenLayout}
 use Rattle.cs_data_layout.specs.declared.layout.CsDataLayout.{CsDataLayout}
 use Rattle.words.specs.declared.ByteOrder.{ByteOrder}
 use Rattle.build_args.specs.Args.{args_of}
@@ -66,11 +62,11 @@ pub record PackageLaw {R : Type 0} (now before : Description → R) (refused : R
 -- 02 Slip 3 2: the calls that are given a description are both searches, the build, the round trip and the wiring's test, whatever else
 -- they are given; a layout may have any GPIO
 pub record PackageLaws : Type 0 where
-  pub address : PackageLaw addr_answer addr_before (addr_refused OutOfDomain)
-  pub select : (a : GivenLayout) → PackageLaw (λ d. cs_data_answer d a) (λ d. cs_data_before d a) (cs_data_refused OutOfDomain)
+  pub address : PackageLaw addr_answer addr_before (Err OutOfDomain)
+  pub select : (a : Option AddrLayout) → PackageLaw (λ d. cs_data_answer d a) (λ d. cs_data_before d a) (Err OutOfDomain)
   pub build : (order : ByteOrder) (a : AddrLayout) (c : CsDataLayout) (spans : List ImageSpan) (images table : List ℕ)
       → PackageLaw (λ d. build_of order (args_of d a c spans) images table) (λ d. build_before order (args_of d a c spans) images table)
-      (built (Answer.Refused OutOfDomain) table)
+      (built (Err OutOfDomain) table)
   pub trip : (order : ByteOrder) (images : List ℕ) (spans : List ImageSpan) (table output marks : List ℕ)
       → PackageLaw (λ d. round_trip_of order d images spans table output marks) (λ d. trip_before order d images spans table output marks)
       (stopped OutOfDomain table output marks)

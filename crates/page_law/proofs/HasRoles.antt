@@ -1,4 +1,5 @@
 -- A GPIO has a role exactly if one of the lines on it is of that role. Assumes nothing.
+use Rattle.std.specs.Prelude.{Option, Some, None}
 use mathlib.Core.Path.{◌≡◌, refl, sym, ◌∙◌, ap, subst}
 use mathlib.Core.Bool.{Bool, true, false, cond}
 use mathlib.Core.List.{List, ◌++◌}
@@ -8,8 +9,6 @@ use native.Mathlib.Omega.{arith}
 use lib.Dec.{eqb}
 use borrow.Author.Tests.{ne_eqb, eqb-true, eqb-false}
 use Rattle.lists.proofs.Bools.{and_left, and_right}
-use Rattle.gpio.specs.declared.line.LineGpio.{LineGpio}
-use Rattle.gpio.specs.declared.line.LineGpio.TheVariants.{Unused, At}
 use Rattle.cs_roles.specs.Roles.{x1_role, x2_role, half_role}
 use Rattle.addr_layout.specs.Layout.{layout_in}
 use Rattle.addr_layout.specs.declared.layout.AddrLayout.{AddrLayout}
@@ -132,9 +131,9 @@ module _ (a : AddrLayout) (c : CsDataLayout) (g r : ℕ) where
   by_line : (is_commoned : Bool) (role : ℕ) → LineOn c is_commoned role g → r ≡ line_role is_commoned role → Held (addr_lines ++ cs_lines) g r
   by_line is_commoned role l e = in_cs (either-list is_commoned (line-held c is_commoned role g r l e))
 
-  x_held : (role : ℕ) (x : LineGpio) → x ≡ At g → r ≡ role → Held (x_line role x) g r
+  x_held : (role : ℕ) (x : Option ℕ) → x ≡ Some g → r ≡ role → Held (x_line role x) g r
   unfolding Held
-  x_held role x e q = subst (λ (y : LineGpio). Held (x_line role y) g r) (sym e) (inl (ap (λ s. page_line s g) (sym q)))
+  x_held role x e q = subst (λ (y : Option ℕ). Held (x_line role y) g r) (sym e) (inl (ap (λ s. page_line s g) (sym q)))
 
   pub has_held : Has a c g r → Held (addr_lines ++ cs_lines) g r
   unfolding addr_page_lines cs_data_page_lines
@@ -161,11 +160,11 @@ module _ (a : AddrLayout) (c : CsDataLayout) (g r : ℕ) where
   from_list false (of_kind kind h l q) = select kind h l q
   from_list true (of_kind kind h l q) = commoned kind h l q
 
-  held_x : (role : ℕ) (x : LineGpio) → Held (x_line role x) g r → (x ≡ At g) × (r ≡ role)
+  held_x : (role : ℕ) (x : Option ℕ) → Held (x_line role x) g r → (x ≡ Some g) × (r ≡ role)
   unfolding Held
-  held_x role Unused h = absurd h
-  held_x role (At y) (inl e) = (ap At (gpio-same (page_line role y) r g e), sym (role_same (page_line role y) r g e))
-  held_x role (At y) (inr h) = absurd h
+  held_x role None h = absurd h
+  held_x role (Some y) (inl e) = (ap Some (gpio-same (page_line role y) r g e), sym (role_same (page_line role y) r g e))
+  held_x role (Some y) (inr h) = absurd h
 
   from_addr : Held addr_lines g r → Has a c g r
   unfolding addr_page_lines

@@ -1,6 +1,5 @@
 -- What the page shows, in plain terms. Assumes nothing.
-use Rattle.std.specs.Prelude.{ℕ, ◌+◌, ◌*◌, ◌<◌, ◌≡◌, Bool, true, false, cond, ◌++◌, length, get_or, take}
-use Rattle.gpio.specs.declared.line.LineGpio.TheVariants.{At}
+use Rattle.std.specs.Prelude.{ℕ, ◌+◌, ◌*◌, ◌<◌, ◌≡◌, Bool, true, false, cond, ◌++◌, length, get_or, take, Some}
 use Rattle.slot.specs.Description.{ce_kind, oe_kind, cs1_kind, cs2_kind, cs3_kind, cs4_kind}
 use Rattle.cs_roles.specs.Roles.{x1_role, x2_role, half_role}
 use Rattle.addr_layout.specs.declared.layout.AddrLayout.{AddrLayout}
@@ -58,9 +57,9 @@ pub record LineOn (c : CsDataLayout) (is_commoned : Bool) (role g : ℕ) : Type 
 pub data Has (a : AddrLayout) (c : CsDataLayout) (g role : ℕ) : Type 0 where
   address : (n : ℕ) → n < a.num_lines → get_or a.gpios n 0 ≡ g → role ≡ role_a n → Has a c g role
   data-line : (n : ℕ) → n < c.num_data_pins → get_or c.data_pin_gpios n 0 ≡ g → role ≡ role_d n → Has a c g role
-  x1 : a.x1_gpio ≡ At g → role ≡ role_x1 → Has a c g role
+  x1 : a.x1_gpio ≡ Some g → role ≡ role_x1 → Has a c g role
   x1-line : (is_commoned : Bool) → LineOn c is_commoned x1_role g → role ≡ role_x1 → Has a c g role
-  x2 : a.x2_gpio ≡ At g → role ≡ role_x2 → Has a c g role
+  x2 : a.x2_gpio ≡ Some g → role ≡ role_x2 → Has a c g role
   x2-line : (is_commoned : Bool) → LineOn c is_commoned x2_role g → role ≡ role_x2 → Has a c g role
   select : (kind : ℕ) → kind < x1_role → LineOn c false kind g → role ≡ role_select kind → Has a c g role
   excess : (k : ℕ) → k < a.num_excess → get_or a.gpios (a.num_lines + k) 0 ≡ g → role ≡ role_half → Has a c g role

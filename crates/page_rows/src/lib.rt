@@ -47,9 +47,7 @@ pub fn put_rows(page: &mut [u8], roles: &[u8])
     ensures { page.new ≡ laid page.old 0 (joined 48 (λ g. row_text g (get_or roles.now g 0))) }
 {
     let texts = role_texts();
-    let mut gpio: u8 = 0;
-    while gpio < 48 {
+    for gpio in 0u8..48 {
         put_row(page, &texts, gpio, entry(roles, gpio as usize));
-        gpio += 1;
     }
 }

@@ -1,10 +1,8 @@
 -- How many lines pick a chip, and which chip they pick. Assumes nothing.
-use Rattle.std.specs.Prelude.{ℕ, ◌+◌, Bool, cond, leb, ltb, eqb}
+use Rattle.std.specs.Prelude.{ℕ, ◌+◌, Bool, cond, leb, ltb, eqb, Option, Some, None}
 use Rattle.slot.specs.declared.description.ChipSetType.{ChipSetType}
 use Rattle.slot.specs.declared.description.ChipSetType.TheVariants.{Single, Banked, Multi}
 use Rattle.lists.specs.Each.{between}
-use Rattle.picks.specs.declared.Picked.{Picked}
-use Rattle.picks.specs.declared.Picked.TheVariants.{NoChip, Chip}
 
 -- 01 Number 12: passed by one chip in Single, by two to four in Banked, by two or three in Multi
 abbrev pub chips_fit : ChipSetType → ℕ → Bool
@@ -26,7 +24,7 @@ picks_of Multi chips = 1 + x_lines chips
 -- the chip that the bits of these lines pick, the first line's bit lowest
 -- 01 rom_image 4: in Banked the bits are the chip's number; none is picked where there is no such chip
 -- 01 rom_image 5: in Multi line k alone high picks chip k, both from 0; none is picked by other bits
-abbrev pub picked_by : ChipSetType → ℕ → ℕ → Picked
-picked_by Single chips bits = Chip 0
-picked_by Banked chips bits = cond (ltb bits chips) (Chip bits) NoChip
-picked_by Multi chips bits = cond (eqb bits 1) (Chip 0) (cond (eqb bits 2) (Chip 1) (cond (eqb bits 4) (Chip 2) NoChip))
+abbrev pub picked_by : ChipSetType → ℕ → ℕ → Option ℕ
+picked_by Single chips bits = Some 0
+picked_by Banked chips bits = cond (ltb bits chips) (Some bits) None
+picked_by Multi chips bits = cond (eqb bits 1) (Some 0) (cond (eqb bits 2) (Some 1) (cond (eqb bits 4) (Some 2) None))

@@ -9,13 +9,6 @@ ghost use Rattle.picks.specs.Picks.{x_lines, picks_of, picked_by, chips_fit};
 
 use slot::description::ChipSetType;
 
-// The chip whose word an entry holds.
-#[derive(Clone, Copy)]
-pub enum Picked {
-    NoChip,
-    Chip(u8),
-}
-
 fn x_lines(chips: u8) -> u8
     ensures value { result ≡ x_lines chips }
     ensures upper_bound { result ≤ 2 }
@@ -38,36 +31,32 @@ pub fn num_picks(set_type: ChipSetType, chips: u8) -> u8
     }
 }
 
-fn bank(chips: u8, bits: u8) -> Picked
+fn bank(chips: u8, bits: u8) -> Option<u8>
     ensures { result ≡ picked_by Banked chips bits }
 {
     if chips <= bits {
-        return Picked::NoChip;
+        return None;
     }
-    Picked::Chip(bits)
+    Some(bits)
 }
 
-fn only_one(bits: u8) -> Picked
+fn only_one(bits: u8) -> Option<u8>
     ensures { result ≡ picked_by Multi 0 bits }
 {
-    if bits == 1 {
-        return Picked::Chip(0);
+    match bits {
+        1 => Some(0),
+        2 => Some(1),
+        4 => Some(2),
+        _ => None,
     }
-    if bits == 2 {
-        return Picked::Chip(1);
-    }
-    if bits == 4 {
-        return Picked::Chip(2);
-    }
-    Picked::NoChip
 }
 
 // The chip that the bits of the picking lines pick.
-pub fn picked_by(set_type: ChipSetType, chips: u8, bits: u8) -> Picked
+pub fn picked_by(set_type: ChipSetType, chips: u8, bits: u8) -> Option<u8>
     ensures { result ≡ picked_by set_type chips bits }
 {
     match set_type {
-        ChipSetType::Single => Picked::Chip(0),
+        ChipSetType::Single => Some(0),
         ChipSetType::Banked => bank(chips, bits),
         ChipSetType::Multi => only_one(bits),
     }

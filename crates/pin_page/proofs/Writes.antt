@@ -1,4 +1,5 @@
 -- What a write leaves in the page, by its answer. Assumes nothing.
+use Rattle.std.specs.Prelude.{Ok, Err}
 use mathlib.Core.Path.{◌≡◌, refl, ◌∙◌, ap}
 use mathlib.Core.Bool.{true, false}
 use mathlib.Core.List.{List}
@@ -8,7 +9,6 @@ use lib.ListN.{length, get_or}
 use borrow.Author.Tests.{lt-ltb, le-ltb}
 use Rattle.lists.specs.Tab.{tab, joined}
 use Rattle.lists.proofs.Tab.{get_or-tab, joined_cong}
-use Rattle.refusal.specs.declared.WriteAnswer.TheVariants.{Written, Refused}
 use Rattle.refusal.specs.declared.Refusal.TheVariants.{OutOfDomain, ShortBuffer}
 use Rattle.addr_layout.specs.declared.layout.AddrLayout.{AddrLayout}
 use Rattle.cs_data_layout.specs.declared.layout.CsDataLayout.{CsDataLayout}
@@ -44,7 +44,7 @@ module _ (a : AddrLayout) (c : CsDataLayout) where
     text_same = joined_cong 48 (λ g. row_text g (get_or roles g 0)) (λ g. row_text g (role_of a c g)) (λ g h. ap (row_text g) (role-at g h))
 
     pub writes_all : layouts_in a c ≡ true → (page out : List ℕ) → 432 ≤ length page → out ≡ laid page 0 (joined 48 (λ g. row_text g (get_or roles g 0)))
-        → wrote_as (Written 432) out ≡ page_of a c page
+        → wrote_as (Ok 432) out ≡ page_of a c page
     unfolding page_of
     writes_all t page out h e =
         let m : length (page_text a c) ≤ length page = omega (arith, page-long) in
@@ -53,10 +53,10 @@ module _ (a : AddrLayout) (c : CsDataLayout) where
 
   -- an answer that leaves the page as it was lent
   module _ (page : List ℕ) where
-    pub writes_none : layouts_in a c ≡ false → wrote_as (Refused OutOfDomain) page ≡ page_of a c page
+    pub writes_none : layouts_in a c ≡ false → wrote_as (Err OutOfDomain) page ≡ page_of a c page
     unfolding page_of
     writes_none t = rw t
 
-    pub writes_short : layouts_in a c ≡ true → length page < 432 → wrote_as (Refused ShortBuffer) page ≡ page_of a c page
+    pub writes_short : layouts_in a c ≡ true → length page < 432 → wrote_as (Err ShortBuffer) page ≡ page_of a c page
     unfolding page_of
     writes_short t h = rw (t, lt-ltb (length page) (length (page_text a c)) (omega (arith, page-long)))

@@ -1,7 +1,6 @@
 -- The page of two layouts, what the call answers, and what the lent page holds then. Assumes nothing.
-use Rattle.std.specs.Prelude.{ℕ, Bool, ◌&&◌, cond, List}
+use Rattle.std.specs.Prelude.{ℕ, Bool, ◌&&◌, cond, List, Err}
 use Rattle.lists.specs.Tab.{joined}
-use Rattle.refusal.specs.declared.WriteAnswer.TheVariants.{Refused}
 use Rattle.refusal.specs.declared.Refusal.TheVariants.{OutOfDomain}
 use Rattle.addr_layout.specs.Layout.{layout_in}
 use Rattle.addr_layout.specs.declared.layout.AddrLayout.{AddrLayout}
@@ -22,4 +21,4 @@ layouts_in a c = layout_in a && cs_data_in c
 -- 01 Numbers 2: the domain is tested first
 -- 02 Slip 1 8: then the page's length is returned, and what stands behind it stays; too short a buffer is refused by 16
 unfoldable pub page_of : AddrLayout → CsDataLayout → List ℕ → Wrote
-page_of a c page = cond (layouts_in a c) (written (page_text a c) page) (wrote_as (Refused OutOfDomain) page)
+page_of a c page = cond (layouts_in a c) (written (page_text a c) page) (wrote_as (Err OutOfDomain) page)

@@ -1,8 +1,6 @@
 -- The role of a GPIO under both layouts. Assumes nothing.
-use Rattle.std.specs.Prelude.{ℕ, ◌+◌, min, Bool, true, false, cond, List, [], ◌∷◌, ◌++◌, eqb, get_or}
+use Rattle.std.specs.Prelude.{ℕ, ◌+◌, min, Bool, true, false, cond, List, [], ◌∷◌, ◌++◌, eqb, get_or, Option, Some, None}
 use Rattle.lists.specs.Tab.{tab}
-use Rattle.gpio.specs.declared.line.LineGpio.{LineGpio}
-use Rattle.gpio.specs.declared.line.LineGpio.TheVariants.{Unused, At}
 use Rattle.cs_roles.specs.Roles.{x1_role, x2_role, half_role}
 use Rattle.addr_layout.specs.declared.layout.AddrLayout.{AddrLayout}
 use Rattle.cs_data_layout.specs.Choices.{excess_gpio}
@@ -59,9 +57,9 @@ abbrev pub data_lines : CsDataLayout → List PageLine
 data_lines c = tab c.num_data_pins (λ n. page_line (role_d n) (get_or c.data_pin_gpios n 0))
 
 -- an X pin of the address layout, where it has one
-abbrev pub x_line : ℕ → LineGpio → List PageLine
-x_line role Unused = []
-x_line role (At g) = page_line role g ∷ []
+abbrev pub x_line : ℕ → Option ℕ → List PageLine
+x_line role None = []
+x_line role (Some g) = page_line role g ∷ []
 
 -- 02 Slip 4 4: an X pin or a half select counts as such among the select lines and among the commoned ones
 abbrev pub line_role : Bool → ℕ → ℕ

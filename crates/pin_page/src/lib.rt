@@ -12,7 +12,7 @@ use addr_layout::layout::{AddrLayout, layout_in};
 use build_args::in_domain::cs_data_in;
 use cs_data_layout::layout::CsDataLayout;
 use page_rows::put_rows;
-use refusal::{Refusal, WriteAnswer};
+use refusal::Refusal;
 
 // Bytes of a page.
 pub const SIZE: usize = 432;
@@ -25,16 +25,20 @@ fn layouts_in(addr: AddrLayout, cs_data: CsDataLayout) -> bool
 }
 
 // Writes the page of both layouts, and says how long it is.
-pub fn write_page(addr: AddrLayout, cs_data: CsDataLayout, page: &mut [u8]) -> WriteAnswer
+pub fn write_page(
+    addr: AddrLayout,
+    cs_data: CsDataLayout,
+    page: &mut [u8],
+) -> Result<usize, Refusal>
     ensures { wrote_as result page.new ≡ page_of addr cs_data page.old }
 {
     if !layouts_in(addr, cs_data) {
-        return WriteAnswer::Refused(Refusal::OutOfDomain);
+        return Err(Refusal::OutOfDomain);
     }
     if page.len() < SIZE {
-        return WriteAnswer::Refused(Refusal::ShortBuffer);
+        return Err(Refusal::ShortBuffer);
     }
     let roles = page_roles(addr, cs_data);
     put_rows(page, &roles);
-    WriteAnswer::Written(SIZE)
+    Ok(SIZE)
 }

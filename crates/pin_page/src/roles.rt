@@ -10,7 +10,6 @@ use addr_layout::layout::AddrLayout;
 use build_args::in_domain::line_of;
 use cs_data_layout::layout::CsDataLayout;
 use cs_roles::{HALF_ROLE, X1_ROLE, X2_ROLE};
-use gpio::line::LineGpio;
 use lists::array::entry;
 
 // The numbers of the roles: where those of a class begin that are counted on from there, and single ones.
@@ -47,10 +46,8 @@ fn mark_numbered(roles: &mut [u8], gpios: &[u8], n: u8, first: u8)
     requires { first + n ≤ 255 }
     ensures { roles.new ≡ marked_all roles.old (tab n (λ k. page_line (first + k) (get_or gpios.now k 0))) }
 {
-    let mut k: u8 = 0;
-    while k < n {
+    for k in 0..n {
         mark(roles, entry(gpios, k as usize), first + k);
-        k += 1;
     }
 }
 
@@ -61,20 +58,17 @@ fn mark_excess(roles: &mut [u8], a: AddrLayout)
     let gpios = a.gpios;
     let first = a.num_lines as usize;
     let n = a.num_excess as usize;
-    let mut k: usize = 0;
-    while k < n {
+    for k in 0..n {
         mark(roles, entry(&gpios, first + k), HALF);
-        k += 1;
     }
 }
 
 // Gives an X pin's GPIO its role.
-fn mark_x(roles: &mut [u8], x: LineGpio, role: u8)
+fn mark_x(roles: &mut [u8], x: Option<u8>, role: u8)
     ensures { roles.new ≡ marked_all roles.old (x_line role x) }
 {
-    match x {
-        LineGpio::Unused => {}
-        LineGpio::At(g) => mark(roles, g, role),
+    if let Some(gpio) = x {
+        mark(roles, gpio, role);
     }
 }
 
@@ -104,11 +98,9 @@ fn mark_lines(roles: &mut [u8], c: CsDataLayout, commoned: bool, n: u8)
     ensures { roles.new ≡ marked_all roles.old (select_lines c commoned n) }
 {
     let count = n as usize;
-    let mut k: usize = 0;
-    while k < count {
+    for k in 0..count {
         let line = line_of(c, commoned, k);
         mark(roles, line.gpio, line_role(commoned, line.role));
-        k += 1;
     }
 }
 

@@ -1,4 +1,5 @@
 -- The tests of sameness pass just what is the same. Assumes nothing.
+use Rattle.std.specs.Prelude.{Option, Some, None}
 use mathlib.Core.Path.{◌≡◌, refl, sym, ◌∙◌, ap}
 use mathlib.Core.Bool.{Bool, true, false, ◌&&◌}
 use mathlib.Core.List.{List}
@@ -10,8 +11,6 @@ use Rattle.lists.proofs.Bools.{and_left, and_right}
 use Rattle.lists.proofs.Each.{each_all, each_at}
 use Rattle.gpio.specs.declared.candidates.Candidates.{Candidates}
 use Rattle.gpio.specs.declared.candidates.Candidates.TheVariants.{Absent, One, Two}
-use Rattle.gpio.specs.declared.line.LineGpio.{LineGpio}
-use Rattle.gpio.specs.declared.line.LineGpio.TheVariants.{Unused, At}
 use Rattle.slot.specs.declared.description.ChipSetType.{ChipSetType}
 use Rattle.slot.specs.declared.description.ChipSetType.TheVariants.{Single, Banked, Multi}
 use Rattle.stored_slot.specs.declared.stored.SlotType.{SlotType}
@@ -71,12 +70,12 @@ pub roms_if : (x : SlotType) (t : ChipSetType) → x ≡ Roms t → is_roms x t 
 roms_if x t q = ap (λ (y : SlotType). is_roms y t) q ∙ set_self t
 
 -- a line's GPIO
-pub at_is : (x : LineGpio) (g : ℕ) → is_at x g ≡ true → x ≡ At g
-at_is Unused g e = absurd (not_so e)
-at_is (At h) g e = ap At (eqb-true h g e)
+pub at_is : (x : Option ℕ) (g : ℕ) → is_at x g ≡ true → x ≡ Some g
+at_is None g e = absurd (not_so e)
+at_is (Some h) g e = ap Some (eqb-true h g e)
 
-pub at_if : (x : LineGpio) (g : ℕ) → x ≡ At g → is_at x g ≡ true
-at_if x g q = ap (λ (y : LineGpio). is_at y g) q ∙ eq-eqb g g refl
+pub at_if : (x : Option ℕ) (g : ℕ) → x ≡ Some g → is_at x g ≡ true
+at_if x g q = ap (λ (y : Option ℕ). is_at y g) q ∙ eq-eqb g g refl
 
 -- the first entries of a list
 pub to_is : (n : ℕ) (l m : List ℕ) → same_to n l m ≡ true → (k : ℕ) → k < n → get_or l k 0 ≡ get_or m k 0

@@ -1,10 +1,8 @@
 -- Whether two values are the same: candidates, set kinds, GPIOs. Assumes nothing.
-use Rattle.std.specs.Prelude.{ℕ, Bool, true, false, ◌&&◌, not, List, eqb, get_or}
+use Rattle.std.specs.Prelude.{ℕ, Bool, true, false, ◌&&◌, not, List, eqb, get_or, Option, Some, None}
 use Rattle.lists.specs.Each.{each}
 use Rattle.gpio.specs.declared.candidates.Candidates.{Candidates}
 use Rattle.gpio.specs.declared.candidates.Candidates.TheVariants.{Absent, One, Two}
-use Rattle.gpio.specs.declared.line.LineGpio.{LineGpio}
-use Rattle.gpio.specs.declared.line.LineGpio.TheVariants.{Unused, At}
 use Rattle.slot.specs.Description.{is_single, is_multi}
 use Rattle.slot.specs.declared.description.ChipSetType.{ChipSetType}
 use Rattle.slot.specs.declared.description.ChipSetType.TheVariants.{Single, Banked, Multi}
@@ -43,9 +41,9 @@ is_roms Plugin t = false
 is_roms (Roms u) t = same_set u t
 
 -- whether a line is at a GPIO
-abbrev pub is_at : LineGpio → ℕ → Bool
-is_at Unused g = false
-is_at (At h) g = eqb h g
+abbrev pub is_at : Option ℕ → ℕ → Bool
+is_at None g = false
+is_at (Some h) g = eqb h g
 
 -- whether two lists have the same first n entries
 unfoldable pub same_to : ℕ → List ℕ → List ℕ → Bool

@@ -1,5 +1,5 @@
 -- A well wired slot as document 01 has it, sentence by sentence: the slot, and what read-back is given. Assumes nothing.
-use Rattle.std.specs.Prelude.{◌≡◌, true, false, ℕ, ◌+◌, ◌*◌, ◌≤◌, ◌<◌, get_or}
+use Rattle.std.specs.Prelude.{◌≡◌, true, false, ℕ, ◌+◌, ◌*◌, ◌≤◌, ◌<◌, get_or, Some}
 use Rattle.gpio.specs.Candidates.{two}
 use Rattle.gpio.specs.declared.candidates.Candidates.{Candidates}
 use Rattle.slot.specs.Description.{is_single, is_multi, chip0, no_chip}
@@ -11,7 +11,6 @@ use Rattle.listing.specs.Lines.{kind_pin, pin_candidates}
 use Rattle.addr_lines.specs.Lines.{first_pin}
 use Rattle.addr_lines.specs.Range.{in_range}
 use Rattle.addr_law.specs.Law.{InWindow}
-use Rattle.gpio.specs.declared.line.LineGpio.TheVariants.{At}
 use Rattle.addr_layout.specs.declared.layout.AddrLayout.{AddrLayout}
 use Rattle.cs_data_layout.specs.Choices.{num_data}
 use Rattle.cs_data_layout.specs.declared.layout.CsDataLayout.{CsDataLayout}
@@ -112,7 +111,7 @@ pub record StoredAs (d : Description) (a : AddrLayout) (c : CsDataLayout) (s : S
   -- 01 Well wired 12: in Multi the select algorithm is AlgCs0
   pub alg_cs : is_multi d.set_type ≡ true → ◌≡◌ {A = ℕ} s.alg_cs.alg 0
   -- 01 Well wired 12: in Multi the select is at the GPIO of the first select line
-  pub select : is_multi d.set_type ≡ true → first_select c ≡ At (stored.stored_select s)
+  pub select : is_multi d.set_type ≡ true → first_select c ≡ Some (stored.stored_select s)
   -- no more overrides than there is room for
   pub overrides : s.num_overrides ≤ 64
 

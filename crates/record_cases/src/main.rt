@@ -6,12 +6,11 @@
 ghost use Rattle.std.specs.Prelude.{◌≤◌};
 
 use addr_layout::derive_addr_layout;
-use addr_layout::layout::{AddrLayout, AddrOutcome, no_layout};
+use addr_layout::layout::{AddrLayout, no_layout};
 use build_args::BuildArgs;
 use build_args::images::ImageSpan;
 use cs_data_layout::derive_cs_data_layout;
-use cs_data_layout::layout::{CsDataLayout, CsDataOutcome, GivenLayout, IgnoreIndex, refused};
-use refusal::{Answer, Refusal};
+use cs_data_layout::layout::CsDataLayout;
 use rom_image::build_rom_image;
 use say::{say, say_number, say_refusal};
 use slot::description::Description;
@@ -32,11 +31,9 @@ fn rising(b: [u8; 424], from: usize, to: usize, step: usize, value: u8) -> [u8; 
     requires { (1 ≤ step) × (step ≤ 3) × (to ≤ 424) }
 {
     let mut out = b;
-    let mut at = from;
     let mut x = value;
-    while at < to {
+    for at in (from..to).step_by(step) {
         out[at] = x;
-        at += step;
         x = wrapping_add_u8(x, 1);
     }
     out
@@ -47,10 +44,8 @@ fn repeated(b: [u8; 424], from: usize, to: usize, step: usize, value: u8) -> [u8
     requires { (1 ≤ step) × (step ≤ 3) × (to ≤ 424) }
 {
     let mut out = b;
-    let mut at = from;
-    while at < to {
+    for at in (from..to).step_by(step) {
         out[at] = value;
-        at += step;
     }
     out
 }
@@ -101,8 +96,8 @@ fn taken(b: [u8; 424]) -> bool {
     let decoded = description_record::decode(&b);
     let answer = decoded.answer;
     match answer {
-        Answer::Done => domain::description::description_in(decoded.description),
-        Answer::Refused(_) => false,
+        Ok(()) => domain::description::description_in(decoded.description),
+        Err(_) => false,
     }
 }
 
@@ -291,11 +286,9 @@ fn chips(rt: &impl Print) -> io::Result<()> {
 
 // Whether the address search refuses the description by number 1.
 fn address_taken(d: Description) -> bool {
-    let answer = derive_addr_layout(d);
-    let outcome = answer.outcome;
-    match outcome {
-        AddrOutcome::LaidOut => true,
-        AddrOutcome::Refused(r) => r.number() != 1,
+    match derive_addr_layout(d) {
+        Ok(_) => true,
+        Err(r) => r.number() != 1,
     }
 }
 
@@ -349,19 +342,17 @@ fn say_layout(rt: &impl Print, layout: AddrLayout) -> io::Result<()> {
 fn three_lines(rt: &impl Print, first: u8, second: u8, third: u8, or: u8) -> io::Result<()> {
     let few = with(with(with(sample(), 140, 3), 52, first), 54, second);
     let decoded = description_record::decode(&with(with(few, 56, third), 57, or));
-    let answer = derive_addr_layout(decoded.description);
-    let outcome = answer.outcome;
-    match outcome {
-        AddrOutcome::LaidOut => say_layout(rt, answer.layout),
-        AddrOutcome::Refused(r) => say_refusal(rt, r),
+    match derive_addr_layout(decoded.description) {
+        Ok(layout) => say_layout(rt, layout),
+        Err(r) => say_refusal(rt, r),
     }
 }
 
 fn say_ignore_index(rt: &impl Print, layout: CsDataLayout) -> io::Result<()> {
     let index = layout.cs_ignore_index;
     match index {
-        IgnoreIndex::None => say(rt, b"no ignore index\n"),
-        IgnoreIndex::At(k) => {
+        None => say(rt, b"no ignore index\n"),
+        Some(k) => {
             say(rt, b"ignore index ")?;
             say_number(rt, k as u64)?;
             say(rt, b"\n")
@@ -372,15 +363,9 @@ fn say_ignore_index(rt: &impl Print, layout: CsDataLayout) -> io::Result<()> {
 // The sample with ce and oe at two GPIOs, changed further by the caller.
 fn two_selects(rt: &impl Print, b: [u8; 424], ce: u8, oe: u8) -> io::Result<()> {
     let decoded = description_record::decode(&with(with(b, 124, ce), 126, oe));
-    let none = GivenLayout {
-        given: false,
-        layout: no_layout(),
-    };
-    let answer = derive_cs_data_layout(decoded.description, none);
-    let outcome = answer.outcome;
-    match outcome {
-        CsDataOutcome::LaidOut => say_ignore_index(rt, answer.layout),
-        CsDataOutcome::Refused(r) => say_refusal(rt, r),
+    match derive_cs_data_layout(decoded.description, None) {
+        Ok(layout) => say_ignore_index(rt, layout),
+        Err(r) => say_refusal(rt, r),
     }
 }
 
@@ -403,8 +388,7 @@ fn two_lines() -> AddrLayout {
 
 // Eight data lines on these GPIOs.
 fn data_lines(gpios: [u8; 16]) -> CsDataLayout {
-    let blank = refused(Refusal::OutOfDomain);
-    let mut c = blank.layout;
+    let mut c = cs_data_layout::layout::no_layout();
     c.num_data_pins = 8;
     c.data_pin_gpios = gpios;
     c
@@ -448,8 +432,8 @@ fn one_entry(
         spans: [chip; 4],
     };
     match build_rom_image(ByteOrder::LowFirst, args, bytes, &mut table) {
-        Answer::Done => say_entry(rt, &table, index),
-        Answer::Refused(r) => say_refusal(rt, r),
+        Ok(()) => say_entry(rt, &table, index),
+        Err(r) => say_refusal(rt, r),
     }
 }
 

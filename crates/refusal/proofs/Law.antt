@@ -1,4 +1,5 @@
 -- The first fault of several, by what 'first' says. Assumes nothing.
+use Rattle.std.specs.Prelude.{Option, Some, None}
 use mathlib.Core.Path.{◌≡◌, refl, sym, ◌∙◌, ap}
 use mathlib.Core.Logic.{inl, inr}
 use Prim.Native.Nat.{ℕ, zero, suc}
@@ -38,38 +39,36 @@ use Rattle.refusal.specs.declared.Refusal.TheVariants.{
   BadChecksum,
   PastChip,
 }
-use Rattle.refusal.specs.declared.first.FirstFault.{FirstFault}
-use Rattle.refusal.specs.declared.first.FirstFault.TheVariants.{None, Of}
 use Rattle.refusal.proofs.Firsts.{first-all, none_of}
 
-module _ (f : ℕ → FirstFault) where
+module _ (f : ℕ → Option Refusal) where
   -- one more: the fault found before, else its own
-  more : (n : ℕ) (r : Refusal) (g : FirstFault) → first_of n f ≡ g → ((q : Refusal) → first_of n f ≡ Of q → Lowest n f q) → or_else g (f n) ≡ Of r
+  more : (n : ℕ) (r : Refusal) (g : Option Refusal) → first_of n f ≡ g → ((q : Refusal) → first_of n f ≡ Some q → Lowest n f q) → or_else g (f n) ≡ Some r
       → Lowest (suc n) f r
-  more n r (Of q) e h o =
+  more n r (Some q) e h o =
       let l = h r (e ∙ o) in
       record { at = l.at; within = omega (arith, l.within); fault = l.fault; none_before = l.none_before }
   more n r None e h o = record { at = n; within = omega arith; fault = o; none_before = first-all f n e }
 
-  found : (n : ℕ) (r : Refusal) → first_of n f ≡ Of r → Lowest n f r
+  found : (n : ℕ) (r : Refusal) → first_of n f ≡ Some r → Lowest n f r
   unfolding first_of
   found zero r e = absurd (zero_one cc)
   found (suc n) r e = more n r (first_of n f) refl (found n) e
 
-  is_found : (n : ℕ) (r : Refusal) → Lowest n f r → first_of n f ≡ Of r
+  is_found : (n : ℕ) (r : Refusal) → Lowest n f r → first_of n f ≡ Some r
   unfolding first_of
   is_found zero r l = absurd (omega (arith, l.within))
   is_found (suc n) r l = elim (eq-or-lt_of_le (le_of_suc-le-suc l.within)) [
     | inl q ↦
         let none : first_of n f ≡ None = none_of n f (λ k h. l.none_before k (omega arith)) in
-        let own : f n ≡ Of r = ap f (sym q) ∙ l.fault in
+        let own : f n ≡ Some r = ap f (sym q) ∙ l.fault in
         rw (none, own)
     | inr h ↦
-        let before : first_of n f ≡ Of r = is_found n r (record { at = l.at; within = h; fault = l.fault; none_before = l.none_before }) in
+        let before : first_of n f ≡ Some r = is_found n r (record { at = l.at; within = h; fault = l.fault; none_before = l.none_before }) in
         rw before
   ]
 
-pub first_law : (n : ℕ) (f : ℕ → FirstFault) → FirstLaw n f
+pub first_law : (n : ℕ) (f : ℕ → Option Refusal) → FirstLaw n f
 first_law n f = record { found = found f n; is_found = is_found f n; none = first-all f n; is_none = none_of n f }
 
 pub number_law : (why : Refusal) → NumberLaw why

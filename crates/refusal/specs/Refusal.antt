@@ -1,9 +1,6 @@
 -- The number and the place of each refusal, in the order of document 01's table. Rows without a name there have one here.
 -- Assumes nothing.
-use Rattle.std.specs.Prelude.{ℕ, ◌+◌, ◌*◌, ◌^◌}
-use Rattle.refusal.specs.declared.Answer.{Answer}
-use Rattle.refusal.specs.declared.Answer.TheVariants.{Done, Refused}
-use Rattle.refusal.specs.declared.WriteAnswer.{WriteAnswer}
+use Rattle.std.specs.Prelude.{ℕ, ◌+◌, ◌*◌, ◌^◌, Result, Ok, Err}
 use Rattle.refusal.specs.declared.Refusal.{Refusal}
 use Rattle.refusal.specs.declared.Refusal.TheVariants.{
   OutOfDomain,
@@ -114,11 +111,11 @@ abbrev pub refusal_code : Refusal → Code
 refusal_code why = record { number = number_of why; place = place_of why }
 
 -- the code of a build, of a read-back and of a round trip
-abbrev pub answer_code : Answer → Code
-answer_code Done = success
-answer_code (Refused why) = refusal_code why
+abbrev pub answer_code : Result (Unit {0}) Refusal → Code
+answer_code (Ok tt) = success
+answer_code (Err why) = refusal_code why
 
 -- the code of a call that writes a text or a file: the length of what it wrote stands where a refusal's place does
-abbrev pub write_code : WriteAnswer → Code
-write_code (WriteAnswer.Written n) = record { number = 0; place = n }
-write_code (WriteAnswer.Refused why) = refusal_code why
+abbrev pub write_code : Result ℕ Refusal → Code
+write_code (Ok n) = record { number = 0; place = n }
+write_code (Err why) = refusal_code why

@@ -1,42 +1,15 @@
-// The first fault of several: tests go in an order, and the first that fails answers.
+// The answer to tests that go in an order: the first that fails.
 ghost use Rattle.std.specs.Prelude.{◌≡◌};
-ghost use Rattle.refusal.specs.First.{or_else, fault_if, answered};
+ghost use Rattle.refusal.specs.First.{answered};
 
-use crate::{Answer, Refusal};
-
-// What the tests so far come to.
-#[derive(Clone, Copy)]
-pub enum FirstFault {
-    None,
-    Of(Refusal),
-}
-
-// The first of two faults.
-pub fn or_else(first: FirstFault, second: FirstFault) -> FirstFault
-    ensures { result ≡ or_else first second }
-{
-    match first {
-        FirstFault::Of(r) => FirstFault::Of(r),
-        FirstFault::None => second,
-    }
-}
-
-// A fault where something is wrong.
-pub fn fault_if(bad: bool, why: Refusal) -> FirstFault
-    ensures { result ≡ fault_if bad why }
-{
-    if bad {
-        return FirstFault::Of(why);
-    }
-    FirstFault::None
-}
+use crate::Refusal;
 
 // The answer where nothing is left to test.
-pub fn answered(fault: FirstFault) -> Answer
+pub fn answered(fault: Option<Refusal>) -> Result<(), Refusal>
     ensures { result ≡ answered fault }
 {
     match fault {
-        FirstFault::None => Answer::Done,
-        FirstFault::Of(why) => Answer::Refused(why),
+        None => Ok(()),
+        Some(why) => Err(why),
     }
 }

@@ -42,20 +42,6 @@ pub enum Refusal {
     PastChip,
 }
 
-// What a call that returns nothing else answers: it is done, or refused.
-#[derive(Clone, Copy)]
-pub enum Answer {
-    Done,
-    Refused(Refusal),
-}
-
-// What a call that writes a text or a file answers: how many bytes it wrote, or that it is refused.
-#[derive(Clone, Copy)]
-pub enum WriteAnswer {
-    Written(usize),
-    Refused(Refusal),
-}
-
 impl Refusal {
     // The refusal's number.
     pub fn number(self) -> u8

@@ -43,10 +43,8 @@ fn span_byte(case: &[u64], j: usize) -> u8
 // The record of the spans.
 pub(crate) fn span_bytes(case: &[u64]) -> [u8; 48] {
     let mut out = [0u8; 48];
-    let mut j: usize = 0;
-    while j < 48 {
+    for j in 0..48 {
         out[j] = span_byte(case, j);
-        j += 1;
     }
     out
 }
@@ -66,21 +64,17 @@ fn set(images: &mut [u8], at: usize, byte: u8) {
 fn fill_one(images: &mut [u8], start: usize, seed: u64)
     requires { start ≤ 24576 }
 {
-    let mut n: usize = 0;
-    while n < 8192 {
+    for n in 0..8192 {
         set(images, start + n, image_byte(seed, n as u64));
-        n += 1;
     }
 }
 
 // Writes the images; whether they have room.
 pub(crate) fn fill(case: &[u64], images: &mut [u8]) -> bool {
     let mut ok = true;
-    let mut k: usize = 0;
-    while k < 4 {
+    for k in 0..4 {
         fill_one(images, 8192 * k, number_at(case, 557 + 3 * k));
         ok = ok & (number_at(case, 556 + 3 * k) < ROOM);
-        k += 1;
     }
     ok
 }
@@ -98,10 +92,8 @@ fn times_prime(x: u64) -> u64 {
 // FNV-1a.
 pub(crate) fn checksum(bytes: &[u8]) -> u64 {
     let mut sum: u64 = 14695981039346656037;
-    let mut k: usize = 0;
-    while k < bytes.len() {
+    for k in 0..bytes.len() {
         sum = times_prime(sum ^ wide(bytes[k]));
-        k += 1;
     }
     sum
 }

@@ -1,4 +1,5 @@
-// The layouts of a case, and of an answer: the numbers of their records in another order, without the places that are kept.
+// The layouts of a case, and of an answer: the numbers of their records in another order, without the places that are kept. Both records
+// have functions of their own: one over a closure that places a number would owe each caller the bound on what it answers.
 ghost use Rattle.std.specs.Prelude.{◌<◌, ◌≤◌};
 
 use case_numbers::answer::put;
@@ -37,10 +38,8 @@ pub(crate) fn addr_bytes(case: &[u64], at: usize) -> [u8; 36]
     requires { at ≤ 1000 }
 {
     let mut out = [0u8; 36];
-    let mut j: usize = 0;
-    while j < 30 {
+    for j in 0..30 {
         out[addr_place(j)] = byte_at(case, at + j);
-        j += 1;
     }
     out
 }
@@ -50,30 +49,24 @@ pub(crate) fn select_bytes(case: &[u64], at: usize) -> [u8; 100]
     requires { at ≤ 1000 }
 {
     let mut out = [0u8; 100];
-    let mut j: usize = 0;
-    while j < 100 {
+    for j in 0..100 {
         out[select_place(j)] = byte_at(case, at + j);
-        j += 1;
     }
     out
 }
 
 pub(crate) fn put_addr_layout(ours: &mut [u64], at: usize, layout: [u8; 36]) -> usize {
     let mut end = at;
-    let mut j: usize = 0;
-    while j < 30 {
+    for j in 0..30 {
         end = put(ours, end, layout[addr_place(j)] as u64);
-        j += 1;
     }
     end
 }
 
 pub(crate) fn put_select_layout(ours: &mut [u64], at: usize, layout: [u8; 100]) -> usize {
     let mut end = at;
-    let mut j: usize = 0;
-    while j < 100 {
+    for j in 0..100 {
         end = put(ours, end, layout[select_place(j)] as u64);
-        j += 1;
     }
     end
 }

@@ -15,8 +15,6 @@ mod build; // kind 7
 mod images; // its images, and the checksum of its table
 mod layouts; // the numbers of both layouts
 
-ghost use Rattle.std.specs.Prelude.{◌<◌};
-
 use crate::line::Line;
 use say::say;
 use std::io;
@@ -82,10 +80,8 @@ fn bytes(
     differ: &mut [u64],
 ) -> io::Result<Line> {
     let mut l = line;
-    let mut k: usize = 0;
-    while k < some.len() {
-        l = byte(rt, l, some[k], numbers, cases, differ)?;
-        k += 1;
+    for b in some {
+        l = byte(rt, l, *b, numbers, cases, differ)?;
     }
     Ok(l)
 }
@@ -108,16 +104,7 @@ fn read_some(
     Ok(Step { line, more: 0 < n })
 }
 
-// One turn fewer, and none once the input has ended.
-fn left(turns: u64, more: bool) -> u64
-    requires { 0 < turns }
-    ensures { result < turns }
-{
-    if more { turns - 1 } else { 0 }
-}
-
-// Reads to the end. A proved loop has to end, and nothing says that the input does: so it counts its turns down, from a
-// number that no run uses up.
+// Reads to the end. A proved loop has to end, and nothing says that the input does: so it has as many turns as no run uses up.
 fn replay(
     rt: &(impl Input + Print),
     numbers: &mut [u64],
@@ -125,11 +112,12 @@ fn replay(
     differ: &mut [u64],
 ) -> io::Result<()> {
     let mut line = Line::first();
-    let mut turns = u64::MAX;
-    while 0 < turns {
+    for _ in 0..u64::MAX {
         let step = read_some(rt, line, numbers, cases, differ)?;
         line = step.line;
-        turns = left(turns, step.more);
+        if !step.more {
+            break;
+        }
     }
     finish(rt, line, numbers, cases, differ)
 }

@@ -4,8 +4,8 @@ ghost use Rattle.std.specs.Prelude.{◌≤◌};
 
 use case_numbers::answer::{put, put_bytes, refused, success};
 use case_numbers::case::{byte_at, has_bytes};
-use multi_select::{MultiOutcome, derive_multi_cs_config};
-use slot::description::{ControlLine, ControlLines, CsConfig, CsLogic, MultiCsConfig, Setting};
+use multi_select::derive_multi_cs_config;
+use slot::description::{ControlLine, ControlLines, CsConfig, CsLogic, MultiCsConfig};
 
 fn line(case: &[u64], at: usize) -> ControlLine {
     ControlLine {
@@ -38,11 +38,11 @@ fn logic(x: u8) -> CsLogic {
     }
 }
 
-fn setting(x: u8) -> Setting {
+fn setting(x: u8) -> Option<CsLogic> {
     if x == 255 {
-        return Setting::NotGiven;
+        return None;
     }
-    Setting::Given(logic(x))
+    Some(logic(x))
 }
 
 // The settings of a block: form, ce, oe, cs1 to cs4.
@@ -110,10 +110,8 @@ pub(crate) fn answer(case: &[u64], ours: &mut [u64]) -> usize {
     if !settings_in(case, 10) | !settings_in(case, 17) {
         return 0;
     }
-    let told = derive_multi_cs_config(control_lines(case), settings(case, 10), settings(case, 17));
-    let outcome = told.outcome;
-    match outcome {
-        MultiOutcome::Derived => put_config(case, ours, told.config),
-        MultiOutcome::Refused(why) => refused(case, ours, why),
+    match derive_multi_cs_config(control_lines(case), settings(case, 10), settings(case, 17)) {
+        Ok(config) => put_config(case, ours, config),
+        Err(why) => refused(case, ours, why),
     }
 }

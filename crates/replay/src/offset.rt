@@ -1,7 +1,7 @@
 // Kind 2: the offset of a chip's pins in the socket.
 use case_numbers::answer::{put, refused, success};
 use case_numbers::case::{byte_at, has_bytes};
-use slot::slot_context::{OffsetAnswer, raised, socket_pin_offset};
+use slot::slot_context::{raised, socket_pin_offset};
 
 // An offset below 0 is written as a byte, 252 to 255.
 fn as_byte(offset: i8) -> u64 {
@@ -14,10 +14,10 @@ pub(crate) fn answer(case: &[u64], ours: &mut [u64]) -> usize {
     }
     let told = socket_pin_offset(byte_at(case, 1), byte_at(case, 2));
     match told {
-        OffsetAnswer::Offset(by) => {
+        Ok(by) => {
             let n = success(case, ours);
             put(ours, n, as_byte(by))
         }
-        OffsetAnswer::Refused(why) => refused(case, ours, why),
+        Err(why) => refused(case, ours, why),
     }
 }

@@ -56,10 +56,8 @@ fn report_kind(rt: &impl Print, cases: &[u64], differ: &[u64], kind: usize) -> i
 }
 
 pub(crate) fn report(rt: &impl Print, cases: &[u64], differ: &[u64]) -> io::Result<()> {
-    let mut kind: usize = 1;
-    while kind <= LAST_KIND {
+    for kind in 1..=LAST_KIND {
         report_kind(rt, cases, differ, kind)?;
-        kind += 1;
     }
     say(rt, b"unread: ")?;
     say_number(rt, number_at(cases, 0))?;

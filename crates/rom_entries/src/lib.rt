@@ -14,12 +14,10 @@ use rom_turns::Rom;
 pub fn bits_for(roms: [u8; 8], n: u8, k: u8) -> u8
     ensures { result ≡ first_where n (λ j. eqb (get_or roms j 0) k) }
 {
-    let mut j: u8 = 0;
-    while j < n {
+    for j in 0..n {
         if entry(&roms, j as usize) == k {
             return j;
         }
-        j += 1;
     }
     n
 }
@@ -29,10 +27,8 @@ fn only(roms: [u8; 8], n: u8, k: u8, b: u8) -> bool
     ensures { result ≡ true → Only roms n k b }
 {
     let mut ok = (entry(&roms, b as usize) == k) & (b < n);
-    let mut j: u8 = 0;
-    while j < n {
+    for j in 0..n {
         ok = ok & ((entry(&roms, j as usize) != k) | (j == b));
-        j += 1;
     }
     ok
 }

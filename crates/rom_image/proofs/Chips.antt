@@ -1,4 +1,5 @@
 -- The words of a chip that is picked are where its source says. Assumes nothing.
+use Rattle.std.specs.Prelude.{Option, Some, None}
 use mathlib.Core.Path.{◌≡◌, refl, sym}
 use mathlib.Core.Bool.{Bool, true, false, cond}
 use mathlib.Core.List.{List}
@@ -19,8 +20,6 @@ use Rattle.slot.specs.Description.{no_chip}
 use Rattle.slot.specs.declared.description.Description.{Description}
 use Rattle.build_args.specs.Images.{chip_span, chip_bytes}
 use Rattle.build_args.specs.declared.images.ImageSpan.{ImageSpan}
-use Rattle.picks.specs.declared.Picked.{Picked}
-use Rattle.picks.specs.declared.Picked.TheVariants.{NoChip, Chip}
 use Rattle.build_wiring.specs.Counts.{word_count, power_of_two}
 use Rattle.rom_image.specs.Entry.{pad_of, word_of}
 use Rattle.build_wiring.specs.Design.Wiring.{source_of}
@@ -54,18 +53,18 @@ module _ (images : List ℕ) (span : ImageSpan) (w size : ℕ) (fits : size ≤ 
 
 module _ (d : Description) (images : List ℕ) (spans : List ImageSpan) where
   -- the chip that is picked has its bytes
-  abbrev pub Lent : Picked → Type 0
-  Lent p = (k : ℕ) → p ≡ Chip k → (get_or d.chips k no_chip).size ≤ length (chip_bytes images (chip_span spans k))
+  abbrev pub Lent : Option ℕ → Type 0
+  Lent p = (k : ℕ) → p ≡ Some k → (get_or d.chips k no_chip).size ≤ length (chip_bytes images (chip_span spans k))
 
-  pub raw_word : (order : ByteOrder) (pad : ℕ) (p : Picked) (n : ℕ) → Lent p → raw_from order images d.word_bytes (source_of d spans p) (pad_of pad d) n ≡ word_of pad order d images spans p n
-  raw_word order pad NoChip n h = rw (le-ltb n 0 (omega arith))
-  raw_word order pad (Chip k) n h =
+  pub raw_word : (order : ByteOrder) (pad : ℕ) (p : Option ℕ) (n : ℕ) → Lent p → raw_from order images d.word_bytes (source_of d spans p) (pad_of pad d) n ≡ word_of pad order d images spans p n
+  raw_word order pad None n h = rw (le-ltb n 0 (omega arith))
+  raw_word order pad (Some k) n h =
       chip_raw images (chip_span spans k) d.word_bytes (get_or d.chips k no_chip).size (h k refl) order (pad_of pad d) n
       (ltb n (word_count d k)) (power_of_two (word_count d k)) refl refl
 
-  pub source_in : (p : Picked) → 1 ≤ d.word_bytes → Lent p → SourceIn images d.word_bytes (source_of d spans p)
-  source_in NoChip b h = record { within = λ n l. absurd (omega arith); some = λ e. absurd (zero_one cc) }
-  source_in (Chip k) b h = record {
+  pub source_in : (p : Option ℕ) → 1 ≤ d.word_bytes → Lent p → SourceIn images d.word_bytes (source_of d spans p)
+  source_in None b h = record { within = λ n l. absurd (omega arith); some = λ e. absurd (zero_one cc) }
+  source_in (Some k) b h = record {
     within = λ n l. chip-within images (chip_span spans k) d.word_bytes (get_or d.chips k no_chip).size (h k refl) n b l;
     some = power_some (word_count d k);
   }

@@ -1,4 +1,6 @@
 -- Each refusal of a build is one of document 01's rows, with a place of 48 bits: no place, or one of at most four chips. Assumes nothing.
+use Rattle.std.specs.Prelude.{Option, Some, Err, None}
+use Rattle.refusal.specs.declared.Refusal.{Refusal}
 use mathlib.Core.Path.{◌≡◌, refl}
 use mathlib.Core.Bool.{Bool, true, false, not, ◌&&◌, cond}
 use mathlib.Core.List.{List}
@@ -9,10 +11,7 @@ use lib.ListN.{length, get_or}
 use Rattle.slot.specs.Description.{no_chip}
 use Rattle.refusal.specs.Refusal.{answer_code}
 use Rattle.refusal.specs.First.{first_of}
-use Rattle.refusal.specs.declared.Answer.{Answer}
 use Rattle.refusal.specs.declared.Refusal.TheVariants.{OutOfDomain, RomTableTooLarge, InvalidConfig, BadPosition, MissingImageData, ShortImageData, ShortBuffer}
-use Rattle.refusal.specs.declared.first.FirstFault.{FirstFault}
-use Rattle.refusal.specs.declared.first.FirstFault.TheVariants.{None, Of}
 use Rattle.refusal.proofs.Places.{FirstRows, Small, small_or, small_if, small_test, small-first}
 use Rattle.domain.proofs.Bounds.{description_in_lem}
 use Rattle.picks.specs.Picks.{chips_fit}
@@ -50,12 +49,12 @@ module _ (b : BuildArgs) (images : List ℕ) (room : ℕ) (e : build_in b ≡ tr
       (small_or (lines_fault b.description b.addr b.cs_data) _ small-lines (small_or (images_fault b.description images b.spans) _ small-images (small_if (too_short b.description b.addr room) ShortBuffer (omega arith))))
 
 module _ (order : ByteOrder) (b : BuildArgs) (images lent : List ℕ) where
-  after_place : (f : FirstFault) → Small f → FirstRows (answer_code (build_after order b images lent f).answer)
-  after_place (Of why) h = h
+  after_place : (f : Option Refusal) → Small f → FirstRows (answer_code (build_after order b images lent f).answer)
+  after_place (Some why) h = h
   after_place None h = omega arith
 
   in_place : (t : Bool) → build_in b ≡ t
-      → FirstRows (answer_code (cond t (build_after order b images lent (build_fault b images (length lent))) (built (Answer.Refused OutOfDomain) lent)).answer)
+      → FirstRows (answer_code (cond t (build_after order b images lent (build_fault b images (length lent))) (built (Err OutOfDomain) lent)).answer)
   in_place true e = after_place (build_fault b images (length lent)) (small-build b images (length lent) e)
   in_place false e = omega arith
 

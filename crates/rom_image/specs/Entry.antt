@@ -1,5 +1,5 @@
 -- rom_image.rs, `build_rom_image`: what each entry of the table holds. Assumes nothing.
-use Rattle.std.specs.Prelude.{ℕ, ◌*◌, ◌%◌, cond, List, ltb}
+use Rattle.std.specs.Prelude.{ℕ, ◌*◌, ◌%◌, cond, List, ltb, Option, Some, None}
 use Rattle.bits.specs.Bits.{gather, index_address, scatter}
 use Rattle.words.specs.Words.{pad_word, chip_word, entries_bytes}
 use Rattle.words.specs.declared.ByteOrder.{ByteOrder}
@@ -11,8 +11,6 @@ use Rattle.build_args.specs.Positions.{line_position, data_position}
 use Rattle.build_args.specs.Picks.{num_picks, pick_position, picked}
 use Rattle.build_args.specs.Faults.{entries_of}
 use Rattle.build_args.specs.declared.images.ImageSpan.{ImageSpan}
-use Rattle.picks.specs.declared.Picked.{Picked}
-use Rattle.picks.specs.declared.Picked.TheVariants.{NoChip, Chip}
 use Rattle.build_args.specs.declared.BuildArgs.{BuildArgs}
 use Rattle.build_wiring.specs.Counts.{word_count, power_of_two}
 
@@ -21,7 +19,7 @@ unfoldable pub chip_address : AddrLayout → ℕ → ℕ
 chip_address a i = index_address a.num_lines (line_position a) i
 
 -- the chip that an index picks
-unfoldable pub chip_picked : Description → AddrLayout → CsDataLayout → ℕ → Picked
+unfoldable pub chip_picked : Description → AddrLayout → CsDataLayout → ℕ → Option ℕ
 chip_picked d a c i = picked d (gather (num_picks d) (pick_position d a c) i)
 
 -- 01 rom_image 7: an address not below the number of words counts modulo that number where it is a power of two, and gives the pad
@@ -36,9 +34,9 @@ pad_of pad d = pad_word d.word_bytes pad
 -- the word of the chip that is picked, at an address
 -- 01 rom_image 6: where no chip is picked the word is the pad
 -- 02 Slip 5 2: the chip's word is taken by the byte order of the call
-abbrev pub word_of : ℕ → ByteOrder → Description → List ℕ → List ImageSpan → Picked → ℕ → ℕ
-word_of pad order d images spans NoChip n = pad_of pad d
-word_of pad order d images spans (Chip k) n =
+abbrev pub word_of : ℕ → ByteOrder → Description → List ℕ → List ImageSpan → Option ℕ → ℕ → ℕ
+word_of pad order d images spans None n = pad_of pad d
+word_of pad order d images spans (Some k) n =
     word_or_pad (pad_of pad d) (word_count d k) (λ m. chip_word order d.word_bytes (chip_bytes images (chip_span spans k)) m) n
 
 -- 01 rom_image 8: each data line carries its bit of the word to its position; where several meet the bits are or-ed, and a bit for

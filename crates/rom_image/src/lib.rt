@@ -9,22 +9,26 @@ ghost use Rattle.rom_image.specs.Build.{built, build_of};
 use build_args::BuildArgs;
 use build_args::in_domain::in_domain;
 use build_faults::build_fault;
-use refusal::first::FirstFault;
-use refusal::{Answer, Refusal};
+use refusal::Refusal;
 use words::ByteOrder;
 
 // Builds the table of a slot from its layouts and its chips' bytes, which are in one order.
-pub fn build_rom_image(order: ByteOrder, b: BuildArgs, images: &[u8], table: &mut [u8]) -> Answer
+pub fn build_rom_image(
+    order: ByteOrder,
+    b: BuildArgs,
+    images: &[u8],
+    table: &mut [u8],
+) -> Result<(), Refusal>
     ensures { built result table.new ≡ build_of order b images.now table.old }
 {
     if !in_domain(b) {
-        return Answer::Refused(Refusal::OutOfDomain);
+        return Err(Refusal::OutOfDomain);
     }
     match build_fault(b, images, table.len()) {
-        FirstFault::Of(why) => Answer::Refused(why),
-        FirstFault::None => {
+        Some(why) => Err(why),
+        None => {
             table::fill(order, b, images, table);
-            Answer::Done
+            Ok(())
         }
     }
 }

@@ -6,8 +6,7 @@ ghost use Rattle.word_rows.specs.Design.Wrote.{Wrote};
 ghost use Rattle.rom_turns.specs.Design.Rom.{SameTurn, Turn, rom_index, says, turn_start};
 
 use bits::scatter;
-use lists::number::fewer;
-use word_rows::{same_row, write_row};
+use word_rows::{StoredEntries, same_row, write_row};
 
 // The numbers of a ROM.
 #[derive(Clone, Copy)]
@@ -36,130 +35,81 @@ fn index_of(rom: Rom, positions: &[u8], e: u32) -> u32
 }
 
 // Writes the words as the entries of the turn from e on say them.
-fn write_words(
-    rom: Rom,
-    e: u32,
-    positions: &[u8],
-    lows: &[u32],
-    low_bytes: &[u32],
-    high_bytes: &[u32],
-    stored: &[u8],
-    output: &mut [u8],
-)
-    requires { Turn rom positions.now lows.now low_bytes.now high_bytes.now stored.now output.old e }
+fn write_words(rom: Rom, e: u32, positions: &[u8], entries: StoredEntries, output: &mut [u8])
+    requires { Turn rom positions.now entries.lows.now entries.low_bytes.now entries.high_bytes.now entries.stored.now output.old e }
     ensures { Wrote rom.word_bytes
-        (λ a. says rom positions.now low_bytes.now high_bytes.now stored.now (e + a))
+        (λ a. says rom positions.now entries.entry.low_bytes.now entries.entry.high_bytes.now entries.entry.stored.now (e + a))
         rom.start rom.words output.old output.new }
 {
     let w = rom.word_bytes as usize;
-    let mut f: u32 = 0;
-    while f < rom.words {
-        let count = fewer(256, rom.words - f);
+    for k in 0..rom.words.div_ceil(256) {
+        let f = 256 * k;
+        let count = u32::min(256, rom.words - f);
         let from = index_of(rom, positions, e + f);
         write_row(
-            lows,
-            low_bytes,
-            high_bytes,
+            entries,
             from,
-            stored,
             output,
             (rom.start + f) as usize,
             count as usize,
             w,
         );
-        f += count;
     }
 }
 
 // Whether the words are what the entries of the turn from e on say.
-fn same_words(
-    rom: Rom,
-    e: u32,
-    positions: &[u8],
-    lows: &[u32],
-    low_bytes: &[u32],
-    high_bytes: &[u32],
-    stored: &[u8],
-    output: &[u8],
-) -> bool
-    requires { Turn rom positions.now lows.now low_bytes.now high_bytes.now stored.now output.now e }
+fn same_words(rom: Rom, e: u32, positions: &[u8], entries: StoredEntries, output: &[u8]) -> bool
+    requires { Turn rom positions.now entries.lows.now entries.low_bytes.now entries.high_bytes.now entries.stored.now output.now e }
     ensures { result ≡ true → SameTurn rom
-        (λ a. says rom positions.now low_bytes.now high_bytes.now stored.now (e + a))
+        (λ a. says rom positions.now entries.entry.low_bytes.now entries.entry.high_bytes.now entries.entry.stored.now (e + a))
         output.now rom.words }
 {
     let w = rom.word_bytes as usize;
     let mut ok = true;
-    let mut f: u32 = 0;
-    while f < rom.words {
-        let count = fewer(256, rom.words - f);
+    for k in 0..rom.words.div_ceil(256) {
+        let f = 256 * k;
+        let count = u32::min(256, rom.words - f);
         let from = index_of(rom, positions, e + f);
         ok = ok
             & same_row(
-                lows,
-                low_bytes,
-                high_bytes,
+                entries,
                 from,
-                stored,
                 output,
                 (rom.start + f) as usize,
                 count as usize,
                 w,
             );
-        f += count;
     }
     ok
 }
 
 // Whether the words are what the entries of all turns but the first say.
-fn others_same(
-    rom: Rom,
-    positions: &[u8],
-    lows: &[u32],
-    low_bytes: &[u32],
-    high_bytes: &[u32],
-    stored: &[u8],
-    output: &[u8],
-) -> bool
+fn others_same(rom: Rom, positions: &[u8], entries: StoredEntries, output: &[u8]) -> bool
     requires { (c : ℕ) → c < rom.turns
-        → Turn rom positions.now lows.now low_bytes.now high_bytes.now stored.now output.now (turn_start rom c) }
+        → Turn rom positions.now entries.lows.now entries.low_bytes.now entries.high_bytes.now entries.stored.now output.now (turn_start rom c) }
     ensures { result ≡ true → (c : ℕ) → 1 ≤ c → c < rom.turns → SameTurn rom
-        (λ a. says rom positions.now low_bytes.now high_bytes.now stored.now (turn_start rom c + a))
+        (λ a. says rom positions.now entries.entry.low_bytes.now entries.entry.high_bytes.now entries.entry.stored.now (turn_start rom c + a))
         output.now rom.words }
 {
     let mut ok = true;
-    let mut c: u32 = 1;
-    while c < rom.turns {
+    for c in 1..rom.turns {
         let e = c * rom.span + rom.first;
-        ok = ok
-            & same_words(
-                rom, e, positions, lows, low_bytes, high_bytes, stored, output,
-            );
-        c += 1;
+        ok = ok & same_words(rom, e, positions, entries, output);
     }
     ok
 }
 
 // Writes the words by the first turn. Whether the other turns say the same.
-pub fn read_turns(
-    rom: Rom,
-    positions: &[u8],
-    lows: &[u32],
-    low_bytes: &[u32],
-    high_bytes: &[u32],
-    stored: &[u8],
-    output: &mut [u8],
-) -> bool
+pub fn read_turns(rom: Rom, positions: &[u8], entries: StoredEntries, output: &mut [u8]) -> bool
     requires { (0 < rom.turns) × ((c : ℕ) → c < rom.turns
-        → Turn rom positions.now lows.now low_bytes.now high_bytes.now stored.now output.old (turn_start rom c)) }
+        → Turn rom positions.now entries.lows.now entries.low_bytes.now entries.high_bytes.now entries.stored.now output.old (turn_start rom c)) }
     ensures wrote { Wrote rom.word_bytes
-        (λ a. says rom positions.now low_bytes.now high_bytes.now stored.now (rom.first + a))
+        (λ a. says rom positions.now entries.entry.low_bytes.now entries.entry.high_bytes.now entries.entry.stored.now (rom.first + a))
         rom.start rom.words output.old output.new }
     ensures same_turn { result ≡ true → (c : ℕ) → 1 ≤ c → c < rom.turns → SameTurn rom
-        (λ a. says rom positions.now low_bytes.now high_bytes.now stored.now (turn_start rom c + a))
+        (λ a. says rom positions.now entries.entry.low_bytes.now entries.entry.high_bytes.now entries.entry.stored.now (turn_start rom c + a))
         output.new rom.words }
 {
-    write_words(
-        rom, rom.first, positions, lows, low_bytes, high_bytes, stored, output,
-    );
-    others_same(rom, positions, lows, low_bytes, high_bytes, stored, output)
+    write_words(rom, rom.first, positions, entries, output);
+    others_same(rom, positions, entries, output)
 }

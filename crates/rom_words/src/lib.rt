@@ -8,16 +8,6 @@ use stored_slot::roms::{listed, rom_at};
 use stored_slot::stored::StoredSlot;
 use stored_slot::window::word_bytes;
 
-// The lower of two numbers.
-fn lower(a: u64, b: u64) -> u64
-    ensures { result ≡ min a b }
-{
-    if a < b {
-        return a;
-    }
-    b
-}
-
 // How many words of ROM k are served: those that it has, as far as its lines reach.
 pub fn rom_words(s: StoredSlot, k: u8) -> u64
     ensures value { result ≡ rom_words s k }
@@ -26,7 +16,8 @@ pub fn rom_words(s: StoredSlot, k: u8) -> u64
     let rom = rom_at(s, k);
     let gpios = rom.addr;
     let reached = 1u64 << listed(gpios);
-    lower(rom.chip_size as u64 / word_bytes(s) as u64, reached)
+    let stored = rom.chip_size as u64 / word_bytes(s) as u64;
+    stored.min(reached)
 }
 
 // The words of the ROMs before ROM n.
@@ -35,10 +26,8 @@ pub fn words_before(s: StoredSlot, n: u8) -> u64
     ensures upper_bound { result ≤ n * 2 ^ 32 }
 {
     let mut words: u64 = 0;
-    let mut k: u8 = 0;
-    while k < n {
+    for k in 0..n {
         words = words + rom_words(s, k);
-        k += 1;
     }
     words
 }

@@ -10,16 +10,6 @@ use addr_layout::layout::AddrLayout;
 use build_args::images::chip_size;
 use slot::description::Description;
 
-// The lower of two numbers.
-fn lower(a: u64, b: u64) -> u64
-    ensures { result ≡ min a b }
-{
-    if a < b {
-        return a;
-    }
-    b
-}
-
 // How many words chip k has; none where a word has no bytes.
 fn word_count(d: Description, k: u8) -> u64
     ensures value { result ≡ word_count d k }
@@ -46,7 +36,7 @@ fn chip_words(d: Description, a: AddrLayout, k: u8) -> u64
     ensures value { result ≡ chip_words d a k }
     ensures upper_bound { result < 2 ^ 32 }
 {
-    lower(word_count(d, k), reached(a.num_lines))
+    u64::min(word_count(d, k), reached(a.num_lines))
 }
 
 // How many words come back of all chips.
@@ -56,10 +46,8 @@ fn all_words(d: Description, a: AddrLayout) -> u64
 {
     let n = d.num_chips;
     let mut words: u64 = 0;
-    let mut k: u8 = 0;
-    while k < n {
+    for k in 0..n {
         words = words + chip_words(d, a, k);
-        k += 1;
     }
     words
 }

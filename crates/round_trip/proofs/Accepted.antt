@@ -1,4 +1,5 @@
 -- Read-back refuses nothing before the entries, where the build refused nothing and the buffers are long enough. Assumes nothing.
+use Rattle.std.specs.Prelude.{Option, None}
 use mathlib.Core.Path.{◌≡◌, refl, sym, ◌∙◌, ap, subst}
 use mathlib.Core.Bool.{Bool, true, false, cond, not, ◌&&◌, ◌||◌}
 use mathlib.Core.List.{List}
@@ -23,8 +24,6 @@ use Rattle.refusal.specs.declared.Refusal.{Refusal}
 use Rattle.refusal.specs.declared.Refusal.TheVariants.{XPin}
 use Rattle.refusal.specs.First.{or_else, fault_if}
 use Rattle.listing.specs.Choice.{CandidateOf}
-use Rattle.refusal.specs.declared.first.FirstFault.{FirstFault}
-use Rattle.refusal.specs.declared.first.FirstFault.TheVariants.{None}
 use Rattle.addr_law.specs.Law.{InWindow, SoundLayout}
 use Rattle.addr_layout.specs.declared.layout.AddrLayout.{AddrLayout}
 use Rattle.cs_data_layout.specs.declared.layout.CsDataLayout.{CsDataLayout}
@@ -44,7 +43,7 @@ none_if : (b : Bool) (why : Refusal) → b ≡ false → fault_if b why ≡ None
 none_if true why e = cc
 none_if false why e = refl
 
-pub both_none : (f h : FirstFault) → f ≡ None → h ≡ None → or_else f h ≡ None
+pub both_none : (f h : Option Refusal) → f ≡ None → h ≡ None → or_else f h ≡ None
 both_none f h e i = rw (e, i)
 
 -- the numbers that the build's tests bound

@@ -1,4 +1,5 @@
 -- Well wired, the lines of an index are told apart: each has a pin of its own, and so a GPIO and a position of its own. Assumes nothing.
+use Rattle.std.specs.Prelude.{Option, Some, None}
 use mathlib.Core.Path.{◌≡◌, refl, sym, ◌∙◌, ap, subst}
 use mathlib.Core.Bool.{Bool, true, false, cond}
 use Prim.Native.Nat.{ℕ, zero, suc, ◌+◌, ◌-◌, ◌≤◌, ◌<◌}
@@ -12,15 +13,11 @@ use Rattle.slot.specs.declared.description.Board.{Board}
 use Rattle.slot.specs.declared.description.ChipSetType.{ChipSetType}
 use Rattle.slot.specs.declared.description.ChipSetType.TheVariants.{Single, Banked, Multi}
 use Rattle.slot.specs.declared.description.Description.{Description}
-use Rattle.slot.specs.declared.slot_context.Socket.{Socket}
-use Rattle.slot.specs.declared.slot_context.Socket.TheVariants.{On, Off}
 use Rattle.listing.specs.Choice.{CandidateOf}
 use Rattle.listing.specs.Lines.{pin_socket}
 use Rattle.addr_lines.specs.Lines.{line_socket, off_before}
 use Rattle.addr_lines.specs.Range.{in_range}
 use Rattle.addr_law.specs.Law.{InWindow, XLaid, SoundLayout}
-use Rattle.gpio.specs.declared.line.LineGpio.{LineGpio}
-use Rattle.gpio.specs.declared.line.LineGpio.TheVariants.{At}
 use Rattle.addr_layout.specs.declared.layout.AddrLayout.{AddrLayout}
 use Rattle.cs_data_layout.specs.declared.layout.CsDataLayout.{CsDataLayout}
 use Rattle.build_args.specs.Positions.{line_position}
@@ -68,14 +65,14 @@ x_third n k false e l h = absurd (omega arith)
 
 -- the select of a Multi set: at a place of the socket, with the first select line's GPIO
 pub record SelectAt (d : Description) (a : AddrLayout) (c : CsDataLayout) (s : ℕ) : Type 0 where
-  pub on : pin_socket d (select_pin d) ≡ On s
+  pub on : pin_socket d (select_pin d) ≡ Some s
   pub gpio : ℕ
-  pub first : first_select c ≡ At gpio
+  pub first : first_select c ≡ Some gpio
   pub candidate : CandidateOf (candidates_of d.board (socket s)) gpio
   pub inside : InWindow a gpio
 
 module _ (d : Description) (ca : ℕ) (a : AddrLayout) (sound : SoundLayout d ca a) (c : CsDataLayout) (s : ℕ) where
-  x_laid : (pin : BoardPin) (x : LineGpio) → PinOf d.board pin → XLaid a (candidates_of d.board pin) x
+  x_laid : (pin : BoardPin) (x : Option ℕ) → PinOf d.board pin → XLaid a (candidates_of d.board pin) x
       → Line d.board a (x_position a.gpio_base x) pin
   x_laid pin x p l = record { gpio = l.0; at = ap (x_position a.gpio_base) l.1; on-board = p; candidate = l.2; inside = l.3 }
 
@@ -126,35 +123,35 @@ pick-own Multi n s j k l m q =
         most false = omega arith
 
 -- a line of a set that is not Single is on the socket, and its pin is no X pin, nor the select's
-on-place : (d : Description) (o : Socket) (before g : ℕ) → is_single d.set_type ≡ false → Behind d o before g → (p : ℕ) × (o ≡ On p)
-on-place d (On p) before g m b = (p, refl)
-on-place d Off before g m b = let z : ◌≡◌ {A = Bool} true false = sym (b.alone refl) ∙ m in absurd (zero_one cc)
+on-place : (d : Description) (o : Option ℕ) (before g : ℕ) → is_single d.set_type ≡ false → Behind d o before g → (p : ℕ) × (o ≡ Some p)
+on-place d (Some p) before g m b = (p, refl)
+on-place d None before g m b = let z : ◌≡◌ {A = Bool} true false = sym (b.alone refl) ∙ m in absurd (zero_one cc)
 
 module _ (d : Description) (n g : ℕ) (m : is_single d.set_type ≡ false) (b : Behind d (line_socket d n) (off_before d n) g) where
   abbrev place : ℕ
   place = (on-place d (line_socket d n) (off_before d n) g m b).0
 
-  placed : line_socket d n ≡ On place
+  placed : line_socket d n ≡ Some place
   placed = (on-place d (line_socket d n) (off_before d n) g m b).1
 
   pin-placed : line_pin d n ≡ socket place
-  pin-placed = ap (λ (o : Socket). pin_behind o (off_before d n)) placed
+  pin-placed = ap (λ (o : Option ℕ). pin_behind o (off_before d n)) placed
 
   not_x : (k : ℕ) → line_pin d n ≡ x_pin k → ⊥
   not_x k q = apart_x place (eqb k 0) (sym pin-placed ∙ q)
 
-  not-select : (s : ℕ) → pin_socket d (select_pin d) ≡ On s → (address_pin d n ≡ select_pin d → ⊥) → line_pin d n ≡ socket s → ⊥
+  not-select : (s : ℕ) → pin_socket d (select_pin d) ≡ Some s → (address_pin d n ≡ select_pin d → ⊥) → line_pin d n ≡ socket s → ⊥
   unfolding line_socket
   not-select s o apart q =
       let same : place ≡ s = ap place_of (sym pin-placed ∙ q) in
-      apart (same_place d (address_pin d n) (select_pin d) s (placed ∙ ap On same) o)
+      apart (same_place d (address_pin d n) (select_pin d) s (placed ∙ ap Some same) o)
     where
       place_of : BoardPin → ℕ
       place_of (socket p) = p
       place_of x1 = 0
       place_of x2 = 0
 
-  not-multi : (s k : ℕ) (z : Bool) → pin_socket d (select_pin d) ≡ On s → (address_pin d n ≡ select_pin d → ⊥) → line_pin d n ≡ cond z (socket s) (x_pin (k - 1)) → ⊥
+  not-multi : (s k : ℕ) (z : Bool) → pin_socket d (select_pin d) ≡ Some s → (address_pin d n ≡ select_pin d → ⊥) → line_pin d n ≡ cond z (socket s) (x_pin (k - 1)) → ⊥
   not-multi s k true o apart q = not-select s o apart q
   not-multi s k false o apart q = not_x (k - 1) q
 

@@ -1,4 +1,5 @@
 -- The bits that pick a chip: every chip of the slot has some. Assumes nothing.
+use Rattle.std.specs.Prelude.{Some}
 use mathlib.Core.Path.{◌≡◌, refl, ap}
 use mathlib.Core.Bool.{Bool, true, false, cond, ◌&&◌}
 use Prim.Native.Nat.{ℕ, zero, suc, ◌+◌, ◌^◌, ◌≤◌, ◌<◌}
@@ -9,7 +10,6 @@ use Rattle.lists.proofs.Bools.{and_right}
 use Rattle.slot.specs.declared.description.ChipSetType.{ChipSetType}
 use Rattle.slot.specs.declared.description.ChipSetType.TheVariants.{Single, Banked, Multi}
 use Rattle.picks.specs.Picks.{picks_of, picked_by, chips_fit}
-use Rattle.picks.specs.declared.Picked.TheVariants.{Chip}
 
 abbrev pub code_of : ChipSetType → ℕ → ℕ
 code_of Single k = 0
@@ -37,13 +37,13 @@ code_lt Single n k f l = omega arith
 code_lt Banked n k f l = bank_lt n k (leb 3 n) refl (most 2 4 n f) l
 code_lt Multi n k f l = one_lt n k (leb 3 n) refl (most 2 3 n f) l
 
-only-picks : (n k : ℕ) → n ≤ 3 → k < n → picked_by Multi n (2 ^ k) ≡ Chip k
+only-picks : (n k : ℕ) → n ≤ 3 → k < n → picked_by Multi n (2 ^ k) ≡ Some k
 only-picks n zero h l = refl
 only-picks n (suc zero) h l = refl
 only-picks n (suc (suc zero)) h l = refl
 only-picks n (suc (suc (suc k))) h l = absurd (omega arith)
 
-pub code_picks : (t : ChipSetType) (n k : ℕ) → chips_fit t n ≡ true → k < n → picked_by t n (code_of t k) ≡ Chip k
-code_picks Single n k f l = let e : k ≡ 0 = omega (arith, eqb-true n 1 f) in ap Chip (rw e)
+pub code_picks : (t : ChipSetType) (n k : ℕ) → chips_fit t n ≡ true → k < n → picked_by t n (code_of t k) ≡ Some k
+code_picks Single n k f l = let e : k ≡ 0 = omega (arith, eqb-true n 1 f) in ap Some (rw e)
 code_picks Banked n k f l = rw (lt-ltb k n l)
 code_picks Multi n k f l = only-picks n k (most 2 3 n f) l

@@ -1,4 +1,5 @@
 -- What read-back is given beside a built table has the same lines. Assumes nothing.
+use Rattle.std.specs.Prelude.{Option}
 use mathlib.Core.Path.{◌≡◌, refl, sym, ◌∙◌, ap, subst}
 use mathlib.Core.Bool.{Bool, true, false, cond}
 use mathlib.Core.Logic.{inl, inr}
@@ -19,7 +20,6 @@ use Rattle.slot.specs.declared.description.ChipSetType.TheVariants.{Single, Bank
 use Rattle.slot.specs.declared.description.Description.{Description}
 use Rattle.listing.specs.Choice.{CandidateOf}
 use Rattle.addr_law.specs.Law.{InWindow, XLaid, SoundLayout}
-use Rattle.gpio.specs.declared.line.LineGpio.{LineGpio}
 use Rattle.addr_layout.specs.declared.layout.AddrLayout.{AddrLayout}
 use Rattle.cs_data_layout.specs.declared.layout.CsDataLayout.{CsDataLayout}
 use Rattle.picks.specs.Positions.{x_position}
@@ -64,7 +64,7 @@ module _ (d : Description) (a : AddrLayout) (c : CsDataLayout) (s : StoredSlot) 
   x_inside (Two h i) p o k w = inside-two h i p (stored.in_window s h) refl o k w
 
   module _ (ca : ℕ) (sound : SoundLayout d ca a) (wired : WellWired d a) where
-    x_same : (x : Candidates) (y : LineGpio) (z : Candidates) → z ≡ x → OneInside a x → XLaid a x y
+    x_same : (x : Candidates) (y : Option ℕ) (z : Candidates) → z ≡ x → OneInside a x → XLaid a x y
         → stored.x_inside s z - stored.addr_base s ≡ x_position a.gpio_base y
     x_same x y z e o l =
         ap (λ (v : Candidates). stored.x_inside s v - stored.addr_base s) e

@@ -1,4 +1,5 @@
 -- The board's pins behind the lines of an address layout: each line has one, and no two lines the same. Assumes nothing.
+use Rattle.std.specs.Prelude.{Option, Some, None}
 use mathlib.Core.Path.{◌≡◌, refl, sym, ◌∙◌, ap}
 use mathlib.Core.Bool.{Bool, true, false, cond, ◌&&◌}
 use mathlib.Core.Logic.{inl, inr}
@@ -16,8 +17,6 @@ use Rattle.slot.specs.SlotContext.{raised_of}
 use Rattle.slot.specs.declared.description.Board.{Board}
 use Rattle.slot.specs.declared.description.Description.{Description}
 use Rattle.refusal.specs.declared.Refusal.TheVariants.{NoValidLayout}
-use Rattle.slot.specs.declared.slot_context.Socket.{Socket}
-use Rattle.slot.specs.declared.slot_context.Socket.TheVariants.{On, Off}
 use Rattle.listing.specs.Listing.{listed, x_listed}
 use Rattle.listing.specs.Choice.{CandidateOf}
 use Rattle.listing.specs.Lines.{pin_socket}
@@ -27,7 +26,7 @@ use Rattle.premises.specs.WellWired.BoardPin.{socket, x1, x2}
 
 -- two chip pins at one place of the socket are one
 place_of : (pin raised board s : ℕ) (t : Bool) → (leb 1 (pin + raised - 4) && leb (pin + raised - 4) board) ≡ t
-    → cond t (On (pin + raised - 4)) Off ≡ On s → (pin + raised - 4 ≡ s) × (1 ≤ s) × (s ≤ board)
+    → cond t (Some (pin + raised - 4)) None ≡ Some s → (pin + raised - 4 ≡ s) × (1 ≤ s) × (s ≤ board)
 place_of pin raised board s true e h =
     let q : pin + raised - 4 ≡ s = cc in
     let low = leb-true 1 (pin + raised - 4) (and_left (leb 1 (pin + raised - 4)) (leb (pin + raised - 4) board) e) in
@@ -36,10 +35,10 @@ place_of pin raised board s true e h =
 place_of pin raised board s false e h = absurd (zero_one cc)
 
 -- a place where a chip pin lies is a pin of the board
-pub place_in : (d : Description) (p s : ℕ) → pin_socket d p ≡ On s → PinOf d.board (socket s)
+pub place_in : (d : Description) (p s : ℕ) → pin_socket d p ≡ Some s → PinOf d.board (socket s)
 place_in d p s e = let a = place_of p (raised_of d.pin_offset) d.board.pins s _ refl e in (a.1, a.2)
 
-pub same_place : (d : Description) (p q s : ℕ) → pin_socket d p ≡ On s → pin_socket d q ≡ On s → p ≡ q
+pub same_place : (d : Description) (p q s : ℕ) → pin_socket d p ≡ Some s → pin_socket d q ≡ Some s → p ≡ q
 same_place d p q s e h =
     let raised = raised_of d.pin_offset in
     let a = place_of p raised d.board.pins s _ refl e in
@@ -47,9 +46,9 @@ same_place d p q s e h =
     omega (arith, a.0, a.1, b.0)
 
 -- the board's pin behind a line: its place of the socket, or the X pin that a line off the socket takes
-abbrev pub pin_behind : Socket → ℕ → BoardPin
-pin_behind (On s) before = socket s
-pin_behind Off before = cond (eqb before 0) x1 x2
+abbrev pub pin_behind : Option ℕ → ℕ → BoardPin
+pin_behind (Some s) before = socket s
+pin_behind None before = cond (eqb before 0) x1 x2
 
 abbrev pub line_pin : Description → ℕ → BoardPin
 line_pin d n = pin_behind (line_socket d n) (off_before d n)
@@ -61,12 +60,12 @@ x_in b false = tt
 pub line_pin_in : (d : Description) (n : ℕ) → PinOf d.board (line_pin d n)
 unfolding line_socket
 line_pin_in d n = at (line_socket d n) refl where
-  at : (o : Socket) → line_socket d n ≡ o → PinOf d.board (pin_behind o (off_before d n))
-  at (On s) e = place_in d (address_pin d n) s e
-  at Off e = x_in d.board (eqb (off_before d n) 0)
+  at : (o : Option ℕ) → line_socket d n ≡ o → PinOf d.board (pin_behind o (off_before d n))
+  at (Some s) e = place_in d (address_pin d n) s e
+  at None e = x_in d.board (eqb (off_before d n) 0)
 
 -- a line with a candidate has that of its pin, and is off the socket only as the first or second such line of a Single slot
-pub record Behind (d : Description) (o : Socket) (before g : ℕ) : Type 0 where
+pub record Behind (d : Description) (o : Option ℕ) (before g : ℕ) : Type 0 where
   pub candidate : CandidateOf (candidates_of d.board (pin_behind o before)) g
   pub few : is_off o ≡ true → before < 2
   pub alone : is_off o ≡ true → is_single d.set_type ≡ true
@@ -78,19 +77,19 @@ fly_behind b before g true first e h c = (c, omega (arith, eqb-true before 0 e))
 fly_behind b before g false true e h c = (c, omega (arith, eqb-true before 1 h))
 fly_behind b before g false false e h c = absurd c
 
-no_off : (o : Socket) (s : ℕ) → o ≡ On s → is_off o ≡ true → ⊥
+no_off : (o : Option ℕ) (s : ℕ) → o ≡ Some s → is_off o ≡ true → ⊥
 no_off o s e h = let z : ◌≡◌ {A = Bool} false true = cc in zero_one cc
 
 over_behind : (d : Description) (before g : ℕ) (t : Bool) → is_single d.set_type ≡ t
-    → CandidateOf (cond t (fly_lead d.board before) (listed Absent NoValidLayout)).gpios g → Behind d Off before g
+    → CandidateOf (cond t (fly_lead d.board before) (listed Absent NoValidLayout)).gpios g → Behind d None before g
 over_behind d before g true e c =
     let f = fly_behind d.board before g (eqb before 0) (eqb before 1) refl refl c in
     record { candidate = f.0; few = λ h. f.1; alone = λ h. e }
 over_behind d before g false e c = absurd c
 
-behind : (d : Description) (n g : ℕ) (o : Socket) → CandidateOf (at_socket d n o).gpios g → Behind d o (off_before d n) g
-behind d n g (On s) c = record { candidate = c; few = λ h. absurd (no_off (On s) s refl h); alone = λ h. absurd (no_off (On s) s refl h) }
-behind d n g Off c = over_behind d (off_before d n) g (is_single d.set_type) refl c
+behind : (d : Description) (n g : ℕ) (o : Option ℕ) → CandidateOf (at_socket d n o).gpios g → Behind d o (off_before d n) g
+behind d n g (Some s) c = record { candidate = c; few = λ h. absurd (no_off (Some s) s refl h); alone = λ h. absurd (no_off (Some s) s refl h) }
+behind d n g None c = over_behind d (off_before d n) g (is_single d.set_type) refl c
 
 pub line-behind : (d : Description) (n g : ℕ) → CandidateOf (line_listed d n).gpios g → Behind d (line_socket d n) (off_before d n) g
 unfolding line_listed
@@ -143,13 +142,13 @@ same_x a b false false h l e f p = omega (arith, eqb-false a 0 e, eqb-false b 0 
 same_x a b true false h l e f p = let z : ◌≡◌ {A = ℕ} 1 2 = ap which p in absurd (omega arith)
 same_x a b false true h l e f p = let z : ◌≡◌ {A = ℕ} 2 1 = ap which p in absurd (omega arith)
 
-own : (d : Description) (j k g h : ℕ) (o p : Socket) → line_socket d j ≡ o → line_socket d k ≡ p → Behind d o (off_before d j) g → Behind d p (off_before d k) h
+own : (d : Description) (j k g h : ℕ) (o p : Option ℕ) → line_socket d j ≡ o → line_socket d k ≡ p → Behind d o (off_before d j) g → Behind d p (off_before d k) h
     → (address_pin d j ≡ address_pin d k → j ≡ k) → pin_behind o (off_before d j) ≡ pin_behind p (off_before d k) → j ≡ k
 unfolding line_socket at_place
-own d j k g h (On s) (On t) e f b c a q = let st : s ≡ t = ap at_place q in a (same_place d (address_pin d j) (address_pin d k) t (e ∙ ap On st) f)
-own d j k g h (On s) Off e f b c a q = absurd (apart_x s (eqb (off_before d k) 0) q)
-own d j k g h Off (On t) e f b c a q = absurd (apart_x t (eqb (off_before d j) 0) (sym q))
-own d j k g h Off Off e f b c a q =
+own d j k g h (Some s) (Some t) e f b c a q = let st : s ≡ t = ap at_place q in a (same_place d (address_pin d j) (address_pin d k) t (e ∙ ap Some st) f)
+own d j k g h (Some s) None e f b c a q = absurd (apart_x s (eqb (off_before d k) 0) q)
+own d j k g h None (Some t) e f b c a q = absurd (apart_x t (eqb (off_before d j) 0) (sym q))
+own d j k g h None None e f b c a q =
     off_same d j k (ap is_off e) (ap is_off f)
     (same_x (off_before d j) (off_before d k) (eqb (off_before d j) 0) (eqb (off_before d k) 0) (b.few refl) (c.few refl) refl refl q)
 

@@ -1,4 +1,5 @@
 -- A built table reads back: no entry disagrees, every word has one, and what is recovered are the chips' words. Assumes nothing.
+use Rattle.std.specs.Prelude.{Option, Some, None}
 use mathlib.Core.Path.{◌≡◌, refl, sym, ◌∙◌, ap}
 use mathlib.Core.Bool.{Bool, true, false, not, ◌&&◌}
 use mathlib.Core.List.{List}
@@ -15,15 +16,12 @@ use Rattle.slot.specs.declared.description.Description.{Description}
 use Rattle.refusal.specs.declared.Refusal.{Refusal}
 use Rattle.addr_layout.specs.declared.layout.AddrLayout.{AddrLayout}
 use Rattle.cs_data_layout.specs.declared.layout.CsDataLayout.{CsDataLayout}
-use Rattle.refusal.specs.declared.first.FirstFault.TheVariants.{None}
 use Rattle.build_args.specs.Args.{args_of}
 use Rattle.build_args.specs.Images.{chip_span, chip_bytes}
 use Rattle.build_args.specs.Faults.{entries_of}
 use Rattle.picks.specs.Picks.{chips_fit}
 use Rattle.refusal.specs.First.{fault_if}
 use Rattle.build_args.specs.declared.images.ImageSpan.{ImageSpan}
-use Rattle.picks.specs.declared.Picked.{Picked}
-use Rattle.picks.specs.declared.Picked.TheVariants.{NoChip, Chip}
 use Rattle.refusal.proofs.Firsts.{none_of}
 use Rattle.rom_image.specs.Build.{pad_byte}
 use Rattle.rom_image.specs.Entry.{table_of}
@@ -56,7 +54,7 @@ module _ (order : ByteOrder) (d : Description) (a : AddrLayout) (c : CsDataLayou
   entries-same = ap (λ (x : ℕ). 2 ^ x) f.pins
 
   -- a ROM that is picked is one of the slot's
-  picked-there : (rom i : ℕ) → read.rom_picked s d.set_type i ≡ Chip rom → rom < d.num_chips
+  picked-there : (rom i : ℕ) → read.rom_picked s d.set_type i ≡ Some rom → rom < d.num_chips
   picked-there rom i p = omega (arith, f.chips, serves.picked-there s d.set_type (ap (chips_fit d.set_type) f.chips ∙ fit) rom i p)
 
   -- an entry for a word has that word
@@ -71,9 +69,9 @@ module _ (order : ByteOrder) (d : Description) (a : AddrLayout) (c : CsDataLayou
       let g = first_found (read.serves s d.set_type rom n) (2 ^ stored.stored_pins s) i l e in
       served_value rom n _ g (first_passes (read.serves s d.set_type rom n) (2 ^ stored.stored_pins s) g)
 
-  agrees : (i : ℕ) → i < 2 ^ stored.stored_pins s → (p : Picked) → disagrees_for s d.set_type table i p ≡ None
-  agrees i l NoChip = refl
-  agrees i l (Chip rom) =
+  agrees : (i : ℕ) → i < 2 ^ stored.stored_pins s → (p : Option ℕ) → disagrees_for s d.set_type table i p ≡ None
+  agrees i l None = refl
+  agrees i l (Some rom) =
       never (read.serves s d.set_type rom (read.address_at s rom i) i) _ _ (λ e.
       eq-eqb _ _ (served_value rom _ i l e ∙ sym (kept_value_lem rom _ i l e)))
 

@@ -1,4 +1,5 @@
 -- Demand 3 over the definitions: what both searches and the build accept of a well wired slot reads back. Assumes nothing.
+use Rattle.std.specs.Prelude.{Option, Some, Result, Ok, Err, None}
 use mathlib.Core.Path.{◌≡◌, refl, sym, ◌∙◌, ap, subst}
 use mathlib.Core.Bool.{Bool, true, false, cond}
 use mathlib.Core.List.{List, ◌++◌}
@@ -27,8 +28,6 @@ use Rattle.refusal.specs.declared.Refusal.TheVariants.{OutOfDomain}
 use Rattle.domain.specs.Domain.{description_in}
 use Rattle.domain.proofs.Bounds.{description_in_lem}
 use Rattle.refusal.specs.First.{or_else}
-use Rattle.refusal.specs.declared.first.FirstFault.{FirstFault}
-use Rattle.refusal.specs.declared.first.FirstFault.TheVariants.{None, Of}
 use Rattle.addr_law.specs.Law as addr
 use Rattle.cs_data_law.specs.Law as cs
 use Rattle.addr_layout.specs.declared.layout.AddrLayout.{AddrLayout}
@@ -40,8 +39,6 @@ use Rattle.build_args.specs.Faults.{entries_of, table_size, build_fault}
 use Rattle.build_args.specs.declared.images.ImageSpan.{ImageSpan}
 use Rattle.rom_image.specs.Entry.{entry_at, table_of}
 use Rattle.rom_image.specs.Build.{pad_byte, Built, built, build_after, build_of}
-use Rattle.refusal.specs.declared.Answer.{Answer}
-use Rattle.gpio.specs.declared.line.LineGpio.TheVariants.{At}
 use Rattle.stored_slot.specs.Stored as stored
 use Rattle.stored_slot.specs.Faults.{wrong_size, roms_fault}
 use Rattle.stored_slot.specs.Words as sizes
@@ -65,32 +62,27 @@ use Rattle.round_trip.proofs.Bytes.{words_take}
 use Rattle.round_trip.proofs.Read.{consistent, all_served, recovered-words}
 
 -- a build that accepts is past its tests
-done : Answer → ℕ
-done Answer.Done = 1
-done (Answer.Refused why) = 0
-
-refused_not_built : (why : Refusal) → Answer.Refused why ≡ Answer.Done → ⊥
-unfolding done
-refused_not_built why e = zero_one (ap done e)
+refused_not_built : (why : Refusal) → ◌≡◌ {A = Result (Unit {0}) Refusal} (Err why) (Ok tt) → ⊥
+refused_not_built why e = zero_one cc
 
 module _ (order : ByteOrder) (d : Description) (a : AddrLayout) (c : CsDataLayout) (images : List ℕ) (spans : List ImageSpan) (lent : List ℕ) where
   pub record Past : Type 0 where
     pub tests : PastTests (args_of d a c spans) images (length lent)
     pub table : (build_of order (args_of d a c spans) images lent).table ≡ table_of pad_byte order (args_of d a c spans) images ++ drop (table_size d a) lent
 
-  by_fault : (f : FirstFault) → build_fault (args_of d a c spans) images (length lent) ≡ f → build_in (args_of d a c spans) ≡ true
-      → build_of order (args_of d a c spans) images lent ≡ build_after order (args_of d a c spans) images lent f → (build_after order (args_of d a c spans) images lent f).answer ≡ Answer.Done → Past
-  by_fault (Of why) q i w e = absurd (refused_not_built why e)
+  by_fault : (f : Option Refusal) → build_fault (args_of d a c spans) images (length lent) ≡ f → build_in (args_of d a c spans) ≡ true
+      → build_of order (args_of d a c spans) images lent ≡ build_after order (args_of d a c spans) images lent f → (build_after order (args_of d a c spans) images lent f).answer ≡ Ok tt → Past
+  by_fault (Some why) q i w e = absurd (refused_not_built why e)
   by_fault None q i w e = record { tests = record { domain = i; no_fault = q }; table = ap (λ (b : Built). b.table) w }
 
   by_domain : (t : Bool) → build_in (args_of d a c spans) ≡ t
       → build_of order (args_of d a c spans) images lent
-      ≡ cond t (build_after order (args_of d a c spans) images lent (build_fault (args_of d a c spans) images (length lent))) (built (Answer.Refused OutOfDomain) lent)
-      → (build_of order (args_of d a c spans) images lent).answer ≡ Answer.Done → Past
+      ≡ cond t (build_after order (args_of d a c spans) images lent (build_fault (args_of d a c spans) images (length lent))) (built (Err OutOfDomain) lent)
+      → (build_of order (args_of d a c spans) images lent).answer ≡ Ok tt → Past
   by_domain false q w e = absurd (refused_not_built _ (sym (ap (λ (b : Built). b.answer) w) ∙ e))
   by_domain true q w e = by_fault (build_fault (args_of d a c spans) images (length lent)) refl q w (sym (ap (λ (b : Built). b.answer) w) ∙ e)
 
-  pub build-past : (build_of order (args_of d a c spans) images lent).answer ≡ Answer.Done → Past
+  pub build-past : (build_of order (args_of d a c spans) images lent).answer ≡ Ok tt → Past
   unfolding build_of
   build-past e = by_domain (build_in (args_of d a c spans)) refl refl e
 
@@ -140,8 +132,8 @@ module _ (order : ByteOrder) (d : Description) (a : AddrLayout) (c : CsDataLayou
   laid : (c : ℕ) × addr.FoundBest d c a
   laid = addr-found d a ok.address
 
-  selected-at : (n : ℕ) × cs.FoundBest d (record { given = true; layout = a }) n c
-  selected-at = cs_found d (record { given = true; layout = a }) c ok.select
+  selected-at : (n : ℕ) × cs.FoundBest d (Some a) n c
+  selected-at = cs_found d (Some a) c ok.select
 
   told : ToldApart d a c
   told = told-apart d a laid.0 selected-at.0 laid.1 c selected-at.1.sound wired
@@ -186,7 +178,7 @@ module _ (order : ByteOrder) (d : Description) (a : AddrLayout) (c : CsDataLayou
   select-window : is_multi d.set_type ≡ true → addr.InWindow a (stored.stored_select s)
   select-window m =
       let at = select-at d a laid.0 selected-at.0 laid.1 c selected-at.1.sound wired m in
-      let one : At at.gpio ≡ At (stored.stored_select s) = sym at.first ∙ given.select m in
+      let one : Some at.gpio ≡ Some (stored.stored_select s) = sym at.first ∙ given.select m in
       let same : at.gpio ≡ stored.stored_select s = cc in
       subst (addr.InWindow a) same at.inside
 
@@ -218,8 +210,8 @@ module _ (order : ByteOrder) (d : Description) (a : AddrLayout) (c : CsDataLayou
       ∙ ap (recover.of_type order s table output marks) given.set_type
       ∙ ap (recover.read_after order s d.set_type table output marks) none_before
       ∙ ap (recover.after_entries order s d.set_type table output marks) entries_none
-      ∙ ap (λ (r : List ℕ). read_back Answer.Done (front r output) (front (replicate (sizes.all_words s) 1) marks)) all_back
-      ∙ ap (λ (n : ℕ). read_back Answer.Done (front (joined d.num_chips (first_bytes (args_of d a c spans) images)) output) (front (replicate n 1) marks)) (all_same d a c s same_lines)
+      ∙ ap (λ (r : List ℕ). read_back (Ok tt) (front r output) (front (replicate (sizes.all_words s) 1) marks)) all_back
+      ∙ ap (λ (n : ℕ). read_back (Ok tt) (front (joined d.num_chips (first_bytes (args_of d a c spans) images)) output) (front (replicate n 1) marks)) (all_same d a c s same_lines)
 
   reads_built : unscrambled order s (table_built order (args_of d a c spans) images lent) output marks ≡ returned_whole (args_of d a c spans) images output marks
   reads_built = ap (λ (t : List ℕ). unscrambled order s t output marks) table_is ∙ reads

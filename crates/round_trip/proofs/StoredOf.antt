@@ -1,4 +1,5 @@
 -- What `stored_of` says of found layouts is what read-back is to be given. Assumes nothing.
+use Rattle.std.specs.Prelude.{Some, Ok}
 use mathlib.Core.Path.{◌≡◌, refl, sym, ◌∙◌, ap}
 use mathlib.Core.Bool.{Bool, true, false, cond, not, ◌&&◌}
 use mathlib.Core.List.{List}
@@ -11,7 +12,6 @@ use Rattle.lists.proofs.Tab.{get_or-tab}
 use Rattle.slot.specs.Description.{is_multi}
 use Rattle.slot.specs.declared.description.Description.{Description}
 use Rattle.domain.proofs.Bounds.{description_in_lem}
-use Rattle.gpio.specs.declared.line.LineGpio.TheVariants.{At}
 use Rattle.addr_layout.specs.declared.layout.AddrLayout.{AddrLayout}
 use Rattle.cs_data_law.specs.Law.{FoundBest}
 use Rattle.cs_data_law.specs.Sound as cs
@@ -26,7 +26,6 @@ use Rattle.build_args.specs.Faults.{table_size}
 use Rattle.build_args.specs.declared.images.ImageSpan.{ImageSpan}
 use Rattle.build_args.proofs.Facts.{described, addressed, selected, lines-few, data-count}
 use Rattle.rom_image.specs.Build.{build_of}
-use Rattle.refusal.specs.declared.Answer.{Answer}
 use Rattle.rom_image.proofs.Past.{table-small, table_fits, pins-few}
 use Rattle.stored_slot.specs.Stored as stored
 use Rattle.stored_slot.specs.declared.stored.Rom.{Rom}
@@ -104,14 +103,14 @@ module _ (d : Description) (a : AddrLayout) (c : CsDataLayout) (can : Storable d
           ∙ map_at c.data_pin_gpios c.num_data_pins can.data-lines n 0 m;
     }
 
-  first-at : first_select c ≡ At (cs.select_gpio c 0)
+  first-at : first_select c ≡ Some (cs.select_gpio c 0)
   first-at = rw (ne_eqb c.num_select_lines 0 (λ e. omega (arith, can.select, e)))
 
-  select_is : first_select c ≡ At (stored.stored_select s)
+  select_is : first_select c ≡ Some (stored.stored_select s)
   unfolding stored_of
   select_is =
       let same : stored.stored_select s ≡ cs.select_gpio c 0 = omega (arith, ap gpio_or0 first-at) in
-      first-at ∙ ap At (sym same)
+      first-at ∙ ap Some (sym same)
 
   word_bytes_is : stored.word_bytes s ≡ d.word_bytes
   unfolding stored_of
@@ -148,8 +147,8 @@ module _ (order : ByteOrder) (d : Description) (a : AddrLayout) (c : CsDataLayou
   past : Past order d a c images spans lent
   past = build-past order d a c images spans lent ok.build
 
-  selects : (n : ℕ) × FoundBest d (record { given = true; layout = a }) n c
-  selects = cs_found d (record { given = true; layout = a }) c ok.select
+  selects : (n : ℕ) × FoundBest d (Some a) n c
+  selects = cs_found d (Some a) c ok.select
 
   storable : Storable d a c
   storable = record {
@@ -166,7 +165,7 @@ module _ (order : ByteOrder) (d : Description) (a : AddrLayout) (c : CsDataLayou
   stored_as = stored_as_storable d a c storable
 
 -- what `stored_slot` and a read of the table ask of their caller, once the build accepts
-pub callable : (order : ByteOrder) (b : BuildArgs) (images lent : List ℕ) → (build_of order b images lent).answer ≡ Answer.Done
+pub callable : (order : ByteOrder) (b : BuildArgs) (images lent : List ℕ) → (build_of order b images lent).answer ≡ Ok tt
     → Readable b × (table_size b.description b.addr ≤ length lent)
 callable order b images lent e =
     let past = build-past order b.description b.addr b.cs_data images b.spans lent e in

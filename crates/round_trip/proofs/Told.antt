@@ -1,4 +1,5 @@
 -- Well wired, the lines of found layouts are told apart. Assumes nothing.
+use Rattle.std.specs.Prelude.{Some, Option, None}
 use mathlib.Core.Path.{◌≡◌, refl, sym, ◌∙◌, ap, subst}
 use mathlib.Core.Bool.{Bool, true, false}
 use Prim.Native.Nat.{ℕ, ◌-◌, ◌*◌, ◌<◌}
@@ -12,15 +13,12 @@ use Rattle.gpio.specs.declared.candidates.Candidates.TheVariants.{Absent, One, T
 use Rattle.slot.specs.Description.{is_multi}
 use Rattle.slot.specs.declared.description.Board.{Board}
 use Rattle.slot.specs.declared.description.Description.{Description}
-use Rattle.slot.specs.declared.slot_context.Socket.{Socket}
-use Rattle.slot.specs.declared.slot_context.Socket.TheVariants.{On, Off}
 use Rattle.listing.specs.Choice.{CandidateOf, gpio_at}
 use Rattle.listing.specs.Lines.{kind_pin, pin_socket, socket_candidates, pin_candidates}
 use Rattle.addr_lines.specs.Lines.{addr_listed}
 use Rattle.select_span.specs.Selects.{kind_candidates}
 use Rattle.addr_law.specs.Law as addr
 use Rattle.addr_law.specs.Law.Spanned.{of_select}
-use Rattle.gpio.specs.declared.line.LineGpio.TheVariants.{At}
 use Rattle.addr_layout.specs.declared.layout.AddrLayout.{AddrLayout}
 use Rattle.cs_data_law.specs.Sound as cs
 use Rattle.cs_data_layout.specs.declared.layout.CsDataLayout.{CsDataLayout}
@@ -35,12 +33,12 @@ use Rattle.round_trip.proofs.Apart.{SelectAt, index_in, index_own}
 -- a chip pin with a candidate is on the socket, and the candidate is that of its place
 pub record OnSocket (d : Description) (pin g : ℕ) : Type 0 where
   pub place : ℕ
-  pub on : pin_socket d pin ≡ On place
+  pub on : pin_socket d pin ≡ Some place
   pub candidate : CandidateOf (candidates_of d.board (socket place)) g
 
-seated : (b : Board) (o : Socket) (g : ℕ) → CandidateOf (socket_candidates b o) g → (p : ℕ) × (o ≡ On p) × CandidateOf (candidates_of b (socket p)) g
-seated b (On p) g c = (p, refl, c)
-seated b Off g c = absurd c
+seated : (b : Board) (o : Option ℕ) (g : ℕ) → CandidateOf (socket_candidates b o) g → (p : ℕ) × (o ≡ Some p) × CandidateOf (candidates_of b (socket p)) g
+seated b (Some p) g c = (p, refl, c)
+seated b None g c = absurd c
 
 pub on-socket : (d : Description) (pin g : ℕ) → CandidateOf (pin_candidates d pin) g → OnSocket d pin g
 unfolding pin_candidates
@@ -59,7 +57,7 @@ one-pin d a w p q g c e =
     let t = on-socket d q g e in
     let shared = w.unshared (socket s.place) (socket t.place) g (place_in d p _ s.on) (place_in d q _ t.on) in
     let same : s.place ≡ t.place = ap place_of (shared s.candidate t.candidate) in
-    same_place d p q t.place (s.on ∙ ap On same) t.on
+    same_place d p q t.place (s.on ∙ ap Some same) t.on
 
 -- a pin that has not two candidates has its first
 first_one : (c : Candidates) (g : ℕ) → two c ≡ false → CandidateOf c g → addr.FirstOf c g
@@ -89,7 +87,7 @@ module _ (d : Description) (a : AddrLayout) (ca cc' : ℕ) (found : addr.FoundBe
     pub selects : OnSocket d (select_pin d) (cs.select_gpio c 0)
     selects = on-socket d (select_pin d) (cs.select_gpio c 0) (laid.select-candidate m)
 
-    first_is : first_select c ≡ At (cs.select_gpio c 0)
+    first_is : first_select c ≡ Some (cs.select_gpio c 0)
     first_is = rw (ne_eqb c.num_select_lines 0 (λ e. omega (arith, laid.some-select, e)))
 
     first_of : addr.FirstOf (kind_candidates d d.multi.select) (cs.select_gpio c 0)

@@ -1,4 +1,5 @@
 -- What each entry of a built table reads as, and that every word has one. Assumes nothing.
+use Rattle.std.specs.Prelude.{Some}
 use mathlib.Core.Path.{◌≡◌, sym, ◌∙◌, ap}
 use mathlib.Core.Bool.{true}
 use mathlib.Core.List.{List}
@@ -23,7 +24,6 @@ use Rattle.build_args.specs.Picks.{num_picks, pick_position}
 use Rattle.picks.specs.Picks.{picks_of, picked_by, chips_fit}
 use Rattle.build_args.specs.Faults.{entries_of}
 use Rattle.build_args.specs.declared.images.ImageSpan.{ImageSpan}
-use Rattle.picks.specs.declared.Picked.TheVariants.{Chip}
 use Rattle.rom_image.specs.Build.{pad_byte}
 use Rattle.rom_image.proofs.Read.{entry-word}
 use Rattle.build_wiring.specs.Counts.{word_count}
@@ -67,7 +67,7 @@ module _ (order : ByteOrder) (d : Description) (a : AddrLayout) (c : CsDataLayou
   word_in rom n = chip_word order d.word_bytes (chip_bytes images (chip_span spans rom)) n
 
   -- the entry that picks a chip at an address that is counted holds that word, scrambled
-  entry-holds : (rom n i : ℕ) → rom < d.num_chips → chip_picked d a c i ≡ Chip rom → chip_address a i ≡ n → n < word_count d rom
+  entry-holds : (rom n i : ℕ) → rom < d.num_chips → chip_picked d a c i ≡ Some rom → chip_address a i ≡ n → n < word_count d rom
       → entry_at pad_byte order (args_of d a c spans) images i ≡ scrambled d c (word_in rom n)
   unfolding entry_at
   entry-holds rom n i l p q r = rw (p, q, lt-ltb n (word_count d rom) r)
@@ -77,7 +77,7 @@ module _ (order : ByteOrder) (d : Description) (a : AddrLayout) (c : CsDataLayou
   unfolding scrambled
   unscrambled-word v h = back c.num_data_pins (8 * d.word_bytes) (data_position c) v t.data-lines t.data_in t.data-own h
 
-  pub value_is : (rom n i : ℕ) → rom < d.num_chips → i < entries_of a → read.rom_picked s d.set_type i ≡ Chip rom
+  pub value_is : (rom n i : ℕ) → rom < d.num_chips → i < entries_of a → read.rom_picked s d.set_type i ≡ Some rom
       → read.address_at s rom i ≡ n → n < sizes.rom_words s rom → read.value_at s (table_of pad_byte order (args_of d a c spans) images) rom i ≡ word_in rom n
   unfolding read.value_at
   value_is rom n i l h p q r =
@@ -102,7 +102,7 @@ module _ (order : ByteOrder) (d : Description) (a : AddrLayout) (c : CsDataLayou
     unfolding index
     index_lt = served.at_lt a.num_lines (num_picks d) a.num_addr_pins (line_position a) (pick_position d a c) t.index_in t.index_own n code q code_small
 
-    pub index_picks : read.rom_picked s d.set_type index ≡ Chip rom
+    pub index_picks : read.rom_picked s d.set_type index ≡ Some rom
     unfolding chip_picked index
     index_picks =
         picked_same index

@@ -1,19 +1,14 @@
 -- Demand 3 over the definitions of both searches, the build and read-back: what it is given, what it concludes, and the whole of it
 -- as one statement, `RoundTrip`. Assumes nothing.
-use Rattle.std.specs.Prelude.{◌≡◌, true, List, ℕ, ◌*◌, ◌<◌, take, replicate, get_or}
+use Rattle.std.specs.Prelude.{◌≡◌, true, List, ℕ, ◌*◌, ◌<◌, take, replicate, get_or, Ok, Some}
 use Rattle.lists.specs.Tab.{joined}
 use Rattle.words.specs.declared.ByteOrder.{ByteOrder}
 use Rattle.addr_layout.specs.Search.{addr_answer}
-use Rattle.addr_layout.specs.declared.layout.AddrOutcome.{AddrOutcome}
-use Rattle.addr_layout.specs.declared.layout.AddrAnswer.{AddrAnswer}
 use Rattle.cs_data_layout.specs.Search.{cs_data_answer}
-use Rattle.cs_data_layout.specs.declared.layout.CsDataOutcome.{CsDataOutcome}
-use Rattle.cs_data_layout.specs.declared.layout.CsDataAnswer.{CsDataAnswer}
 use Rattle.build_args.specs.Images.{chip_span, chip_bytes}
 use Rattle.build_args.specs.Faults.{table_size}
 use Rattle.build_args.specs.declared.BuildArgs.{BuildArgs}
 use Rattle.rom_image.specs.Build.{build_of}
-use Rattle.refusal.specs.declared.Answer.{Answer}
 use Rattle.unscramble.specs.Recovered.{ReadBack, read_back, front, unscrambled}
 use Rattle.stored_slot.specs.declared.stored.StoredSlot.{StoredSlot}
 use Rattle.premises.specs.WellWired.{WellWired, StoredAs, Unforced}
@@ -22,11 +17,9 @@ use Rattle.premises.specs.Room.{chip_words, words, Room}
 -- 00 Demand 3: the searches find the two layouts, and the build by them is not refused
 -- 01 Well wired 8: the searches and the build share the description, and the build works by the layouts found
 pub record Accepted (order : ByteOrder) (b : BuildArgs) (images lent : List ℕ) : Type 0 where
-  pub address : ◌≡◌ {A = AddrAnswer} (addr_answer b.description) (record { outcome = AddrOutcome.LaidOut; layout = b.addr })
-  pub select : ◌≡◌ {A = CsDataAnswer}
-      (cs_data_answer b.description (record { given = true; layout = b.addr }))
-      (record { outcome = CsDataOutcome.LaidOut; layout = b.cs_data })
-  pub build : (build_of order b images lent).answer ≡ Answer.Done
+  pub address : addr_answer b.description ≡ Ok b.addr
+  pub select : cs_data_answer b.description (Some b.addr) ≡ Ok b.cs_data
+  pub build : (build_of order b images lent).answer ≡ Ok tt
 
 -- 00 Demand 3: the table that this build left
 -- 01 Well wired 9: read-back is given the front of the lent table just as the build left it
@@ -42,7 +35,7 @@ first_bytes b images k =
 -- words; all that stands behind them is unchanged
 abbrev pub returned_whole : BuildArgs → List ℕ → List ℕ → List ℕ → ReadBack
 returned_whole b images output marks =
-    read_back Answer.Done (front (joined b.description.num_chips (first_bytes b images)) output)
+    read_back (Ok tt) (front (joined b.description.num_chips (first_bytes b images)) output)
     (front (replicate (words b.description b.addr) 1) marks)
 
 -- of an answer and of what output and marks hold then

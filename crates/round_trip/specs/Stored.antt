@@ -1,10 +1,8 @@
 -- What read-back is given of a found layout, by the last sentences of document 01 on a well wired slot. Assumes nothing.
-use Rattle.std.specs.Prelude.{true, cond, List, ℕ, ◌-◌, ltb, get_or, replicate}
+use Rattle.std.specs.Prelude.{true, cond, List, ℕ, ◌-◌, ltb, get_or, replicate, Option, Some, None}
 use Rattle.lists.specs.Tab.{tab}
 use Rattle.slot.specs.Description.{no_chip}
 use Rattle.slot.specs.declared.description.Description.{Description}
-use Rattle.gpio.specs.declared.line.LineGpio.{LineGpio}
-use Rattle.gpio.specs.declared.line.LineGpio.TheVariants.{Unused, At}
 use Rattle.addr_layout.specs.declared.layout.AddrLayout.{AddrLayout}
 use Rattle.cs_data_layout.specs.declared.layout.CsDataLayout.{CsDataLayout}
 use Rattle.build_args.specs.Picks.{first_select}
@@ -32,9 +30,9 @@ stored_rom d a c k = record {
 }
 
 -- a line's GPIO; 0 where there is none
-abbrev pub gpio_or0 : LineGpio → ℕ
-gpio_or0 Unused = 0
-gpio_or0 (At g) = g
+abbrev pub gpio_or0 : Option ℕ → ℕ
+gpio_or0 None = 0
+gpio_or0 (Some g) = g
 
 -- 01 Well wired 11: the address algorithm is 0, which is known
 -- 01 Well wired 12: base and number of pins come from the address layout

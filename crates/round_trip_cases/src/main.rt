@@ -8,16 +8,17 @@
 ghost use Rattle.std.specs.Prelude.{◌≤◌};
 
 use addr_layout::derive_addr_layout;
+use addr_layout::layout::no_layout;
 use build_args::images::ImageSpan;
 use four_calls::round_trip;
 use gpio::candidates::{Candidates, Pin};
 use lists::array::entry;
-use refusal::{Answer, Refusal};
+use refusal::Refusal;
 use room::has_room;
 use say::{say, say_number};
 use slot::description::{
     Board, Chip, ChipSetType, ControlLine, ControlLines, CsConfig, CsLogic, Description,
-    MultiCsConfig, Package, Setting,
+    MultiCsConfig, Package,
 };
 use std::io;
 use std::num::wrapping_add_u8;
@@ -64,12 +65,10 @@ fn socket(lines: u8, pins: u8) -> [Pin; 40] {
         gpios: Candidates::Absent,
     };
     let mut out = [none; 40];
-    let mut k: u8 = 0;
-    while k < 40 {
+    for k in 0u8..40 {
         out[k as usize] = Pin {
             gpios: wired(lines, pins, k),
         };
-        k += 1;
     }
     out
 }
@@ -87,12 +86,10 @@ fn board(lines: u8, pins: u8) -> Board {
 // Pins one after the other.
 fn rising(first: u8) -> [u8; 24] {
     let mut out = [0u8; 24];
-    let mut k: usize = 0;
     let mut pin = first;
-    while k < 24 {
+    for k in 0..24 {
         out[k] = pin;
         pin = wrapping_add_u8(pin, 1);
-        k += 1;
     }
     out
 }
@@ -154,9 +151,9 @@ fn chip(case: Case, k: u8) -> Chip {
 fn cs1_low() -> CsConfig {
     CsConfig::ChipSelect {
         cs1: CsLogic::ActiveLow,
-        cs2: Setting::NotGiven,
-        cs3: Setting::NotGiven,
-        cs4: Setting::NotGiven,
+        cs2: None,
+        cs3: None,
+        cs4: None,
     }
 }
 
@@ -215,10 +212,8 @@ fn image_byte(n: u16) -> u8 {
 }
 
 fn fill(images: &mut [u8]) {
-    let mut n: u16 = 0;
-    while n < 2048 {
+    for n in 0u16..2048 {
         put(images, n as usize, image_byte(n));
-        n += 1;
     }
 }
 
@@ -256,11 +251,9 @@ fn all_words(case: Case) -> u32
 // Whether n bytes of the output are those of the images.
 fn same(output: &[u8], at: u32, images: &[u8], start: u32, n: u32) -> bool {
     let mut ok = true;
-    let mut k: u32 = 0;
-    while k < n {
+    for k in 0..n {
         let ours = entry(output, at as usize + k as usize);
         ok = ok & (ours == entry(images, start as usize + k as usize));
-        k += 1;
     }
     ok
 }
@@ -268,10 +261,8 @@ fn same(output: &[u8], at: u32, images: &[u8], start: u32, n: u32) -> bool {
 // Whether a range of a buffer holds a byte throughout.
 fn each(buffer: &[u8], from: u32, to: u32, byte: u8) -> bool {
     let mut ok = true;
-    let mut k = from;
-    while k < to {
+    for k in from..to {
         ok = ok & (entry(buffer, k as usize) == byte);
-        k += 1;
     }
     ok
 }
@@ -312,8 +303,8 @@ fn say_refusal(rt: &impl Print, why: Refusal) -> io::Result<()> {
 
 // Whether demand 3's premises hold of the slot, of its address layout and of the buffers.
 fn say_wiring(rt: &impl Print, d: Description) -> io::Result<()> {
-    let found = derive_addr_layout(d);
-    if well_wired(d, found.layout) & has_room(d, found.layout, 2048, 1024) {
+    let layout = derive_addr_layout(d).unwrap_or(no_layout());
+    if well_wired(d, layout) & has_room(d, layout, 2048, 1024) {
         say(rt, b": well wired")
     } else {
         say(rt, b": NOT WELL WIRED")
@@ -338,8 +329,8 @@ fn run(rt: &impl Print, name: &[u8], case: Case) -> io::Result<()> {
         &mut output,
         &mut marks,
     ) {
-        Answer::Refused(why) => say_refusal(rt, why),
-        Answer::Done => {
+        Err(why) => say_refusal(rt, why),
+        Ok(()) => {
             say_verdict(
                 rt,
                 case,

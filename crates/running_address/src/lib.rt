@@ -12,10 +12,7 @@ use lists::array::entry;
 fn place(p: u8) -> usize
     ensures { result ≡ min p 32 }
 {
-    if p < 32 {
-        return p as usize;
-    }
-    32
+    p.min(32) as usize
 }
 
 // The lines at each position.
@@ -24,11 +21,9 @@ fn lines_at(positions: &[u8], n: usize) -> [u32; 33]
     ensures { LinesAt n (λ k. get_or positions.now k 0) result }
 {
     let mut out = [0u32; 33];
-    let mut k: usize = 0;
-    while k < n {
+    for k in 0..n {
         let at = place(entry(positions, k));
         out[at] = out[at] | (1u32 << k);
-        k += 1;
     }
     out
 }
@@ -39,10 +34,8 @@ pub fn moves(positions: &[u8], n: usize) -> [u32; 33]
     ensures { Moves n (λ k. get_or positions.now k 0) result }
 {
     let mut out = lines_at(positions, n);
-    let mut t: usize = 1;
-    while t < 32 {
+    for t in 1..32 {
         out[t] = out[t] | out[t - 1];
-        t += 1;
     }
     out
 }

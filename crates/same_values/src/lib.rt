@@ -3,10 +3,9 @@
 
 ghost use Rattle.std.specs.Prelude.{◌≡◌};
 ghost use Rattle.premises.specs.Given.{x_pins_as};
-ghost use Rattle.premises.specs.Same.{is_absent, is_one, is_both, same_candidates, same_set, is_roms, is_at, same_to};
+ghost use Rattle.premises.specs.Same.{is_absent, is_one, is_both, same_candidates, is_roms, is_at, same_to};
 
 use gpio::candidates::Candidates;
-use gpio::line::LineGpio;
 use lists::array::entry;
 use slot::description::{ChipSetType, Description};
 use stored_slot::stored::{SlotType, StoredSlot};
@@ -41,7 +40,8 @@ fn is_both(c: Candidates, g: u8, h: u8) -> bool
     }
 }
 
-// Whether two pins have the same candidates.
+// Whether two pins have the same candidates. The derived `==` of an enum whose variants have fields was tried: that it is this test did not
+// close.
 fn same_candidates(c: Candidates, other: Candidates) -> bool
     ensures { result ≡ same_candidates c other }
 {
@@ -64,18 +64,6 @@ pub fn x_pins_as(d: Description, s: StoredSlot) -> bool
     same_candidates(x1, board_x1) & same_candidates(x2, board_x2)
 }
 
-fn same_set(t: ChipSetType, other: ChipSetType) -> bool
-    ensures { result ≡ same_set t other }
-{
-    let single = other.is_single();
-    let multi = other.is_multi();
-    match t {
-        ChipSetType::Single => single,
-        ChipSetType::Banked => !single & !multi,
-        ChipSetType::Multi => multi,
-    }
-}
-
 // Whether a slot holds ROMs in a set of this kind.
 pub fn is_roms(slot: SlotType, t: ChipSetType) -> bool
     ensures { result ≡ is_roms slot t }
@@ -83,17 +71,17 @@ pub fn is_roms(slot: SlotType, t: ChipSetType) -> bool
     match slot {
         SlotType::Unknown => false,
         SlotType::Plugin => false,
-        SlotType::Roms(u) => same_set(u, t),
+        SlotType::Roms(u) => u == t,
     }
 }
 
 // Whether a line is at a GPIO.
-pub fn is_at(line: LineGpio, g: u32) -> bool
+pub fn is_at(line: Option<u8>, g: u32) -> bool
     ensures { result ≡ is_at line g }
 {
     match line {
-        LineGpio::Unused => false,
-        LineGpio::At(h) => h as u32 == g,
+        None => false,
+        Some(h) => h as u32 == g,
     }
 }
 
@@ -102,12 +90,10 @@ pub fn same_to(list: &[u8], other: &[u8], n: u8) -> bool
     ensures { result ≡ same_to n list.now other.now }
 {
     let mut ok = true;
-    let mut k: u8 = 0;
-    while k < n {
+    for k in 0..n {
         let x = entry(list, k as usize);
         let y = entry(other, k as usize);
         ok = ok & (x == y);
-        k += 1;
     }
     ok
 }

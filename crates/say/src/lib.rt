@@ -47,10 +47,8 @@ fn put(line: &mut [u8], at: usize, text: &[u8]) -> usize
     ensures line_len_unchanged { length line.new ≡ length line.old }
     ensures line_after { take result line.new ≡ take at line.old ++ text.now }
 {
-    let mut k: usize = 0;
-    while k < text.len() {
+    for k in 0..text.len() {
         line[at + k] = text[k];
-        k += 1;
     }
     at + text.len()
 }

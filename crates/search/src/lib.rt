@@ -1,34 +1,29 @@
 // A search over choices by number: the lowest score wins, and the earliest among equals.
 #![tactic(auto)]
 
+pub mod rows; // the choices, taken in rows
+
 ghost use Rattle.std.specs.Prelude.{◌≡◌, ◌≤◌, min};
 ghost use Rattle.search.specs.Search.{better_of};
 
-// What a choice comes to.
-#[derive(Clone, Copy)]
-pub enum Trial {
-    Misfit,
-    Score(u32),
-}
-
 // The best choice so far, with its score.
 #[derive(Clone, Copy)]
-pub enum Found {
-    Nothing,
-    At(u32, u32),
+pub struct Found {
+    pub choice: u32,
+    pub score: u32,
 }
 
 // The better of what was found and a later choice.
-pub fn better(found: Found, choice: u32, trial: Trial) -> Found
+pub fn better(found: Option<Found>, choice: u32, trial: Option<u32>) -> Option<Found>
     ensures { result ≡ better_of found choice trial }
 {
     match trial {
-        Trial::Misfit => found,
-        Trial::Score(score) => match found {
-            Found::Nothing => Found::At(choice, score),
-            Found::At(_, lowest) => {
-                if score < lowest {
-                    Found::At(choice, score)
+        None => found,
+        Some(score) => match found {
+            None => Some(Found { choice, score }),
+            Some(best) => {
+                if score < best.score {
+                    Some(Found { choice, score })
                 } else {
                     found
                 }

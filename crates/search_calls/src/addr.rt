@@ -3,7 +3,7 @@ ghost use Rattle.std.specs.Prelude.{◌≡◌};
 ghost use Rattle.addr_record.specs.AddrRecord.{addr_size, layout_bytes};
 ghost use Rattle.calls.specs.Calls.{returned, search_result, written, addr_found};
 
-use addr_layout::layout::{AddrAnswer, AddrLayout, AddrOutcome};
+use addr_layout::layout::AddrLayout;
 use calls::refused::packed;
 use refusal::Refusal;
 
@@ -19,12 +19,11 @@ fn write(l: AddrLayout, buffer: &mut [u8]) -> u64
 }
 
 // Answers as the search did.
-pub fn hand_over(a: AddrAnswer, buffer: &mut [u8]) -> u64
-    ensures { returned result buffer.new ≡ search_result (addr_found a buffer.old) }
+pub fn hand_over(found: Result<AddrLayout, Refusal>, buffer: &mut [u8]) -> u64
+    ensures { returned result buffer.new ≡ search_result (addr_found found buffer.old) }
 {
-    let outcome = a.outcome;
-    match outcome {
-        AddrOutcome::LaidOut => write(a.layout, buffer),
-        AddrOutcome::Refused(why) => packed(why),
+    match found {
+        Ok(layout) => write(layout, buffer),
+        Err(why) => packed(why),
     }
 }

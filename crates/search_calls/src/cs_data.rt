@@ -4,7 +4,7 @@ ghost use Rattle.cs_data_record.specs.CsDataRecord.{cs_data_size, cs_data_bytes}
 ghost use Rattle.calls.specs.Calls.{returned, search_result, written, cs_data_found};
 
 use calls::refused::packed;
-use cs_data_layout::layout::{CsDataAnswer, CsDataLayout, CsDataOutcome};
+use cs_data_layout::layout::CsDataLayout;
 use refusal::Refusal;
 
 // Writes the layout's record, if the buffer holds one.
@@ -19,12 +19,11 @@ fn write(l: CsDataLayout, buffer: &mut [u8]) -> u64
 }
 
 // Answers as the search did.
-pub fn hand_over(a: CsDataAnswer, buffer: &mut [u8]) -> u64
-    ensures { returned result buffer.new ≡ search_result (cs_data_found a buffer.old) }
+pub fn hand_over(found: Result<CsDataLayout, Refusal>, buffer: &mut [u8]) -> u64
+    ensures { returned result buffer.new ≡ search_result (cs_data_found found buffer.old) }
 {
-    let outcome = a.outcome;
-    match outcome {
-        CsDataOutcome::LaidOut => write(a.layout, buffer),
-        CsDataOutcome::Refused(why) => packed(why),
+    match found {
+        Ok(layout) => write(layout, buffer),
+        Err(why) => packed(why),
     }
 }

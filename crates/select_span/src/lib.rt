@@ -37,10 +37,8 @@ fn select_span(d: Description) -> Span
     let multi = d.multi;
     let count = multi.num_commoned as usize;
     let mut s = widen_first(Span::empty(), kind_candidates(d, multi.select));
-    let mut k: usize = 0;
-    while k < count {
+    for k in 0..count {
         s = widen_first(s, kind_candidates(d, commoned_kind(d, k)));
-        k += 1;
     }
     s
 }

@@ -1,4 +1,5 @@
 -- Offset and socket pin over the integers. Assumes nothing.
+use Rattle.std.specs.Prelude.{Option, Some, None}
 use mathlib.Core.Path.{◌≡◌, refl, sym, ◌∙◌, ap}
 use mathlib.Core.Bool.{Bool, true, false, ◌&&◌, cond}
 use Prim.Native.Nat.{ℕ, suc, ◌+◌, ◌-◌, ◌≤◌, ◌<◌}
@@ -10,19 +11,17 @@ use borrow.Author.Tests.{leb-true, le-leb, ltb-false, lt-ltb, le-ltb}
 use Rattle.lists.proofs.Bools.{both}
 use Rattle.slot.specs.SlotContext.{raised_of, socket_of}
 use Rattle.slot.specs.Law.{SocketLaw}
-use Rattle.slot.specs.declared.slot_context.Socket.{Socket}
-use Rattle.slot.specs.declared.slot_context.Socket.TheVariants.{On, Off}
 
 -- a place on a socket and a natural number, each counted from 1 on, so that 0 is any other
-abbrev place : Socket → ℕ
-place (On s) = suc s
-place Off = 0
+abbrev place : Option ℕ → ℕ
+place (Some s) = suc s
+place None = 0
 
 abbrev natural : ℤ → ℕ
 natural (pos n) = suc n
 natural (negsuc n) = 0
 
-on_is : (p board s : ℕ) (t : Bool) → leb 1 p && leb p board ≡ t → cond t (On p) Off ≡ On s → (p ≡ s) × (1 ≤ p) × (p ≤ board)
+on_is : (p board s : ℕ) (t : Bool) → leb 1 p && leb p board ≡ t → cond t (Some p) None ≡ Some s → (p ≡ s) × (1 ≤ p) × (p ≤ board)
 on_is p board s true q e =
     let (least, most) = both _ _ q in
     let same : suc p ≡ suc s = ap place e in
@@ -36,12 +35,12 @@ record Raised (o : ℤ) (r : ℕ) : Type 0 where
   pub below_four : (pin : ℕ) → pin + r < 4 → natural (pos pin +ℤ o) ≡ 0
 
 module _ (o : ℤ) (r : ℕ) (h : Raised o r) where
-  on-sum : (pin board s : ℕ) → socket_of pin r board ≡ On s → (pos pin +ℤ o ≡ pos s) × (1 ≤ s) × (s ≤ board)
+  on-sum : (pin board s : ℕ) → socket_of pin r board ≡ Some s → (pos pin +ℤ o ≡ pos s) × (1 ≤ s) × (s ≤ board)
   on-sum pin board s e =
       let (same, least, most) = on_is (pin + r - 4) board s _ refl e in
       (h.from_four pin (omega arith) ∙ ap pos same, omega arith, omega arith)
 
-  sum-on : (pin board s : ℕ) → pos pin +ℤ o ≡ pos s → 1 ≤ s → s ≤ board → socket_of pin r board ≡ On s
+  sum-on : (pin board s : ℕ) → pos pin +ℤ o ≡ pos s → 1 ≤ s → s ≤ board → socket_of pin r board ≡ Some s
   sum-on pin board s e l m =
       let enough : 3 < pin + r = lt_of_not-le (λ (few : pin + r ≤ 3). let z : suc s ≡ 0 = sym (ap natural e) ∙ h.below_four pin (omega arith) in omega arith) in
       let same : suc (pin + r - 4) ≡ suc s = ap natural (sym (h.from_four pin (omega arith)) ∙ e) in

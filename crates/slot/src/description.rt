@@ -27,14 +27,12 @@ impl Package {
     pub fn is_a(self) -> bool
         ensures { result ≡ is_a self }
     {
-        match self {
-            Package::A => true,
-            Package::B => false,
-        }
+        matches!(self, Package::A)
     }
 }
 
-// A control line of a chip. Kinds: 0 ce, 1 oe, 2 to 5 cs1 to cs4, 6 any other line.
+// A control line of a chip. Kinds: 0 ce, 1 oe, 2 to 5 cs1 to cs4, 6 any other line. The kind is a number and no enum: a description may
+// come with any, and is refused by number 1 if it is above 6 (`line_in`).
 #[derive(Clone, Copy)]
 pub struct ControlLine {
     pub kind: u8,
@@ -60,7 +58,7 @@ pub struct Chip {
 }
 
 // How many chips share the socket, and what picks one: none, the X pins as a bank's bits, or select lines.
-#[derive(Clone, Copy)]
+#[derive(Clone, Copy, PartialEq, Eq)]
 pub enum ChipSetType {
     Single,
     Banked,
@@ -72,22 +70,14 @@ impl ChipSetType {
     pub fn is_single(self) -> bool
         ensures { result ≡ is_single self }
     {
-        match self {
-            ChipSetType::Single => true,
-            ChipSetType::Banked => false,
-            ChipSetType::Multi => false,
-        }
+        matches!(self, ChipSetType::Single)
     }
 
     // Whether chips of the set are told apart by select lines.
     pub fn is_multi(self) -> bool
         ensures { result ≡ is_multi self }
     {
-        match self {
-            ChipSetType::Single => false,
-            ChipSetType::Banked => false,
-            ChipSetType::Multi => true,
-        }
+        matches!(self, ChipSetType::Multi)
     }
 }
 
@@ -99,21 +89,14 @@ pub enum CsLogic {
     Ignore,
 }
 
-// The original's `Option<CsLogic>`: a line that nobody set is not a line that is ignored.
-#[derive(Clone, Copy)]
-pub enum Setting {
-    NotGiven,
-    Given(CsLogic),
-}
-
 // The select settings of a chip, in the original's three forms.
 #[derive(Clone, Copy)]
 pub enum CsConfig {
     ChipSelect {
         cs1: CsLogic,
-        cs2: Setting,
-        cs3: Setting,
-        cs4: Setting,
+        cs2: Option<CsLogic>,
+        cs3: Option<CsLogic>,
+        cs4: Option<CsLogic>,
     },
     CeOe,
     CeOeExplicit {
@@ -149,6 +132,8 @@ pub struct Description {
     pub num_chips: u8,
     // Chip 0's settings.
     pub cs_config: CsConfig,
+    // A flag and no Option: what a description's bytes say of a Multi set is promised whether or not it is set (`described`), and the
+    // definitions speak of its lines without the flag.
     pub has_multi: bool,
     pub multi: MultiCsConfig,
     // Lines in use whose all being high deselects the chip, by index; none: no qualifiers.

@@ -66,13 +66,6 @@ const KNOWN_PAIRS: [KnownPair; 10] = [
     },
 ];
 
-// The offset, socket pin less chip pin, or why there is none.
-#[derive(Clone, Copy)]
-pub enum OffsetAnswer {
-    Offset(i8),
-    Refused(Refusal),
-}
-
 // Whether a board's socket has one of the four pin counts.
 pub fn board_pins_in(pins: u8) -> bool
     ensures { result ≡ board_pins_in pins }
@@ -87,28 +80,26 @@ fn is_for(pair: KnownPair, chip_pins: u8, board_pins: u8) -> bool
 }
 
 // The offset of the pair's row.
-fn known_offset(chip_pins: u8, board_pins: u8) -> OffsetAnswer
+fn known_offset(chip_pins: u8, board_pins: u8) -> Result<i8, Refusal>
     ensures { result ≡ offset_from known_pairs chip_pins board_pins }
 {
-    let mut k: usize = 0;
-    while k < 10 {
+    for k in 0..10 {
         let pair = KNOWN_PAIRS[k];
         if is_for(pair, chip_pins, board_pins) {
-            return OffsetAnswer::Offset(pair.offset);
+            return Ok(pair.offset);
         }
-        k += 1;
     }
-    OffsetAnswer::Refused(Refusal::IncompatiblePinCount)
+    Err(Refusal::IncompatiblePinCount)
 }
 
 // The offset of a chip with `chip_pins` pins in a socket of `board_pins`.
-pub fn socket_pin_offset(chip_pins: u8, board_pins: u8) -> OffsetAnswer
+pub fn socket_pin_offset(chip_pins: u8, board_pins: u8) -> Result<i8, Refusal>
     ensures { result ≡ offset_answer chip_pins board_pins }
 {
     if board_pins_in(board_pins) {
         known_offset(chip_pins, board_pins)
     } else {
-        OffsetAnswer::Refused(Refusal::OutOfDomain)
+        Err(Refusal::OutOfDomain)
     }
 }
 
@@ -122,23 +113,16 @@ pub fn raised(offset: i8) -> u8
     (offset + 4) as u8
 }
 
-// The socket pin under a chip pin, or that the chip pin overhangs the socket.
-#[derive(Clone, Copy)]
-pub enum Socket {
-    On(u8),
-    Off,
-}
-
 // The offset comes raised.
-pub fn socket_pin(pin: u8, raised: u8, board_pins: u8) -> Socket
+pub fn socket_pin(pin: u8, raised: u8, board_pins: u8) -> Option<u8>
     ensures { result ≡ socket_of pin raised board_pins }
 {
     let place = pin as u16 + raised as u16;
     if place < 5 {
-        return Socket::Off;
+        return None;
     }
     if board_pins as u16 + 4 < place {
-        return Socket::Off;
+        return None;
     }
-    Socket::On((place - 4) as u8)
+    Some((place - 4) as u8)
 }

@@ -12,11 +12,9 @@ fn sizes_in(s: StoredSlot) -> bool
 {
     let n = s.num_roms;
     let mut ok = true;
-    let mut k: u8 = 0;
-    while k < n {
+    for k in 0..n {
         let rom = rom_at(s, k);
         ok = ok & (rom.chip_size <= 0x100_0000);
-        k += 1;
     }
     ok
 }

@@ -1,6 +1,5 @@
 // The lines that pick a ROM: their GPIOs, and what they are refused for.
 ghost use Rattle.std.specs.Prelude.{◌≡◌, cond, leb};
-ghost use Rattle.refusal.specs.declared.first.FirstFault.TheVariants.{None};
 ghost use Rattle.slot.specs.declared.description.ChipSetType.TheVariants.{Multi};
 ghost use Rattle.stored_slot.specs.Stored.{one_inside, x_inside};
 ghost use Rattle.stored_slot.specs.Faults.{x_fault, x_faults, select_fault, pick_fault};
@@ -10,7 +9,6 @@ use crate::stored::StoredSlot;
 use crate::window::{in_window, select_gpio};
 use gpio::candidates::Candidates;
 use refusal::Refusal;
-use refusal::first::{FirstFault, fault_if, or_else};
 use slot::description::ChipSetType;
 
 // Whether just one of a pin's GPIOs is in the window.
@@ -45,52 +43,49 @@ fn x_inside(s: StoredSlot, pin: Candidates) -> u8
 }
 
 // What X pin x is refused for.
-fn x_fault(s: StoredSlot, x: u8, pin: Candidates) -> FirstFault
+fn x_fault(s: StoredSlot, x: u8, pin: Candidates) -> Option<Refusal>
     ensures { result ≡ x_fault s x pin }
 {
-    fault_if(!one_inside(s, pin), Refusal::XPin(x))
+    (!one_inside(s, pin)).then_some(Refusal::XPin(x))
 }
 
 // What X2 is refused for, which counts with three ROMs or more.
-fn x2_fault(s: StoredSlot) -> FirstFault
+fn x2_fault(s: StoredSlot) -> Option<Refusal>
     ensures { result ≡ cond (leb 3 s.num_roms) (x_fault s 2 s.x2) None }
 {
     let x2 = s.x2;
     if 3 <= s.num_roms {
         return x_fault(s, 2, x2);
     }
-    FirstFault::None
+    None
 }
 
 // What the X pins are refused for, X1 first.
-fn x_faults(s: StoredSlot) -> FirstFault
+fn x_faults(s: StoredSlot) -> Option<Refusal>
     ensures { result ≡ x_faults s }
 {
     let x1 = s.x1;
-    or_else(x_fault(s, 1, x1), x2_fault(s))
+    x_fault(s, 1, x1).or(x2_fault(s))
 }
 
 // What the select line of a Multi slot is refused for.
-fn select_fault(s: StoredSlot) -> FirstFault
+fn select_fault(s: StoredSlot) -> Option<Refusal>
     ensures { result ≡ select_fault s }
 {
     let cs = s.alg_cs;
     let gpio = select_gpio(s);
-    let alg = fault_if(cs.alg != 0, Refusal::UnknownAlgorithm);
-    or_else(
-        alg,
-        fault_if((255 < gpio) | !in_window(s, gpio), Refusal::BadLayout),
-    )
+    let alg = (cs.alg != 0).then_some(Refusal::UnknownAlgorithm);
+    alg.or(((255 < gpio) | !in_window(s, gpio)).then_some(Refusal::BadLayout))
 }
 
 // What the lines that pick are refused for.
-pub fn pick_fault(s: StoredSlot, set_type: ChipSetType) -> FirstFault
+pub fn pick_fault(s: StoredSlot, set_type: ChipSetType) -> Option<Refusal>
     ensures { result ≡ pick_fault s set_type }
 {
     match set_type {
-        ChipSetType::Single => FirstFault::None,
+        ChipSetType::Single => None,
         ChipSetType::Banked => x_faults(s),
-        ChipSetType::Multi => or_else(x_faults(s), select_fault(s)),
+        ChipSetType::Multi => x_faults(s).or(select_fault(s)),
     }
 }
 

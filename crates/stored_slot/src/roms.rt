@@ -8,7 +8,6 @@ ghost use Rattle.stored_slot.specs.Faults.{rom_fault};
 use crate::stored::{Rom, StoredSlot};
 use crate::window::{addr_base, data_base, within, word_bytes};
 use refusal::Refusal;
-use refusal::first::{FirstFault, fault_if, or_else};
 
 // ROM k; past the last a ROM without map and size.
 pub fn rom_at(s: StoredSlot, k: u8) -> Rom
@@ -43,10 +42,8 @@ pub fn listed(map: [u8; 32]) -> u8
     ensures upper_bound { result ≤ 32 }
 {
     let mut n: u8 = 0;
-    let mut k: u8 = 0;
-    while k < 32 {
+    for k in 0u8..32 {
         n = next(n, k, map[k as usize]);
-        k += 1;
     }
     n
 }
@@ -57,16 +54,14 @@ fn map_within(map: [u8; 32], base: u32, n: u32) -> bool
 {
     let count = listed(map) as usize;
     let mut ok = true;
-    let mut k: usize = 0;
-    while k < count {
+    for k in 0..count {
         ok = ok & within(base, n, lists::array::entry(&map, k) as u32);
-        k += 1;
     }
     ok
 }
 
 // What ROM k's map is refused for.
-fn rom_fault(s: StoredSlot, k: u8) -> FirstFault
+fn rom_fault(s: StoredSlot, k: u8) -> Option<Refusal>
     ensures { result ≡ rom_fault s k }
 {
     let rom = rom_at(s, k);
@@ -74,29 +69,23 @@ fn rom_fault(s: StoredSlot, k: u8) -> FirstFault
     let data_gpios = rom.data_lines;
     let addr = s.alg_addr;
     let width = 8 * word_bytes(s);
-    let missing = fault_if(!rom.has_map, Refusal::MissingLayout);
-    let lines = fault_if(
-        !map_within(gpios, addr_base(s), addr.num_addr_pins as u32),
+    let missing = (!rom.has_map).then_some(Refusal::MissingLayout);
+    let lines = (!map_within(gpios, addr_base(s), addr.num_addr_pins as u32)).then_some(
         Refusal::BadLayout,
     );
-    let data = fault_if(
-        !map_within(data_gpios, data_base(s), width),
-        Refusal::BadLayout,
-    );
-    let count = fault_if(listed(data_gpios) as u32 != width, Refusal::BadLayout);
-    or_else(missing, or_else(lines, or_else(data, count)))
+    let data = (!map_within(data_gpios, data_base(s), width)).then_some(Refusal::BadLayout);
+    let count = (listed(data_gpios) as u32 != width).then_some(Refusal::BadLayout);
+    missing.or(lines.or(data.or(count)))
 }
 
 // The fault of the first ROM that has one.
-pub fn first_fault(s: StoredSlot) -> FirstFault
+pub fn first_fault(s: StoredSlot) -> Option<Refusal>
     ensures { result ≡ first_of s.num_roms (rom_fault s) }
 {
     let n = s.num_roms;
-    let mut fault = FirstFault::None;
-    let mut k: u8 = 0;
-    while k < n {
-        fault = or_else(fault, rom_fault(s, k));
-        k += 1;
+    let mut fault = None;
+    for k in 0..n {
+        fault = fault.or(rom_fault(s, k));
     }
     fault
 }

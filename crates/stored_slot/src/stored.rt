@@ -43,7 +43,8 @@ pub struct AlgCs {
     pub first_rom_cs_base: u8,
 }
 
-// A ROM's size in bytes and its pin map: GPIOs of its lines, lowest first, ended by 255.
+// A ROM's size in bytes and its pin map: GPIOs of its lines, lowest first, ended by 255. The map is no Option, since what a ROM's lines
+// reach is said of their bytes whether or not the flag is set.
 #[derive(Clone, Copy)]
 pub struct Rom {
     pub has_map: bool,
@@ -52,12 +53,14 @@ pub struct Rom {
     pub data_lines: [u8; 32],
 }
 
-// The kinds of override that force a GPIO; 0 and 1 force nothing.
+// The kinds of override that force a GPIO; 0 and 1 force nothing. They are the top two bits of a byte, and the rule on overrides is said of
+// any kind: numbers, and no enum.
 pub const FORCE_LOW: u8 = 2;
 
 pub const FORCE_HIGH: u8 = 3;
 
-// A slot as read-back takes it; counts say how many overrides and ROMs there are.
+// A slot as read-back takes it; counts say how many overrides and ROMs there are. The layout is no Option: its fields hold any bytes where
+// the flag is not set, and windows and pins are said of them all the same.
 #[derive(Clone, Copy)]
 pub struct StoredSlot {
     // Declared size in bytes.

@@ -5,7 +5,6 @@ ghost use Rattle.stored_slot.specs.Faults.{layout_fault};
 
 use crate::stored::StoredSlot;
 use refusal::Refusal;
-use refusal::first::{FirstFault, fault_if, or_else};
 
 // How many bytes a word has.
 pub fn word_bytes(s: StoredSlot) -> u32
@@ -78,30 +77,18 @@ fn table_whole(s: StoredSlot, length: usize) -> bool
 }
 
 // What the algorithms and the table's length are refused for, in the order in which they are looked at.
-pub fn layout_fault(s: StoredSlot, stored: &[u8]) -> FirstFault
+pub fn layout_fault(s: StoredSlot, stored: &[u8]) -> Option<Refusal>
     ensures { result ≡ layout_fault s stored.now }
 {
     let addr = s.alg_addr;
     let lines = s.alg_data;
     let dma = s.alg_dma;
-    let missing = fault_if(!s.has_layout, Refusal::MissingLayout);
-    let addr_alg = fault_if(addr.alg != 0, Refusal::UnknownAlgorithm);
-    let addr_sum = fault_if(255 < addr_base(s), Refusal::BadLayout);
-    let data_alg = fault_if(1 < lines.alg, Refusal::UnknownAlgorithm);
-    let data_sum = fault_if(255 < data_base(s), Refusal::BadLayout);
-    let dma_alg = fault_if(
-        (dma.alg != 0) | (1 < dma.bit_mode),
-        Refusal::UnknownAlgorithm,
-    );
-    let table = fault_if(!table_whole(s, stored.len()), Refusal::BadLayout);
-    or_else(
-        missing,
-        or_else(
-            addr_alg,
-            or_else(
-                addr_sum,
-                or_else(data_alg, or_else(data_sum, or_else(dma_alg, table))),
-            ),
-        ),
-    )
+    let missing = (!s.has_layout).then_some(Refusal::MissingLayout);
+    let addr_alg = (addr.alg != 0).then_some(Refusal::UnknownAlgorithm);
+    let addr_sum = (255 < addr_base(s)).then_some(Refusal::BadLayout);
+    let data_alg = (1 < lines.alg).then_some(Refusal::UnknownAlgorithm);
+    let data_sum = (255 < data_base(s)).then_some(Refusal::BadLayout);
+    let dma_alg = ((dma.alg != 0) | (1 < dma.bit_mode)).then_some(Refusal::UnknownAlgorithm);
+    let table = (!table_whole(s, stored.len())).then_some(Refusal::BadLayout);
+    missing.or(addr_alg.or(addr_sum.or(data_alg.or(data_sum.or(dma_alg.or(table))))))
 }

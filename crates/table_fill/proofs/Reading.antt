@@ -1,7 +1,6 @@
 -- What is read of a source, by some bits of an address. Assumes nothing.
 use mathlib.Core.Path.{◌≡◌, refl, sym, ◌∙◌, ap}
 use mathlib.Core.Bool.{Bool, true, false, cond, not, ◌&&◌, ◌||◌}
-use mathlib.Core.List.{List}
 use Prim.Native.Nat.{ℕ, ◌+◌, ◌-◌, ◌*◌, ◌%◌, ◌^◌, ◌≤◌, ◌<◌}
 use native.Mathlib.Nat.{mod-eq_of_lt}
 use native.Mathlib.Omega.{arith}
@@ -12,7 +11,6 @@ use Rattle.lists.proofs.Bools.{both}
 use Rattle.lists.proofs.Loops.{zero_one}
 use Rattle.lists.proofs.Shifts.{shifted_one}
 use Rattle.words.specs.Words.{chip_word_from}
-use Rattle.table_fill.specs.Design.Entries.{raw_from}
 use Rattle.table_fill.specs.Design.Rows.{ReadsBy, Pads}
 use Rattle.table_fill.specs.declared.sources.Source.{Source}
 

@@ -1,5 +1,5 @@
 -- The entries of a row: what its indices say, by its first one, and what a word comes to, by the tables of its bytes. Assumes nothing.
-use mathlib.Core.Path.{◌≡◌, refl, sym, ◌∙◌, ap}
+use mathlib.Core.Path.{◌≡◌, sym, ◌∙◌, ap}
 use mathlib.Core.List.{List, ◌++◌}
 use Prim.Native.Nat.{ℕ, ◌+◌, ◌-◌, ◌*◌, ◌/◌, ◌%◌, ◌^◌, ◌≤◌, ◌<◌}
 use native.Mathlib.Nat.{mul-one, add-zero, lt_of_lt_of_le, mod-eq_of_lt}
@@ -7,7 +7,6 @@ use native.Mathlib.Omega.{arith}
 use lib.Bits.{bit_and, bit_or, or_comm, or_add_and, and_le_r, and_mask}
 use lib.ListN.{length, get_or, take, drop}
 use lib.Pow.{pow_mono}
-use Rattle.lists.specs.Tab.{tab}
 use Rattle.lists.proofs.Tab.{get_or-tab, tab-length}
 use Rattle.bits.specs.Bits.{gather, scatter}
 use Rattle.bits.proofs.Gathered.{gather_lt, row, gather_split}

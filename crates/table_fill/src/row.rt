@@ -4,7 +4,7 @@ ghost use Rattle.table_fill.specs.Design.Rows.{RowIn, RowWritten};
 use crate::sources::{Chips, all_stand, mask_of, none_stand, raw};
 use crate::wiring::{Part, Wiring};
 use running_address::next_address;
-use table_rows::{ChipRow, scrambled, write_pads, write_words};
+use table_rows::{ChipRow, RowTables, scrambled, write_pads, write_words};
 use words::{ByteOrder, put_word};
 
 // A row: its first index, how many there are, and what the first one says.
@@ -22,28 +22,25 @@ fn each_entry(
     bytes: usize,
     from: Chips,
     row: Row,
-    moves: &[u32],
     picking: &[u32],
-    lows: &[u32],
-    highs: &[u32],
+    tables: RowTables,
     images: &[u8],
     table: &mut [u8],
 )
-    requires { RowIn w bytes from.sources from.pad row moves.now picking.now lows.now highs.now images.now table.old }
+    requires { RowIn w bytes from.sources from.pad row tables.moves.now picking.now tables.lows.now tables.highs.now images.now table.old }
     ensures { RowWritten order w bytes from.sources from.pad row images.now table.old table.new }
 {
+    let RowTables { moves, lows, highs } = tables;
     let sources = from.sources;
     let mut address = row.part.address;
     let mut picks = row.part.picks;
-    let mut q: u32 = 0;
-    while q < row.count {
+    for q in 0..row.count {
         let source = sources[picks as usize];
         let word = raw(order, images, bytes, source, from.pad, address);
         let entry = scrambled(bytes, lows, highs, word);
         put_word(table, (row.first + q) as usize * bytes, bytes, entry);
         address = next_address(moves, address, row.first + q);
         picks = next_address(picking, picks, row.first + q);
-        q += 1;
     }
 }
 
@@ -53,14 +50,12 @@ fn words_row(
     w: Wiring,
     from: Chips,
     row: Row,
-    moves: &[u32],
     picking: &[u32],
-    lows: &[u32],
-    highs: &[u32],
+    tables: RowTables,
     images: &[u8],
     table: &mut [u8],
 )
-    requires { RowIn w 2 from.sources from.pad row moves.now picking.now lows.now highs.now images.now table.old }
+    requires { RowIn w 2 from.sources from.pad row tables.moves.now picking.now tables.lows.now tables.highs.now images.now table.old }
     ensures { RowWritten order w 2 from.sources from.pad row images.now table.old table.new }
 {
     match order {
@@ -70,10 +65,8 @@ fn words_row(
             2,
             from,
             row,
-            moves,
             picking,
-            lows,
-            highs,
+            tables,
             images,
             table,
         ),
@@ -83,10 +76,8 @@ fn words_row(
             2,
             from,
             row,
-            moves,
             picking,
-            lows,
-            highs,
+            tables,
             images,
             table,
         ),
@@ -99,28 +90,20 @@ fn any_row(
     w: Wiring,
     from: Chips,
     row: Row,
-    moves: &[u32],
     picking: &[u32],
-    lows: &[u32],
-    highs: &[u32],
+    tables: RowTables,
     images: &[u8],
     table: &mut [u8],
 )
-    requires { RowIn w w.word_bytes from.sources from.pad row moves.now picking.now lows.now highs.now images.now table.old }
+    requires { RowIn w w.word_bytes from.sources from.pad row tables.moves.now picking.now tables.lows.now tables.highs.now images.now table.old }
     ensures { RowWritten order w w.word_bytes from.sources from.pad row images.now table.old table.new }
 {
     if w.word_bytes == 1 {
-        each_entry(
-            order, w, 1, from, row, moves, picking, lows, highs, images, table,
-        );
+        each_entry(order, w, 1, from, row, picking, tables, images, table);
     } else if w.word_bytes == 2 {
-        words_row(
-            order, w, from, row, moves, picking, lows, highs, images, table,
-        );
+        words_row(order, w, from, row, picking, tables, images, table);
     } else {
-        each_entry(
-            order, w, 0, from, row, moves, picking, lows, highs, images, table,
-        );
+        each_entry(order, w, 0, from, row, picking, tables, images, table);
     }
 }
 
@@ -131,14 +114,12 @@ pub fn write_row(
     w: Wiring,
     from: Chips,
     row: Row,
-    moves: &[u32],
     picking: &[u32],
-    lows: &[u32],
-    highs: &[u32],
+    tables: RowTables,
     images: &[u8],
     table: &mut [u8],
 )
-    requires { RowIn w w.word_bytes from.sources from.pad row moves.now picking.now lows.now highs.now images.now table.old }
+    requires { RowIn w w.word_bytes from.sources from.pad row tables.moves.now picking.now tables.lows.now tables.highs.now images.now table.old }
     ensures { RowWritten order w w.word_bytes from.sources from.pad row images.now table.old table.new }
 {
     let bytes = w.word_bytes as usize;
@@ -148,7 +129,7 @@ pub fn write_row(
     let mask = mask_of(source);
     let one_chip = picking[7] == 0;
     let lines = w.address;
-    if one_chip & all_stand(source, mask, row.part.address + moves[7]) {
+    if one_chip & all_stand(source, mask, row.part.address + tables.moves[7]) {
         let words = ChipRow {
             first: row.first,
             count: row.count,
@@ -156,15 +137,11 @@ pub fn write_row(
             start: source.start,
             mask: mask,
         };
-        write_words(
-            order, bytes, words, &lines, n, moves, lows, highs, images, table,
-        );
+        write_words(order, bytes, words, &lines, n, tables, images, table);
     } else if one_chip & none_stand(source, row.part.address) {
-        let entry = scrambled(bytes, lows, highs, from.pad);
+        let entry = scrambled(bytes, tables.lows, tables.highs, from.pad);
         write_pads(bytes, entry, row.first, row.count, table);
     } else {
-        any_row(
-            order, w, from, row, moves, picking, lows, highs, images, table,
-        );
+        any_row(order, w, from, row, picking, tables, images, table);
     }
 }

@@ -6,8 +6,8 @@ use crate::row::{Row, write_row};
 use crate::scramble::scrambles;
 use crate::sources::{Chips, Source};
 use crate::wiring::{Part, Wiring};
-use lists::number::fewer;
 use running_address::{moves, next_row};
+use table_rows::RowTables;
 use words::ByteOrder;
 
 // Writes the first entries to the front of a buffer, row by row. What the first index of a row says is kept from row to row.
@@ -29,27 +29,29 @@ pub fn fill_by(
     let picking = moves(&picks, w.num_picks as usize);
     let lows = scrambles(w, 0);
     let highs = scrambles(w, 8);
+    let tables = RowTables {
+        moves: &moved,
+        lows: &lows,
+        highs: &highs,
+    };
     let from = Chips {
         sources: sources,
         pad: pad,
     };
     let mut address: u32 = 0;
     let mut picked: u32 = 0;
-    let mut i: u32 = 0;
-    while i < entries {
+    for k in 0..entries.div_ceil(256) {
+        let i = 256 * k;
         let row = Row {
             first: i,
-            count: fewer(256, entries - i),
+            count: u32::min(256, entries - i),
             part: Part {
                 address: address,
                 picks: picked,
             },
         };
-        write_row(
-            order, w, from, row, &moved, &picking, &lows, &highs, images, table,
-        );
+        write_row(order, w, from, row, &picking, tables, images, table);
         address = next_row(&moved, address, i);
         picked = next_row(&picking, picked, i);
-        i += 256;
     }
 }

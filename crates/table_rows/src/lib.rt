@@ -22,6 +22,15 @@ pub struct ChipRow {
     pub mask: u32,
 }
 
+// The tables by which rows of words are written: the address lines that move with each bit of an index, and what the low and the high
+// byte of a word come to.
+#[derive(Clone, Copy)]
+pub struct RowTables<'a> {
+    pub moves: &'a [u32],
+    pub lows: &'a [u32],
+    pub highs: &'a [u32],
+}
+
 // What a word comes to, by the tables of its bytes. A word of one byte has nothing in the second.
 pub fn scrambled(w: usize, lows: &[u32], highs: &[u32], word: u32) -> u32
     requires { (w ≤ 2) × (word < 2 ^ (8 * w)) × ByteTables lows.now highs.now }
@@ -41,26 +50,23 @@ fn chip_row(
     row: ChipRow,
     lines: &[u8],
     n: usize,
-    moves: &[u32],
-    lows: &[u32],
-    highs: &[u32],
+    tables: RowTables,
     images: &[u8],
     table: &mut [u8],
 )
-    requires { ChipRowIn w row n (λ k. get_or lines.now k 0) moves.now lows.now highs.now images.now table.old }
+    requires { ChipRowIn w row n (λ k. get_or lines.now k 0) tables.moves.now tables.lows.now tables.highs.now images.now table.old }
     ensures { Wrote w
-        (chip_entry order w row n (λ k. get_or lines.now k 0) lows.now highs.now images.now)
+        (chip_entry order w row n (λ k. get_or lines.now k 0) tables.entry.lows.now tables.entry.highs.now images.now)
         row.first row.count table.old table.new }
 {
+    let RowTables { moves, lows, highs } = tables;
     let mut address = row.address;
-    let mut q: u32 = 0;
-    while q < row.count {
+    for q in 0..row.count {
         let at = row.start as usize + (address & row.mask) as usize * w;
         let word = chip_word_at(order, images, at, w);
         let entry = scrambled(w, lows, highs, word);
         put_word(table, (row.first + q) as usize * w, w, entry);
         address = next_address(moves, address, row.first + q);
-        q += 1;
     }
 }
 
@@ -71,23 +77,21 @@ pub fn write_words(
     row: ChipRow,
     lines: &[u8],
     n: usize,
-    moves: &[u32],
-    lows: &[u32],
-    highs: &[u32],
+    tables: RowTables,
     images: &[u8],
     table: &mut [u8],
 )
-    requires { ChipRowIn w row n (λ k. get_or lines.now k 0) moves.now lows.now highs.now images.now table.old }
+    requires { ChipRowIn w row n (λ k. get_or lines.now k 0) tables.moves.now tables.lows.now tables.highs.now images.now table.old }
     ensures { Wrote w
-        (chip_entry order w row n (λ k. get_or lines.now k 0) lows.now highs.now images.now)
+        (chip_entry order w row n (λ k. get_or lines.now k 0) tables.entry.lows.now tables.entry.highs.now images.now)
         row.first row.count table.old table.new }
 {
     if w == 1 {
-        chip_row(order, 1, row, lines, n, moves, lows, highs, images, table);
+        chip_row(order, 1, row, lines, n, tables, images, table);
     } else if w == 2 {
-        chip_row(order, 2, row, lines, n, moves, lows, highs, images, table);
+        chip_row(order, 2, row, lines, n, tables, images, table);
     } else {
-        chip_row(order, w, row, lines, n, moves, lows, highs, images, table);
+        chip_row(order, w, row, lines, n, tables, images, table);
     }
 }
 
@@ -96,10 +100,8 @@ fn pad_row(w: usize, entry: u32, first: u32, count: u32, table: &mut [u8])
     requires { (first + count < 2 ^ 32) × ((first + count) * w ≤ length table.old) }
     ensures { Wrote w (λ q. entry) first count table.old table.new }
 {
-    let mut q: u32 = 0;
-    while q < count {
+    for q in 0..count {
         put_word(table, (first + q) as usize * w, w, entry);
-        q += 1;
     }
 }
 

@@ -1,4 +1,5 @@
 -- What an entry is for, and what it says: counted through all ROMs, and ROM by ROM. Assumes nothing.
+use Rattle.std.specs.Prelude.{Option, Some, None}
 use mathlib.Core.Path.{◌≡◌, refl, sym, ◌∙◌, ap}
 use mathlib.Core.Bool.{Bool, true, false, cond}
 use mathlib.Core.List.{List}
@@ -8,8 +9,6 @@ use lib.Dec.{ltb, eqb}
 use borrow.Author.Tests.{ltb-true, lt-ltb, eqb-true, eq-eqb}
 use Rattle.slot.specs.declared.description.ChipSetType.{ChipSetType}
 use Rattle.picks.specs.Picks.{chips_fit}
-use Rattle.picks.specs.declared.Picked.{Picked}
-use Rattle.picks.specs.declared.Picked.TheVariants.{NoChip, Chip}
 use Rattle.entry_words.specs.Design.Kept.{first_at}
 use Rattle.lists.proofs.First.{first_passes, first_cong}
 use Rattle.stored_slot.specs.Stored.{free, stored_pins}
@@ -34,11 +33,11 @@ module _ (s : StoredSlot) (set : ChipSetType) where
   in_rom rom i true e l = ltb-true (address_at s rom i) (rom_words s rom) e
   in_rom rom i false e l = absurd (omega arith)
 
-  entry_case : (i : ℕ) (b : Bool) (p : Picked) → free s i ≡ b → rom_picked s set i ≡ p → cond b (word_of s p i) (all_words s) < all_words s
+  entry_case : (i : ℕ) (b : Bool) (p : Option ℕ) → free s i ≡ b → rom_picked s set i ≡ p → cond b (word_of s p i) (all_words s) < all_words s
       → (rom : ℕ) × (serves s set rom (address_at s rom i) i ≡ true)
   entry_case i false p e g l = absurd (omega arith)
-  entry_case i true NoChip e g l = absurd (omega arith)
-  entry_case i true (Chip rom) e g l =
+  entry_case i true None e g l = absurd (omega arith)
+  entry_case i true (Some rom) e g l =
       (rom, serves_is s set rom (address_at s rom i) i e g refl (in_rom rom i (ltb (address_at s rom i) (rom_words s rom)) refl l))
 
   pub entry-serves : (i : ℕ) → word_at s set i < all_words s → (rom : ℕ) × (serves s set rom (address_at s rom i) i ≡ true)

@@ -1,4 +1,6 @@
 -- What the entries come to, read by the code's tables, is what read-back answers. Assumes nothing.
+use Rattle.std.specs.Prelude.{Result, Ok}
+use Rattle.refusal.specs.declared.Refusal.{Refusal}
 use mathlib.Core.Path.{◌≡◌, refl, sym, ◌∙◌, ap, subst}
 use mathlib.Core.Bool.{true}
 use mathlib.Core.List.{List, ◌++◌}
@@ -12,8 +14,6 @@ use Rattle.words.specs.declared.ByteOrder.{ByteOrder}
 use Rattle.words.proofs.Turned.{turned_word, turned_eqb}
 use Rattle.slot.specs.declared.description.ChipSetType.{ChipSetType}
 use Rattle.refusal.specs.First.{or_else, answered}
-use Rattle.refusal.specs.declared.Answer.{Answer}
-use Rattle.refusal.specs.declared.Answer.TheVariants.{Done}
 use Rattle.picks.specs.Picks.{chips_fit}
 use Rattle.entry_words.specs.Design.Kept.{output_after, outcome_of}
 use Rattle.entry_words.specs.Design.Reading.{word_by, value_by}
@@ -89,7 +89,7 @@ module _ (order : ByteOrder) (s : StoredSlot) (set : ChipSetType) (stored output
   read k = read_back (answered (outcome_fault s k.answer)) k.output k.marks
 
   -- 0 over all words
-  cleared : (why : Answer)
+  cleared : (why : Result (Unit {0}) Refusal)
       → read_back why (replicate (words * w) 0 ++ drop (words * w) output) (replicate words 0 ++ drop words marks)
       ≡ read_back why (front (replicate (words * w) 0) output) (front (replicate words 0) marks)
   cleared why =
@@ -102,7 +102,7 @@ module _ (order : ByteOrder) (s : StoredSlot) (set : ChipSetType) (stored output
       let out = front_long (output_after w for-word turned words entries) output (words * w) (output-length w for-word turned words entries)
       ∙ ap (λ (x : List ℕ). front x output) (output-same s set stored fit e order) in
       let told = ap (λ (x : List ℕ). x ++ drop words marks) (marks-same s set stored fit e) ∙ front_long (replicate words 1) marks words (length-replicate {A = ℕ} words 1) in
-      ap (λ (o : List ℕ). read_back Done o (marks_held for-word words entries marks)) out ∙ ap (λ (m : List ℕ). read_back Done (front (recovered order s set stored) output) m) told
+      ap (λ (o : List ℕ). read_back (Ok tt) o (marks_held for-word words entries marks)) out ∙ ap (λ (m : List ℕ). read_back (Ok tt) (front (recovered order s set stored) output) m) told
   by_outcome (Disagrees f) e = cleared (answered (outcome_fault s (Disagrees f)))
   by_outcome (Missing f) e = cleared (answered (outcome_fault s (Missing f)))
 
@@ -145,14 +145,14 @@ module _ (order : ByteOrder) (s : StoredSlot) (set : ChipSetType) (stored output
   collectable r n e h = subst (λ (x : Reading). Collectable x n) (sym e) (subst (Collectable (reading_of order s set)) (sym h) collectable_so)
 
   abbrev Finishes : Reading → ℕ → Type 0
-  Finishes r n = (x : Outcome) (o m : List ℕ) (why : Answer) → why ≡ answered (outcome_fault s x)
+  Finishes r n = (x : Outcome) (o m : List ℕ) (why : Result (Unit {0}) Refusal) → why ≡ answered (outcome_fault s x)
       → kept x o m ≡ collected_of r.word_bytes (word_by r) (value_by r stored) r.words n output marks
       → read_back why o m ≡ after_entries order s set stored output marks (or_else (inconsistent s set stored) (unserved s set))
 
   finishes_so : Finishes (reading_of order s set) (2 ^ stored_pins s)
   unfolding reading_of
   finishes_so x o m why e h =
-      ap (λ (y : Answer). read_back y o m) e
+      ap (λ (y : Result (Unit {0}) Refusal). read_back y o m) e
       ∙ finished order s set stored output marks (fit s set stored (length output) (length marks) past) (few-roms s past.domain) can.bytes data-lines x o m h
 
   pub finishes : (r : Reading) (n : ℕ) → r ≡ reading_of order s set → n ≡ 2 ^ stored_pins s → Finishes r n

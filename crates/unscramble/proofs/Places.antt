@@ -1,5 +1,7 @@
 -- Each refusal of read-back is one of document 01's rows, with a place of 48 bits: no place, an X pin, or one of four ROMs and an address of
 -- 32 bits. Assumes nothing.
+use Rattle.std.specs.Prelude.{Option, Some, None, Ok}
+use Rattle.refusal.specs.declared.Refusal.{Refusal}
 use mathlib.Core.Path.{◌≡◌, refl}
 use mathlib.Core.Bool.{Bool, true, false, not, ◌&&◌, ◌||◌, cond}
 use mathlib.Core.List.{List}
@@ -17,7 +19,6 @@ use Rattle.slot.specs.declared.description.ChipSetType.{ChipSetType}
 use Rattle.slot.specs.declared.description.ChipSetType.TheVariants.{Single, Banked, Multi}
 use Rattle.refusal.specs.Refusal.{answer_code}
 use Rattle.refusal.specs.First.{or_else, first_of}
-use Rattle.refusal.specs.declared.Answer.TheVariants.{Done}
 use Rattle.refusal.specs.declared.Refusal.TheVariants.{
   OutOfDomain,
   ShortBuffer,
@@ -29,12 +30,8 @@ use Rattle.refusal.specs.declared.Refusal.TheVariants.{
   Inconsistent,
   Unserved,
 }
-use Rattle.refusal.specs.declared.first.FirstFault.{FirstFault}
-use Rattle.refusal.specs.declared.first.FirstFault.TheVariants.{None, Of}
 use Rattle.refusal.proofs.Places.{FirstRows, Small, small_or, small_if, small_test, small-first}
 use Rattle.picks.specs.Picks.{chips_fit, picks_of, picked_by}
-use Rattle.picks.specs.declared.Picked.{Picked}
-use Rattle.picks.specs.declared.Picked.TheVariants.{NoChip, Chip}
 use Rattle.words.specs.declared.ByteOrder.{ByteOrder}
 use Rattle.stored_slot.specs.Stored.{rom_at, stored_in, word_bytes, addr_base, stored_data_base, stored_select, stored_pins, within, in_window, addr_lines, data_lines, addr_position, one_inside}
 use Rattle.stored_slot.specs.Words.{rom_words, all_words, stored_pick_position}
@@ -68,20 +65,20 @@ address-small s rom i =
     (pow_mono {i = addr_lines (rom_at s rom)} {j = 32} (listed-most 32 (rom_at s rom).addr))
 
 -- a ROM that is picked is one of four
-abbrev PickedIn : Picked → Type 0
-PickedIn NoChip = Unit
-PickedIn (Chip rom) = rom < 4
+abbrev PickedIn : Option ℕ → Type 0
+PickedIn None = Unit
+PickedIn (Some rom) = rom < 4
 
 picked_in : (set : ChipSetType) (roms bits : ℕ) → roms ≤ 4 → PickedIn (picked_by set roms bits)
 picked_in Single roms bits l = omega arith
 picked_in Banked roms bits l = by (ltb bits roms) refl
   where
-    by : (t : Bool) → ltb bits roms ≡ t → PickedIn (cond t (Chip bits) NoChip)
+    by : (t : Bool) → ltb bits roms ≡ t → PickedIn (cond t (Some bits) None)
     by true e = omega (arith, ltb-true bits roms e)
     by false e = tt
 picked_in Multi roms bits l = by (eqb bits 1) (eqb bits 2) (eqb bits 4)
   where
-    by : (one two four : Bool) → PickedIn (cond one (Chip 0) (cond two (Chip 1) (cond four (Chip 2) NoChip)))
+    by : (one two four : Bool) → PickedIn (cond one (Some 0) (cond two (Some 1) (cond four (Some 2) None)))
     by true two four = omega arith
     by false true four = omega arith
     by false false true = omega arith
@@ -137,9 +134,9 @@ module _ (s : StoredSlot) (stored : List ℕ) where
 
 -- by the entries
 module _ (s : StoredSlot) (e : stored_in s ≡ true) (set : ChipSetType) (stored : List ℕ) where
-  small-disagrees : (i : ℕ) (p : Picked) → PickedIn p → Small (disagrees_for s set stored i p)
-  small-disagrees i NoChip h = tt
-  small-disagrees i (Chip rom) h =
+  small-disagrees : (i : ℕ) (p : Option ℕ) → PickedIn p → Small (disagrees_for s set stored i p)
+  small-disagrees i None h = tt
+  small-disagrees i (Some rom) h =
       let n = address_at s rom i in
       small_if (serves s set rom n i && not (eqb (value_at s stored rom i) (kept_value s set stored rom n))) (Inconsistent rom n) (omega (arith, address-small s rom i))
 
@@ -158,17 +155,17 @@ module _ (s : StoredSlot) (e : stored_in s ≡ true) (set : ChipSetType) (stored
       (λ n m. small_if (eqb (first_for s set rom n (2 ^ stored_pins s)) (2 ^ stored_pins s)) (Unserved rom n) (omega (arith, few-roms s e, rom-small s e rom l))))
 
 module _ (order : ByteOrder) (s : StoredSlot) (e : stored_in s ≡ true) (stored output marks : List ℕ) where
-  entries-place : (set : ChipSetType) (f : FirstFault) → Small f → FirstRows (answer_code (after_entries order s set stored output marks f).answer)
+  entries-place : (set : ChipSetType) (f : Option Refusal) → Small f → FirstRows (answer_code (after_entries order s set stored output marks f).answer)
   entries-place set None h = omega arith
-  entries-place set (Of why) h = h
+  entries-place set (Some why) h = h
 
-  after_place : (set : ChipSetType) (f : FirstFault) → Small f → FirstRows (answer_code (read_after order s set stored output marks f).answer)
-  after_place set (Of why) h = h
+  after_place : (set : ChipSetType) (f : Option Refusal) → Small f → FirstRows (answer_code (read_after order s set stored output marks f).answer)
+  after_place set (Some why) h = h
   after_place set None h =
       entries-place set (or_else (inconsistent s set stored) (unserved s set))
       (small_or (inconsistent s set stored) (unserved s set) (small-inconsistent s e set stored) (small-unserved s e set stored))
 
-  plugin-place : (t : Bool) (done : List ℕ) → FirstRows (answer_code (cond t (read_refused ShortBuffer output marks) (read_back Done done marks)).answer)
+  plugin-place : (t : Bool) (done : List ℕ) → FirstRows (answer_code (cond t (read_refused ShortBuffer output marks) (read_back (Ok tt) done marks)).answer)
   plugin-place true done = omega arith
   plugin-place false done = omega arith
 

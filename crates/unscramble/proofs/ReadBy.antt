@@ -1,4 +1,5 @@
 -- What the code reads the entries by says of each what the definitions say: the word that it is for, and its value. Assumes nothing.
+use Rattle.std.specs.Prelude.{Option, Some, None}
 use mathlib.Core.Path.{◌≡◌, refl, sym, ◌∙◌, ap}
 use mathlib.Core.Bool.{Bool, true, false, cond, ◌&&◌}
 use mathlib.Core.List.{List}
@@ -22,8 +23,6 @@ use Rattle.slot.specs.declared.description.ChipSetType.{ChipSetType}
 use Rattle.slot.specs.declared.description.ChipSetType.TheVariants.{Single, Banked, Multi}
 use Rattle.picks.specs.Picks.{picks_of, picked_by, chips_fit}
 use Rattle.picks.proofs.Picking.{picks_three}
-use Rattle.picks.specs.declared.Picked.{Picked}
-use Rattle.picks.specs.declared.Picked.TheVariants.{NoChip, Chip}
 use Rattle.entry_words.specs.Design.Reading.{no_map, gathered, part_by, rom_by, no_extent, word_by, value_by, ReadingIn}
 use Rattle.entry_words.specs.declared.Map.{Map}
 use Rattle.entry_words.specs.declared.Extent.{Extent}
@@ -119,13 +118,13 @@ module _ (order : ByteOrder) (s : StoredSlot) (set : ChipSetType) where
     extent-rom : (rom : ℕ) → rom < s.num_roms → ◌≡◌ {A = Extent} (extent_of s rom) (record { start = words_before s rom; words = rom_words s rom })
     extent-rom rom h = rw (lt-ltb rom s.num_roms h)
 
-    word-case : (i : ℕ) (p : Picked) → rom_picked s set i ≡ p → word_by r i ≡ cond (free s i) (word_of s p i) (all_words s)
-    word-case i NoChip e =
+    word-case : (i : ℕ) (p : Option ℕ) → rom_picked s set i ≡ p → word_by r i ≡ cond (free s i) (word_of s p i) (all_words s)
+    word-case i None e =
         by_place i
         ∙ ap (word-there i) (place_is i ∙ ap rom_place e)
         ∙ ap (λ (x : Extent). word_in i x (part_by r.address 4 i)) (extent-at 4 (omega arith) ∙ extent-none)
         ∙ nowhere (free s i) (ltb (part_by r.address 4 i) 0) (0 + part_by r.address 4 i) (all_words s) (le-ltb (part_by r.address 4 i) 0 (omega arith))
-    word-case i (Chip rom) e =
+    word-case i (Some rom) e =
         let there : rom < s.num_roms = picked-there s set fit rom i e in
         by_place i
         ∙ ap (word-there i) (place_is i ∙ ap rom_place e)
@@ -154,10 +153,10 @@ module _ (order : ByteOrder) (s : StoredSlot) (set : ChipSetType) where
           ∙ ordered_says no_lines v order 0 (omega arith) refl ∙ turned_empty order (gathered no_lines v)
 
       -- what it says is a word
-      said_lt : (i : ℕ) (p : Picked) → said_of s stored p i < 2 ^ (8 * word_bytes s)
+      said_lt : (i : ℕ) (p : Option ℕ) → said_of s stored p i < 2 ^ (8 * word_bytes s)
       unfolding value_at
-      said_lt i NoChip = pow_pos (8 * word_bytes s)
-      said_lt i (Chip rom) = gather_lt (8 * word_bytes s) (stored_data_position s rom) (word (word_bytes s) stored i)
+      said_lt i None = pow_pos (8 * word_bytes s)
+      said_lt i (Some rom) = gather_lt (8 * word_bytes s) (stored_data_position s rom) (word (word_bytes s) stored i)
 
       pub said_fits : (i : ℕ) → said_at s set stored i < 2 ^ (8 * word_bytes s)
       unfolding said_at
@@ -167,9 +166,9 @@ module _ (order : ByteOrder) (s : StoredSlot) (set : ChipSetType) where
       unfolding value_at
       value_is rom i = refl
 
-      said_case : (i : ℕ) (p : Picked) → rom_picked s set i ≡ p → value_by r stored i ≡ turned_word order (word_bytes s) (said_of s stored p i)
-      said_case i NoChip e = by_rom i ∙ ap (said_there i) (place_is i ∙ ap rom_place e) ∙ said_none (word (word_bytes s) stored i) ∙ sym (turned_none order (word_bytes s) small)
-      said_case i (Chip rom) e =
+      said_case : (i : ℕ) (p : Option ℕ) → rom_picked s set i ≡ p → value_by r stored i ≡ turned_word order (word_bytes s) (said_of s stored p i)
+      said_case i None e = by_rom i ∙ ap (said_there i) (place_is i ∙ ap rom_place e) ∙ said_none (word (word_bytes s) stored i) ∙ sym (turned_none order (word_bytes s) small)
+      said_case i (Some rom) e =
           let there : rom < s.num_roms = picked-there s set fit rom i e in
           by_rom i
           ∙ ap (said_there i) (place_is i ∙ ap rom_place e)
@@ -201,16 +200,16 @@ module _ (order : ByteOrder) (s : StoredSlot) (set : ChipSetType) where
     data-few k h = rw (get_or-tab (data_map order s) 5 k no_map h, same_lines order) (data-case k (ltb k s.num_roms) refl)
 
     -- a place that is picked is one of the five
-    place_if : (t : Bool) (k : ℕ) (next : Picked) → (t ≡ true → k < 5) → rom_place next < 5 → rom_place (cond t (Chip k) next) < 5
+    place_if : (t : Bool) (k : ℕ) (next : Option ℕ) → (t ≡ true → k < 5) → rom_place next < 5 → rom_place (cond t (Some k) next) < 5
     place_if true k next h n = h refl
     place_if false k next h n = n
 
     place_five : (x : ChipSetType) (n bits : ℕ) → n ≤ 4 → rom_place (picked_by x n bits) < 5
     place_five Single n bits h = omega arith
-    place_five Banked n bits h = place_if (ltb bits n) bits NoChip (λ e. omega (arith, ltb-true bits n e)) (omega arith)
+    place_five Banked n bits h = place_if (ltb bits n) bits None (λ e. omega (arith, ltb-true bits n e)) (omega arith)
     place_five Multi n bits h =
         place_if (eqb bits 1) 0 _ (λ e. omega arith)
-        (place_if (eqb bits 2) 1 _ (λ e. omega arith) (place_if (eqb bits 4) 2 NoChip (λ e. omega arith) (omega arith)))
+        (place_if (eqb bits 2) 1 _ (λ e. omega arith) (place_if (eqb bits 4) 2 None (λ e. omega arith) (omega arith)))
 
     places_five : (bits : ℕ) → bits < 8 → get_or r.roms bits 0 < 5
     unfolding reading_of

@@ -1,4 +1,5 @@
 -- The entries read one by one, each for a word counted through all ROMs, come to what Recovered says. Assumes nothing.
+use Rattle.std.specs.Prelude.{Option, Some, None}
 use mathlib.Core.Path.{◌≡◌, refl, sym, ◌∙◌, ap}
 use mathlib.Core.Bool.{Bool, true, false, cond, not, ◌&&◌}
 use mathlib.Core.List.{List}
@@ -11,11 +12,7 @@ use Rattle.slot.specs.declared.description.ChipSetType.{ChipSetType}
 use Rattle.refusal.specs.declared.Refusal.{Refusal}
 use Rattle.refusal.specs.declared.Refusal.TheVariants.{Inconsistent, Unserved}
 use Rattle.refusal.specs.First.{or_else, fault_if}
-use Rattle.refusal.specs.declared.first.FirstFault.{FirstFault}
-use Rattle.refusal.specs.declared.first.FirstFault.TheVariants.{None}
 use Rattle.picks.specs.Picks.{chips_fit}
-use Rattle.picks.specs.declared.Picked.{Picked}
-use Rattle.picks.specs.declared.Picked.TheVariants.{NoChip, Chip}
 use Rattle.entry_words.specs.Design.Kept.{first_at, told, value_after, marks_after, output_after, disagrees, first_bad, first_missing, outcome_of}
 use Rattle.entry_words.specs.declared.Outcome.TheVariants.{Whole, Disagrees, Missing}
 use Rattle.lists.proofs.First.{never_both, not_less, first-within, first_found}
@@ -97,7 +94,7 @@ module _ (s : StoredSlot) (set : ChipSetType) (stored : List ℕ) where
           ∙ ap (λ (r : ℕ). fault_if (disagrees t v (all_words s) i) (Inconsistent r (address_at s rom i))) (sym (flat_rom s (t i) rom (address_at s rom i) its_word))
           ∙ ap (λ (n : ℕ). fault_if (disagrees t v (all_words s) i) (Inconsistent (word_rom s (t i)) n)) (sym (flat_address s (t i) rom (address_at s rom i) its_word))
 
-    by_test : (rom i : ℕ) → i < entries → rom_picked s set i ≡ Chip rom → (b : Bool) → serves s set rom (address_at s rom i) i ≡ b
+    by_test : (rom i : ℕ) → i < entries → rom_picked s set i ≡ Some rom → (b : Bool) → serves s set rom (address_at s rom i) i ≡ b
         → fault_if (b && not (eqb (value_at s stored rom i) (kept_value s set stored rom (address_at s rom i)))) (Inconsistent rom (address_at s rom i))
         ≡ fault_if (disagrees t v (all_words s) i) (inconsistent_word (t i))
     by_test rom i l g true e = served_fault rom i l e
@@ -108,14 +105,14 @@ module _ (s : StoredSlot) (set : ChipSetType) (stored : List ℕ) where
         let same : r ≡ rom = cc in
         never_both (serves s set rom (address_at s rom i) i) (ap (λ (x : ℕ). serves s set x (address_at s x i) i) (sym same) ∙ q) e)
 
-    by_rom : (i : ℕ) → i < entries → (p : Picked) → rom_picked s set i ≡ p
+    by_rom : (i : ℕ) → i < entries → (p : Option ℕ) → rom_picked s set i ≡ p
         → disagrees_for s set stored i p ≡ fault_if (disagrees t v (all_words s) i) (inconsistent_word (t i))
-    by_rom i l NoChip g =
+    by_rom i l None g =
         skipped i (inconsistent_word (t i)) (λ h.
         let (r, q) = entry-serves s set i h in
         let p = serves-picks s set r (address_at s r i) i q in
         zero_one cc)
-    by_rom i l (Chip rom) g = by_test rom i l g (serves s set rom (address_at s rom i) i) refl
+    by_rom i l (Some rom) g = by_test rom i l g (serves s set rom (address_at s rom i) i) refl
 
     inconsistent_is : inconsistent s set stored ≡ fault_if (ltb bad entries) (inconsistent_word (t bad))
     inconsistent_is =
@@ -138,7 +135,7 @@ module _ (s : StoredSlot) (set : ChipSetType) (stored : List ℕ) where
     unfolding outcome_of
     fault-same =
         fault-case (ltb bad entries) (ltb missing (all_words s)) (t bad) missing
-        ∙ ap (λ (f : FirstFault). or_else f (fault_if (ltb missing (all_words s)) (unserved_word missing))) (sym inconsistent_is)
+        ∙ ap (λ (f : Option Refusal). or_else f (fault_if (ltb missing (all_words s)) (unserved_word missing))) (sym inconsistent_is)
         ∙ ap (or_else (inconsistent s set stored)) (sym unserved_is)
 
     module _ (e : outcome_of t v (all_words s) entries ≡ Whole) where

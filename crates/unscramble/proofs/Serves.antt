@@ -1,4 +1,5 @@
 -- What an entry for a word of a ROM says, and that a ROM that is picked is one of the slot's. Assumes nothing.
+use Rattle.std.specs.Prelude.{Option, Some, None}
 use mathlib.Core.Path.{◌≡◌, refl, ap}
 use mathlib.Core.Bool.{Bool, true, ◌&&◌}
 use Prim.Native.Nat.{ℕ, ◌<◌}
@@ -8,20 +9,18 @@ use Rattle.lists.proofs.Bools.{and_left, and_right}
 use Rattle.bits.proofs.Gathered.{gather_lt}
 use Rattle.slot.specs.declared.description.ChipSetType.{ChipSetType}
 use Rattle.picks.specs.Picks.{picks_of, chips_fit}
-use Rattle.picks.specs.declared.Picked.{Picked}
-use Rattle.picks.specs.declared.Picked.TheVariants.{NoChip, Chip}
 use Rattle.picks.proofs.Picking.{picked-below}
 use Rattle.stored_slot.specs.Stored.{free}
 use Rattle.unscramble.specs.Words.{rom_picked, address_at, picks_rom, serves}
 use Rattle.stored_slot.specs.Words.{rom_words, stored_pick_position}
 use Rattle.stored_slot.specs.declared.stored.StoredSlot.{StoredSlot}
 
-picks_is : (p : Picked) (rom : ℕ) → picks_rom p rom ≡ true → p ≡ Chip rom
-picks_is NoChip rom e = cc
-picks_is (Chip k) rom e = ap Chip (eqb-true k rom e)
+picks_is : (p : Option ℕ) (rom : ℕ) → picks_rom p rom ≡ true → p ≡ Some rom
+picks_is None rom e = cc
+picks_is (Some k) rom e = ap Some (eqb-true k rom e)
 
 module _ (s : StoredSlot) (set : ChipSetType) where
-  pub picked-there : chips_fit set s.num_roms ≡ true → (rom i : ℕ) → rom_picked s set i ≡ Chip rom → rom < s.num_roms
+  pub picked-there : chips_fit set s.num_roms ≡ true → (rom i : ℕ) → rom_picked s set i ≡ Some rom → rom < s.num_roms
   unfolding rom_picked
   picked-there fit rom i p =
       picked-below set s.num_roms _ rom fit (gather_lt (picks_of set s.num_roms) (stored_pick_position s set) i) p
@@ -41,7 +40,7 @@ module _ (s : StoredSlot) (set : ChipSetType) where
       pub serves-free : free s i ≡ true
       serves-free = and_left (free s i) (picks_rom (rom_picked s set i) rom) (and_left own there all_but_last)
 
-      pub serves-picks : rom_picked s set i ≡ Chip rom
+      pub serves-picks : rom_picked s set i ≡ Some rom
       serves-picks = picks_is _ rom (and_right (free s i) (picks_rom (rom_picked s set i) rom) (and_left own there all_but_last))
 
       pub serves-address : address_at s rom i ≡ n
@@ -51,6 +50,6 @@ module _ (s : StoredSlot) (set : ChipSetType) where
       unfolding serves
       serves-counted = ltb-true n (rom_words s rom) (and_right (own && there) (ltb n (rom_words s rom)) e)
 
-    pub serves_is : (i : ℕ) → free s i ≡ true → rom_picked s set i ≡ Chip rom → address_at s rom i ≡ n → n < rom_words s rom → serves s set rom n i ≡ true
+    pub serves_is : (i : ℕ) → free s i ≡ true → rom_picked s set i ≡ Some rom → address_at s rom i ≡ n → n < rom_words s rom → serves s set rom n i ≡ true
     unfolding serves
     serves_is i f p q r = rw (f, p, eq-eqb rom rom refl, eq-eqb (address_at s rom i) n q, lt-ltb n (rom_words s rom) r)

@@ -1,4 +1,5 @@
 -- What a slot of ROMs has that nothing before the entries refuses. Assumes nothing.
+use Rattle.std.specs.Prelude.{Option, None}
 use mathlib.Core.Path.{◌≡◌, refl}
 use mathlib.Core.Bool.{Bool, true, false, cond, not, ◌&&◌, ◌||◌}
 use mathlib.Core.List.{List}
@@ -19,8 +20,6 @@ use Rattle.slot.specs.declared.description.ChipSetType.TheVariants.{Single, Bank
 use Rattle.refusal.specs.declared.Refusal.{Refusal}
 use Rattle.refusal.specs.declared.Refusal.TheVariants.{MissingLayout, UnknownAlgorithm, BadLayout}
 use Rattle.refusal.specs.First.{or_else, fault_if, first_of}
-use Rattle.refusal.specs.declared.first.FirstFault.{FirstFault}
-use Rattle.refusal.specs.declared.first.FirstFault.TheVariants.{None}
 use Rattle.picks.specs.Picks.{chips_fit}
 use Rattle.refusal.proofs.Firsts.{or_left, or_right, first-all}
 use Rattle.stored_slot.specs.Stored.{rom_at, stored_in, word_bytes, addr_base, stored_data_base, stored_select, stored_pins, addr_lines, data_lines, within, in_window, x_inside}
@@ -42,7 +41,7 @@ or_false_right : (a b : Bool) → a || b ≡ false → b ≡ false
 or_false_right true b e = cc
 or_false_right false b e = e
 
-last_none : (a b c d : FirstFault) → or_else a (or_else b (or_else c d)) ≡ None → d ≡ None
+last_none : (a b c d : Option Refusal) → or_else a (or_else b (or_else c d)) ≡ None → d ≡ None
 last_none a b c d e = or_right c d (or_right b (or_else c d) (or_right a (or_else b (or_else c d)) e))
 
 either-small : (t : Bool) (a b : ℕ) → a ≤ 255 → b ≤ 255 → cond t a b ≤ 255
@@ -136,13 +135,13 @@ module _ (s : StoredSlot) (set : ChipSetType) (stored : List ℕ) (output marks 
   abbrev dma_bad : Bool
   dma_bad = not (eqb s.alg_dma.alg 0) || ltb 1 s.alg_dma.bit_mode
 
-  abbrev past-data_base : FirstFault
+  abbrev past-data_base : Option Refusal
   past-data_base = or_else (fault_if dma_bad UnknownAlgorithm) (or_else (fault_if (leb 32 (stored_pins s)) BadLayout) (fault_if table_bad BadLayout))
 
-  abbrev past-addr_base : FirstFault
+  abbrev past-addr_base : Option Refusal
   past-addr_base = or_else (fault_if (ltb 1 s.alg_data.alg) UnknownAlgorithm) (or_else (fault_if (ltb 255 (stored_data_base s)) BadLayout) past-data_base)
 
-  abbrev past_addr_alg : FirstFault
+  abbrev past_addr_alg : Option Refusal
   past_addr_alg = or_else (fault_if (ltb 255 (addr_base s)) BadLayout) past-addr_base
 
   addr_alg_none : past_addr_alg ≡ None

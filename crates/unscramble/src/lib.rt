@@ -15,8 +15,8 @@ ghost use Rattle.unscramble.specs.Design.Past.{PastTests};
 use crate::place::fault_of;
 use crate::reading::reading;
 use laid_bytes::copy;
-use refusal::first::{FirstFault, answered};
-use refusal::{Answer, Refusal};
+use refusal::Refusal;
+use refusal::first::answered;
 use slot::description::ChipSetType;
 use stored_faults::roms_fault;
 use stored_slot::in_domain::stored_in;
@@ -26,14 +26,14 @@ use table_read::collect;
 use words::ByteOrder;
 
 // A plugin is stored as it is.
-fn plugin(stored: &[u8], output: &mut [u8]) -> Answer
+fn plugin(stored: &[u8], output: &mut [u8]) -> Result<(), Refusal>
     ensures { (marks : List ℕ) → read_back result output.new marks ≡ plugin_read stored.now output.old marks }
 {
     if output.len() < stored.len() {
-        return Answer::Refused(Refusal::ShortBuffer);
+        return Err(Refusal::ShortBuffer);
     }
     copy(stored, output);
-    Answer::Done
+    Ok(())
 }
 
 // The ROMs of a slot that nothing refuses before its entries are read.
@@ -44,7 +44,7 @@ fn read_entries(
     stored: &[u8],
     output: &mut [u8],
     marks: &mut [u8],
-) -> Answer
+) -> Result<(), Refusal>
     requires { PastTests s set_type stored.now (length output.old) (length marks.old) }
     ensures { read_back result output.new marks.new
         ≡ after_entries order s set_type stored.now output.old marks.old
@@ -67,15 +67,15 @@ fn roms_read(
     stored: &[u8],
     output: &mut [u8],
     marks: &mut [u8],
-) -> Answer
+) -> Result<(), Refusal>
     requires { stored_in s ≡ true }
     ensures { read_back result output.new marks.new
         ≡ read_after order s set_type stored.now output.old marks.old
         (roms_fault s set_type stored.now (length output.old) (length marks.old)) }
 {
     match roms_fault(s, set_type, stored, output.len(), marks.len()) {
-        FirstFault::Of(why) => Answer::Refused(why),
-        FirstFault::None => read_entries(order, s, set_type, stored, output, marks),
+        Some(why) => Err(why),
+        None => read_entries(order, s, set_type, stored, output, marks),
     }
 }
 
@@ -86,19 +86,19 @@ pub fn unscramble_slot(
     stored: &[u8],
     output: &mut [u8],
     marks: &mut [u8],
-) -> Answer
+) -> Result<(), Refusal>
     ensures { read_back result output.new marks.new
         ≡ unscrambled order s stored.now output.old marks.old }
 {
     if !stored_in(s) {
-        return Answer::Refused(Refusal::OutOfDomain);
+        return Err(Refusal::OutOfDomain);
     }
     if stored.len() != s.size as usize {
-        return Answer::Refused(Refusal::WrongSize);
+        return Err(Refusal::WrongSize);
     }
     let slot_type = s.slot_type;
     match slot_type {
-        SlotType::Unknown => Answer::Refused(Refusal::UnknownSlotType),
+        SlotType::Unknown => Err(Refusal::UnknownSlotType),
         SlotType::Plugin => plugin(stored, output),
         SlotType::Roms(set_type) => roms_read(order, s, set_type, stored, output, marks),
     }

@@ -5,7 +5,6 @@ ghost use Rattle.unscramble.specs.Design.Place.{word_rom, word_address, outcome_
 use entry_words::Outcome;
 use lists::array::one_if;
 use refusal::Refusal;
-use refusal::first::FirstFault;
 use rom_words::words_before;
 use stored_slot::stored::StoredSlot;
 
@@ -15,10 +14,8 @@ fn rom_of(s: StoredSlot, f: u32) -> u8
 {
     let n = s.num_roms;
     let mut rom: u8 = 0;
-    let mut k: u8 = 0;
-    while k < n {
+    for k in 0..n {
         rom = rom + one_if(words_before(s, k + 1) <= f as u64);
-        k += 1;
     }
     rom
 }
@@ -35,19 +32,19 @@ fn address_of(s: StoredSlot, f: u32) -> u32
 }
 
 // What the outcome of all entries is refused for.
-pub fn fault_of(s: StoredSlot, outcome: Outcome) -> FirstFault
+pub fn fault_of(s: StoredSlot, outcome: Outcome) -> Option<Refusal>
     ensures { result ≡ outcome_fault s outcome }
 {
     match outcome {
-        Outcome::Whole => FirstFault::None,
+        Outcome::Whole => None,
         Outcome::Disagrees(f) => {
-            FirstFault::Of(Refusal::Inconsistent {
+            Some(Refusal::Inconsistent {
                 rom: rom_of(s, f),
                 addr: address_of(s, f),
             })
         }
         Outcome::Missing(f) => {
-            FirstFault::Of(Refusal::Unserved {
+            Some(Refusal::Unserved {
                 rom: rom_of(s, f),
                 addr: address_of(s, f),
             })

@@ -9,8 +9,8 @@ ghost use Rattle.unscramble.specs.Design.Reading.{Readable, read_map, pick_map, 
 use dump_lines::high_first;
 use entry_words::{Extent, Map, Reading};
 use forced_bits::{forced, forced_high};
-use picks::positions::position;
-use picks::{Picked, num_picks, picked_by};
+use picks::positions::{position, positions};
+use picks::{num_picks, picked_by};
 use rom_words::{rom_words, words_before};
 use slot::description::ChipSetType;
 use stored_slot::lines::pick_gpio;
@@ -19,25 +19,12 @@ use stored_slot::stored::StoredSlot;
 use stored_slot::window::{addr_base, data_base, word_bytes};
 use words::ByteOrder;
 
-// The positions of a list of GPIOs from a base.
-fn positions(gpios: [u8; 32], base: u8) -> [u8; 32]
-    ensures { result ≡ tab 32 (λ k. get_or gpios k 0 - base) }
-{
-    let mut out = [0u8; 32];
-    let mut k: usize = 0;
-    while k < 32 {
-        out[k] = position(base, gpios[k]);
-        k += 1;
-    }
-    out
-}
-
 // A ROM's map from a base.
 fn map_of(gpios: [u8; 32], base: u8) -> Map
     ensures { result ≡ read_map gpios base }
 {
     Map {
-        positions: positions(gpios, base),
+        positions: positions(base, gpios),
         lines: listed(gpios),
     }
 }
@@ -101,10 +88,8 @@ fn pick_positions(s: StoredSlot, set_type: ChipSetType) -> [u8; 32]
     ensures { result ≡ tab 32 (λ k. cond (ltb k 3) (stored_pick_position s set_type k) 0) }
 {
     let mut out = [0u8; 32];
-    let mut k: usize = 0;
-    while k < 32 {
+    for k in 0..32 {
         out[k] = pick_entry(s, set_type, k as u8);
-        k += 1;
     }
     out
 }
@@ -147,12 +132,12 @@ fn data_maps(order: ByteOrder, s: StoredSlot) -> [Map; 5]
 }
 
 // The place of a ROM; the fifth for none.
-fn place_of(picked: Picked) -> u8
+fn place_of(picked: Option<u8>) -> u8
     ensures { result ≡ rom_place picked }
 {
     match picked {
-        Picked::NoChip => 4,
-        Picked::Chip(k) => k,
+        None => 4,
+        Some(k) => k,
     }
 }
 
@@ -160,10 +145,8 @@ fn places(set_type: ChipSetType, roms: u8) -> [u8; 8]
     ensures { result ≡ tab 8 (λ bits. rom_place (picked_by set_type roms bits)) }
 {
     let mut out = [0u8; 8];
-    let mut bits: u8 = 0;
-    while bits < 8 {
+    for bits in 0u8..8 {
         out[bits as usize] = place_of(picked_by(set_type, roms, bits));
-        bits += 1;
     }
     out
 }

@@ -16,11 +16,9 @@ fn apart_from(pins: &[u8], first: u8, n: u8, j: u8) -> bool
 {
     let pin = pin_of(pins, first, j);
     let mut ok = true;
-    let mut k: u8 = 0;
-    while k < n {
+    for k in 0..n {
         let other = pin_of(pins, first, k);
         ok = ok & ((j == k) | (pin != other));
-        k += 1;
     }
     ok
 }
@@ -30,10 +28,8 @@ pub fn apart(pins: &[u8], first: u8, n: u8) -> bool
     ensures { result ≡ apart n (λ k. get_or pins.now (first + k) 0) }
 {
     let mut ok = true;
-    let mut j: u8 = 0;
-    while j < n {
+    for j in 0..n {
         ok = ok & apart_from(pins, first, n, j);
-        j += 1;
     }
     ok
 }
@@ -43,11 +39,9 @@ pub fn none_on(pins: &[u8], first: u8, n: u8, pin: u8) -> bool
     ensures { result ≡ none_on n (λ k. get_or pins.now (first + k) 0) pin }
 {
     let mut ok = true;
-    let mut k: u8 = 0;
-    while k < n {
+    for k in 0..n {
         let other = pin_of(pins, first, k);
         ok = ok & (other != pin);
-        k += 1;
     }
     ok
 }

@@ -48,11 +48,9 @@ fn alone_at(b: Board, n: u8, i: u16) -> bool
     let pin = board_pin(b, n, i);
     let count = n as u16 + 2;
     let mut ok = true;
-    let mut j: u16 = 0;
-    while j < count {
+    for j in 0..count {
         let other = board_pin(b, n, j);
         ok = ok & ((i == j) | disjoint(pin, other));
-        j += 1;
     }
     ok
 }
@@ -64,10 +62,8 @@ pub fn unshared(b: Board) -> bool
     let n = b.pins;
     let all = n as u16 + 2;
     let mut ok = true;
-    let mut i: u16 = 0;
-    while i < all {
+    for i in 0..all {
         ok = ok & alone_at(b, n, i);
-        i += 1;
     }
     ok
 }

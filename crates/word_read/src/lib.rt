@@ -14,6 +14,7 @@ use entry_words::{Map, Reading, byte_table};
 use index_order::order;
 use rom_entries::{bits_for, rom_of, suits};
 use rom_turns::{Rom, read_turns};
+use word_rows::StoredEntries;
 
 // Where the low bits of an order stand.
 fn lows_of(rom: Rom, order: Map) -> [u32; 256]
@@ -37,15 +38,13 @@ fn read_ordered(rom: Rom, order: Map, data_map: Map, stored: &[u8], output: &mut
     let low_bytes = byte_table(data_map, 0);
     let high_bytes = byte_table(data_map, 8);
     let positions = order.positions;
-    read_turns(
-        rom,
-        &positions,
-        &lows,
-        &low_bytes,
-        &high_bytes,
-        stored,
-        output,
-    )
+    let entries = StoredEntries {
+        stored: stored,
+        lows: &lows,
+        low_bytes: &low_bytes,
+        high_bytes: &high_bytes,
+    };
+    read_turns(rom, &positions, entries, output)
 }
 
 // Reads the words of a ROM, where they have entries of their own. Whether they have, and all these agree.
@@ -118,13 +117,11 @@ fn read_roms(r: Reading, pins: u8, stored: &[u8], output: &mut [u8]) -> bool
 {
     let extents = r.extents;
     let mut m: u32 = 0;
-    let mut k: u8 = 0;
-    while k < 5 {
+    for k in 0u8..5 {
         if !read_rom(r, k, m, pins, stored, output) {
             return false;
         }
         m += extents[k as usize].words;
-        k += 1;
     }
     m == r.words
 }

@@ -1,7 +1,7 @@
 -- One word more of a row, written or compared. Assumes nothing.
 use mathlib.Core.Path.{◌≡◌, sym, ◌∙◌}
 use mathlib.Core.Bool.{Bool, true, ◌&&◌}
-use mathlib.Core.Logic.{◌⊎◌, inl, inr}
+use mathlib.Core.Logic.{inl, inr}
 use mathlib.Core.List.{List, ◌++◌}
 use Prim.Native.Nat.{ℕ, ◌+◌, ◌*◌, ◌<◌}
 use native.Mathlib.Nat.{add-zero, le_of_suc-le-suc, eq-or-lt_of_le}
@@ -43,8 +43,3 @@ pub same_turn : (p f : ℕ → ℕ) (q x y : ℕ) (ok : Bool) → (ok ≡ true �
 same_turn p f q x y ok i a b t j l =
     let (first, last) = both ok (eqb x y) t in
     elim (eq-or-lt_of_le (le_of_suc-le-suc (rw add-one at l))) [ inl s ↦ rw (s, ← a, ← b) (eqb-true x y last) | inr s ↦ i first j s ]
-
--- a width that is not one is two
-pub two : (w : ℕ) → (w ≡ 1) ⊎ (w ≡ 2) → (w ≡ 1 → ⊥) → w ≡ 2
-two w (inl e) d = absurd (d e)
-two w (inr e) d = e

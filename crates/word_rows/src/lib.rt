@@ -1,11 +1,21 @@
 // Rows of words: the entries of a row differ in the low eight bits of their order alone, so that a table tells the indices apart. Words
-// of one byte and of two have loops of their own: a width that is known costs no loop.
+// of one byte and of two have a loop each, made of one function: a width that is known costs no loop.
 #![tactic(auto)]
 
 ghost use Rattle.std.specs.Prelude.{◌≡◌, true, ◌⊎◌, ◌<◌, ◌^◌, length};
 ghost use Rattle.word_rows.specs.Design.Wrote.{RowIn, SameRow, Wrote, row_says, said_by};
 
 use words::{put_word, word_at};
+
+// Stored entries, and the tables that read them: the index bits that the low eight bits of an order set, and what the low and the high
+// byte of an entry say.
+#[derive(Clone, Copy)]
+pub struct StoredEntries<'a> {
+    pub stored: &'a [u8],
+    pub lows: &'a [u32],
+    pub low_bytes: &'a [u32],
+    pub high_bytes: &'a [u32],
+}
 
 // What an entry says, by the tables of its bytes.
 pub fn said(low_bytes: &[u32], high_bytes: &[u32], entry: u32) -> u32
@@ -17,147 +27,93 @@ pub fn said(low_bytes: &[u32], high_bytes: &[u32], entry: u32) -> u32
     low_bytes[low] | high_bytes[high]
 }
 
-// Writes words of one byte.
-fn write_bytes(
-    lows: &[u32],
-    low_bytes: &[u32],
-    high_bytes: &[u32],
+// Writes the words of a row, of W bytes each.
+fn write_row_of<const W: usize>(
+    entries: StoredEntries,
     from: u32,
-    stored: &[u8],
     output: &mut [u8],
     at: usize,
     count: usize,
 )
-    requires { RowIn 1 lows.now low_bytes.now high_bytes.now from stored.now output.old at count }
-    ensures { Wrote 1 (row_says 1 lows.now low_bytes.now high_bytes.now stored.now from)
+    requires { ((W ≡ 1) ⊎ (W ≡ 2)) × RowIn W entries.lows.now entries.low_bytes.now entries.high_bytes.now from entries.stored.now output.old at count }
+    ensures { Wrote W (row_says W entries.entry.lows.now entries.entry.low_bytes.now entries.entry.high_bytes.now entries.entry.stored.now from)
         at count output.old output.new }
 {
-    let mut q: usize = 0;
-    while q < count {
+    let StoredEntries {
+        stored,
+        lows,
+        low_bytes,
+        high_bytes,
+    } = entries;
+    for q in 0..count {
         let i = (from | lows[q]) as usize;
-        let value = said(low_bytes, high_bytes, word_at(stored, i * 1, 1));
-        put_word(output, (at + q) * 1, 1, value);
-        q += 1;
-    }
-}
-
-// Writes words of two bytes.
-fn write_pairs(
-    lows: &[u32],
-    low_bytes: &[u32],
-    high_bytes: &[u32],
-    from: u32,
-    stored: &[u8],
-    output: &mut [u8],
-    at: usize,
-    count: usize,
-)
-    requires { RowIn 2 lows.now low_bytes.now high_bytes.now from stored.now output.old at count }
-    ensures { Wrote 2 (row_says 2 lows.now low_bytes.now high_bytes.now stored.now from)
-        at count output.old output.new }
-{
-    let mut q: usize = 0;
-    while q < count {
-        let i = (from | lows[q]) as usize;
-        let value = said(low_bytes, high_bytes, word_at(stored, i * 2, 2));
-        put_word(output, (at + q) * 2, 2, value);
-        q += 1;
+        let value = said(low_bytes, high_bytes, word_at(stored, i * W, W));
+        put_word(output, (at + q) * W, W, value);
     }
 }
 
 // Writes the words of a row as its entries say them.
 pub fn write_row(
-    lows: &[u32],
-    low_bytes: &[u32],
-    high_bytes: &[u32],
+    entries: StoredEntries,
     from: u32,
-    stored: &[u8],
     output: &mut [u8],
     at: usize,
     count: usize,
     w: usize,
 )
-    requires { ((w ≡ 1) ⊎ (w ≡ 2)) × RowIn w lows.now low_bytes.now high_bytes.now from stored.now output.old at count }
-    ensures { Wrote w (row_says w lows.now low_bytes.now high_bytes.now stored.now from)
+    requires { ((w ≡ 1) ⊎ (w ≡ 2)) × RowIn w entries.lows.now entries.low_bytes.now entries.high_bytes.now from entries.stored.now output.old at count }
+    ensures { Wrote w (row_says w entries.entry.lows.now entries.entry.low_bytes.now entries.entry.high_bytes.now entries.entry.stored.now from)
         at count output.old output.new }
 {
     if w == 1 {
-        write_bytes(lows, low_bytes, high_bytes, from, stored, output, at, count);
+        write_row_of::<1>(entries, from, output, at, count);
     } else {
-        write_pairs(lows, low_bytes, high_bytes, from, stored, output, at, count);
+        write_row_of::<2>(entries, from, output, at, count);
     }
 }
 
-// Whether words of one byte are the same.
-fn same_bytes(
-    lows: &[u32],
-    low_bytes: &[u32],
-    high_bytes: &[u32],
+// Whether the words of a row, of W bytes each, are what its entries say.
+fn same_row_of<const W: usize>(
+    entries: StoredEntries,
     from: u32,
-    stored: &[u8],
     output: &[u8],
     at: usize,
     count: usize,
 ) -> bool
-    requires { RowIn 1 lows.now low_bytes.now high_bytes.now from stored.now output.now at count }
-    ensures { result ≡ true → SameRow 1 lows.now low_bytes.now high_bytes.now from stored.now
+    requires { ((W ≡ 1) ⊎ (W ≡ 2)) × RowIn W entries.lows.now entries.low_bytes.now entries.high_bytes.now from entries.stored.now output.now at count }
+    ensures { result ≡ true → SameRow W entries.entry.lows.now entries.entry.low_bytes.now entries.entry.high_bytes.now from entries.entry.stored.now
         output.now at count }
 {
+    let StoredEntries {
+        stored,
+        lows,
+        low_bytes,
+        high_bytes,
+    } = entries;
     let mut ok = true;
-    let mut q: usize = 0;
-    while q < count {
+    for q in 0..count {
         let i = (from | lows[q]) as usize;
-        let value = said(low_bytes, high_bytes, word_at(stored, i * 1, 1));
-        ok = ok & (word_at(output, (at + q) * 1, 1) == value);
-        q += 1;
-    }
-    ok
-}
-
-// Whether words of two bytes are the same.
-fn same_pairs(
-    lows: &[u32],
-    low_bytes: &[u32],
-    high_bytes: &[u32],
-    from: u32,
-    stored: &[u8],
-    output: &[u8],
-    at: usize,
-    count: usize,
-) -> bool
-    requires { RowIn 2 lows.now low_bytes.now high_bytes.now from stored.now output.now at count }
-    ensures { result ≡ true → SameRow 2 lows.now low_bytes.now high_bytes.now from stored.now
-        output.now at count }
-{
-    let mut ok = true;
-    let mut q: usize = 0;
-    while q < count {
-        let i = (from | lows[q]) as usize;
-        let value = said(low_bytes, high_bytes, word_at(stored, i * 2, 2));
-        ok = ok & (word_at(output, (at + q) * 2, 2) == value);
-        q += 1;
+        let value = said(low_bytes, high_bytes, word_at(stored, i * W, W));
+        ok = ok & (word_at(output, (at + q) * W, W) == value);
     }
     ok
 }
 
 // Whether the words of a row are what its entries say.
 pub fn same_row(
-    lows: &[u32],
-    low_bytes: &[u32],
-    high_bytes: &[u32],
+    entries: StoredEntries,
     from: u32,
-    stored: &[u8],
     output: &[u8],
     at: usize,
     count: usize,
     w: usize,
 ) -> bool
-    requires { ((w ≡ 1) ⊎ (w ≡ 2)) × RowIn w lows.now low_bytes.now high_bytes.now from stored.now output.now at count }
-    ensures { result ≡ true → SameRow w lows.now low_bytes.now high_bytes.now from stored.now
+    requires { ((w ≡ 1) ⊎ (w ≡ 2)) × RowIn w entries.lows.now entries.low_bytes.now entries.high_bytes.now from entries.stored.now output.now at count }
+    ensures { result ≡ true → SameRow w entries.entry.lows.now entries.entry.low_bytes.now entries.entry.high_bytes.now from entries.entry.stored.now
         output.now at count }
 {
     if w == 1 {
-        return same_bytes(lows, low_bytes, high_bytes, from, stored, output, at, count);
+        return same_row_of::<1>(entries, from, output, at, count);
     }
-    same_pairs(lows, low_bytes, high_bytes, from, stored, output, at, count)
+    same_row_of::<2>(entries, from, output, at, count)
 }

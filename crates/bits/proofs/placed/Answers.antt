@@ -8,6 +8,3 @@ pub returns-then-p-m : goal.returns-then-p-m
 returns-then-p-m c =
     let a = c.args in
     rw (lt-ltb a.p a.m c.if-p-m.true, bit_shl a.b a.p (omega arith) (omega arith))
-
-pub returns : goal.returns
-returns c = rw (le-ltb _ _ c.if-p-m.false)

@@ -7,6 +7,3 @@ use Rattle.bits.proofs.scatter.Given as goal
 
 abbrev pub invariant-loop-k : goal.invariant-loop-k
 invariant-loop-k l = (l.k ≤ l.n) × (l.word ≡ scatter l.k (λ j. get_or l.positions j 0) l.m l.v)
-
-abbrev pub decreases-loop-k : goal.decreases-loop-k
-decreases-loop-k l = l.n - l.k

@@ -25,4 +25,4 @@ lent_fault-requires c =
 pub returns : goal.returns
 unfolding build_fault
 returns c =
-    rw (← c.too_large.ensures.value, c.if-too_large.false, c.or_else.ensures, c.lines_fault.ensures, c.lent_fault.ensures)
+    rw (← c.too_large.ensures.value, c.if-too_large.false, c.or.ensures, c.lines_fault.ensures, c.lent_fault.ensures)

@@ -4,8 +4,8 @@ use Rattle.build_faults.proofs.lent_fault.Goals as goal
 pub returns : goal.returns
 returns c =
     rw (
-      c.or_else.ensures,
+      c.or.ensures,
       c.images_fault.ensures,
-      c.fault_if-buffer.ensures,
+      c.then_some-buffer.ensures,
       c.table_size.ensures.value,
     )

@@ -2,4 +2,4 @@
 use Rattle.build_faults.proofs.lines_fault.Goals as goal
 
 pub returns : goal.returns
-returns c = rw (c.or_else-2.ensures, c.or_else.ensures, c.fault_if-other.ensures, c.lines_in.ensures, c.picks_in.ensures, c.fault_if-chips.ensures, c.chips_fit.ensures, c.fault_if-address.ensures, c.address_in.ensures)
+returns c = rw (c.or-2.ensures, c.or.ensures, c.then_some-other.ensures, c.lines_in.ensures, c.picks_in.ensures, c.then_some-chips.ensures, c.chips_fit.ensures, c.then_some-address.ensures, c.address_in.ensures)

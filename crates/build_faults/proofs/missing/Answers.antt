@@ -12,7 +12,7 @@ loop-k-init c = (omega arith, first-none _)
 pub loop-k-preserved : goal.loop-k-preserved
 loop-k-preserved c =
     let v = c.loop-k in
-    (omega arith, first-turn _ v.k _ _ _ v.invariant.1 (rw c.span_at-span.ensures at c.fault_if.ensures) c.or_else-fault.ensures)
+    (omega arith, first-turn _ v.k _ _ _ v.invariant.1 (rw c.span_at-span.ensures at c.then_some.ensures) c.or-fault.ensures)
 
 pub returns : goal.returns
 returns c = at-count_of first_of _ _ _ _ (omega arith) c.loop-k.invariant.1

@@ -7,6 +7,3 @@ use Rattle.build_faults.proofs.missing.Given as goal
 
 abbrev pub invariant-loop-k : goal.invariant-loop-k
 invariant-loop-k l = (l.k ≤ l.chips) × (l.fault ≡ first_of l.k (missing_at l.spans))
-
-abbrev pub decreases-loop-k : goal.decreases-loop-k
-decreases-loop-k l = l.chips - l.k

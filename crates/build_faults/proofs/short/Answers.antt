@@ -14,7 +14,7 @@ loop-k-preserved c =
     let v = c.loop-k in (
       omega arith,
       first-turn _ v.k _ _ _ v.invariant.1
-          (rw (c.bytes_lent-lent.ensures, c.span_at.ensures, c.chip_size-size.ensures) at c.fault_if.ensures) c.or_else-fault.ensures,
+          (rw (c.bytes_lent-lent.ensures, c.span_at.ensures, c.chip_size-size.ensures) at c.then_some.ensures) c.or-fault.ensures,
     )
 
 pub returns : goal.returns

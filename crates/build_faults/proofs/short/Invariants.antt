@@ -7,6 +7,3 @@ use Rattle.build_faults.proofs.short.Given as goal
 
 abbrev pub invariant-loop-k : goal.invariant-loop-k
 invariant-loop-k l = (l.k ≤ l.n) × (l.fault ≡ first_of l.k (short_at l.d l.images l.spans))
-
-abbrev pub decreases-loop-k : goal.decreases-loop-k
-decreases-loop-k l = l.n - l.k

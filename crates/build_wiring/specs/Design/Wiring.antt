@@ -1,6 +1,6 @@
 -- How the build goes about it: the lines' positions and where the chips' words stand, found once. No answer is defined by it: `entry_at`
 -- says what an entry holds. Assumes nothing.
-use Rattle.std.specs.Prelude.{List}
+use Rattle.std.specs.Prelude.{List, Option, Some, None, ℕ}
 use Rattle.lists.specs.Tab.{tab}
 use Rattle.slot.specs.declared.description.Description.{Description}
 use Rattle.addr_layout.specs.declared.layout.AddrLayout.{AddrLayout}
@@ -9,8 +9,6 @@ use Rattle.build_args.specs.Images.{chip_span}
 use Rattle.build_args.specs.Positions.{line_position, data_position}
 use Rattle.build_args.specs.Picks.{num_picks, pick_position, picked}
 use Rattle.build_args.specs.declared.images.ImageSpan.{ImageSpan}
-use Rattle.picks.specs.declared.Picked.{Picked}
-use Rattle.picks.specs.declared.Picked.TheVariants.{NoChip, Chip}
 use Rattle.build_wiring.specs.Counts.{word_count, power_of_two}
 use Rattle.table_fill.specs.Design.Entries.{no_source}
 use Rattle.table_fill.specs.declared.wiring.Wiring.{Wiring}
@@ -29,9 +27,9 @@ wiring_of d a c = record {
 }
 
 -- where the words stand of the chip that is picked
-abbrev pub source_of : Description → List ImageSpan → Picked → Source
-source_of d spans NoChip = no_source
-source_of d spans (Chip k) = record {
+abbrev pub source_of : Description → List ImageSpan → Option ℕ → Source
+source_of d spans None = no_source
+source_of d spans (Some k) = record {
   start = (chip_span spans k).start;
   count = word_count d k;
   mirrored = power_of_two (word_count d k);

@@ -1,7 +1,7 @@
 -- `double` meets its contract. The loop's invariant: the first entries are as they were, and those passed stand again. Assumes nothing.
 use mathlib.Core.Path.{◌≡◌}
 use mathlib.Core.List.{List}
-use Prim.Native.Nat.{ℕ, ◌+◌, ◌-◌, ◌≤◌, ◌<◌}
+use Prim.Native.Nat.{ℕ, ◌+◌, ◌≤◌, ◌<◌}
 use lib.Bits.{bit_or}
 use lib.ListN.{length, get_or}
 use Rattle.byte_tables.proofs.double.Given as goal
@@ -14,6 +14,3 @@ pub record Again (size one : ℕ) (old out : List ℕ) (q : ℕ) : Type 0 where
 
 abbrev pub invariant-loop-q : goal.invariant-loop-q
 invariant-loop-q l = Again l.size l.one l.initial.out l.out l.q
-
-abbrev pub decreases-loop-q : goal.decreases-loop-q
-decreases-loop-q l = l.size - l.q

@@ -1,22 +1,7 @@
--- `scatter_table` meets its contract. The loop's invariant: the entries below 2 ^ k are in place. Assumes nothing.
-use mathlib.Core.Path.{refl, ap, ◌∙◌}
-use Prim.Native.Nat.{◌+◌}
-use native.Mathlib.Omega.{arith}
-use lib.Pow.{pow-add}
-use Rattle.bits.specs.Bits.{scatter}
-use Rattle.byte_tables.proofs.Tables.{half-none, half-turn, half-done, one_up, room-again, scatter-joins, scatter-first}
+-- `scatter_table` meets its contract. Assumes nothing.
+use Rattle.std.proofs.Common.{rules}
+use Rattle.byte_tables.proofs.Tables.{scatter-joined}
 use Rattle.byte_tables.proofs.scatter_table.Goals as goal
 
-pub loop-k-init : goal.loop-k-init
-loop-k-init c = half-none _ _ refl refl (scatter-first _ _ _ _)
-
-pub double-requires : goal.double-requires
-double-requires c = room-again c.loop-k.k _ c.loop-k-test.true c.loop-k.invariant.long
-
 pub returns : goal.returns
-returns c = half-done _ _ _ c.loop-k.invariant c.loop-k-test.false
-
-pub loop-k-preserved : goal.loop-k-preserved
-loop-k-preserved c =
-    let l = c.loop-k in
-    half-turn _ (scatter-joins _ _ _ _) _ _ l.k _ _ l.invariant (omega arith) c.double.auto.out (one_up l.k 64 (omega arith)) (c.scatter.ensures.value ∙ ap (scatter _ _ _) (one_up (l.k + c.args.up) 32 (omega arith) ∙ pow-add 2 l.k _)) c.double.ensures
+returns c = c.table_of.ensures _ (scatter-joined _ _ _ _) (λ k r l e. search rules)

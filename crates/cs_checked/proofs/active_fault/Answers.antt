@@ -1,4 +1,6 @@
 -- `active_fault` meets its contract. Assumes nothing.
+use Rattle.std.specs.Prelude.{Option, Some, None}
+use Rattle.refusal.specs.declared.Refusal.{Refusal}
 use mathlib.Core.Path.{◌≡◌, sym, ◌∙◌, ap}
 use mathlib.Core.Bool.{false}
 use mathlib.Core.List.{List, [], ◌∷◌, ◌++◌, append-nil}
@@ -14,8 +16,6 @@ use Rattle.slot.specs.declared.description.Chip.{Chip}
 use Rattle.slot.specs.declared.description.Description.{Description}
 use Rattle.refusal.specs.First.{or_else, fault_if}
 use Rattle.refusal.specs.declared.Refusal.TheVariants.{NoSelectLine}
-use Rattle.refusal.specs.declared.first.FirstFault.{FirstFault}
-use Rattle.refusal.specs.declared.first.FirstFault.TheVariants.{None, Of}
 use Rattle.refusal.proofs.Firsts.{or_assoc, or_end}
 use Rattle.listing.specs.Listing.{fault_from, first_fault}
 use Rattle.listing.specs.Design.Packed.{list_of}
@@ -28,10 +28,10 @@ use borrow.Author.Rules.{rules}
 use Rattle.cs_checked.proofs.active_fault.Goals as goal
 
 -- where no line is active, the lack of one is the last fault
-lacking : (f : FirstFault) (actives : List Listed) (n m : ℕ) → n ≡ m + length actives
+lacking : (f : Option Refusal) (actives : List Listed) (n m : ℕ) → n ≡ m + length actives
     → or_else (or_else f (first_fault actives)) (fault_if (leb n m) NoSelectLine) ≡ or_else f (first_fault (or_no_active actives))
 unfolding or_no_active fault_from
-lacking f [] n m e = rw (le-leb n m (omega arith)) (or_assoc f None (Of NoSelectLine))
+lacking f [] n m e = rw (le-leb n m (omega arith)) (or_assoc f None (Some NoSelectLine))
 lacking f (l ∷ ls) n m e = rw (lt-leb n m (omega arith)) (sym (or_end (or_else f (first_fault (l ∷ ls)))))
 
 module _ (d : Description) (e : is_multi d.set_type ≡ false) where
@@ -59,5 +59,5 @@ returns c =
     let long : length a.l.pins ≡ 30 = search (mapped_length, rules) in
     let few : a.l.count ≤ 30 = c.requires.0 in
     let n : a.l.count ≡ length (list_of a.l) = simp (length-take, length-map) (omega arith) in
-    rw (c.or_else.ensures, c.fault_if.ensures, c.first_fault.ensures)
+    rw (c.or.ensures, c.then_some.ensures, c.first_fault.ensures)
     (faults a.d c.requires.2 (list_of a.l) _ _ c.requires.1 n (ap (λ (x : Chip). x.num_data_pins) c.chip0-chip.ensures))

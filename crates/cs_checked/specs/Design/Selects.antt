@@ -1,10 +1,10 @@
 -- What the pins that are checked keep to, and their first fault, as `earlier` has it. No answer is defined by it: `checked` lists the
 -- select pins. Assumes nothing.
-use Rattle.std.specs.Prelude.{◌≤◌, ◌≡◌, true}
+use Rattle.refusal.specs.declared.Refusal.{Refusal}
+use Rattle.std.specs.Prelude.{◌≤◌, ◌≡◌, true, Option}
 use Rattle.slot.specs.Description.{is_multi, chip0}
 use Rattle.slot.specs.declared.description.Description.{Description}
 use Rattle.refusal.specs.First.{or_else}
-use Rattle.refusal.specs.declared.first.FirstFault.{FirstFault}
 use Rattle.listing.specs.Listing.{first_fault}
 use Rattle.listing.specs.Design.Packed.{list_of}
 use Rattle.listing.specs.declared.Listing.{Listing}
@@ -24,5 +24,5 @@ pub record CheckedIn (d : Description) (l : Listing) : Type 0 where
   pub pins : list_of l ≡ numbered d
 
 -- the first fault of the data pins, else of the select pins
-abbrev pub pins_fault : Description → FirstFault
+abbrev pub pins_fault : Description → Option Refusal
 pins_fault d = or_else (first_fault (data_listed d)) (first_fault (checked d))

@@ -22,10 +22,6 @@ set_part_at ls from low split c (suc k) =
     cond (leb from k && in_part low split (bit_of ls k)) (with (set_part_at ls from low split c k) (gpio_at ls c k))
     (set_part_at ls from low split c k)
 
--- past a table's end
-abbrev pub no_sets : Sets
-no_sets = record { data_gpios = 0; select_gpios = 0 }
-
 -- the same of data and select pins, the first n being the data pins
 abbrev pub parts_of : List Listed → ℕ → Bool → ℕ → ℕ → Sets
 parts_of ls n low split c = record { data_gpios = set_part_at ls 0 low split c n; select_gpios = set_part_at ls n low split c (length ls) }
@@ -50,3 +46,8 @@ pub record PinsIn (l : Listing) (n : ℕ) : Type 0 where
 pub record BitsIn (l : Listing) (n bits most : ℕ) : Type 0 where
   pub pins : PinsIn l n
   pub few_bits : bits ≤ most
+
+-- such pins in a list that has them all
+pub record SearchIn (l : Listing) (f : Fixed) : Type 0 where
+  pub pins : PinsIn l f.num_data
+  pub lines : f.num_data ≤ length (list_of l)

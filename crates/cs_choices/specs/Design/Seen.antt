@@ -1,11 +1,10 @@
 -- What is kept of the verdicts on the way to why nothing fits. No answer is defined by it: `nothing_fits` is the answer. Assumes
 -- nothing.
-use Rattle.std.specs.Prelude.{ℕ, zero, suc, cond, eqb}
+use Rattle.refusal.specs.declared.Refusal.{Refusal}
+use Rattle.std.specs.Prelude.{ℕ, zero, suc, cond, eqb, Option, Some, None}
 use Rattle.std.specs.Int.Bits.{bit_and}
 use Rattle.gpio.specs.Set.{gap}
 use Rattle.refusal.specs.declared.Refusal.TheVariants.{NonContiguousSelect}
-use Rattle.refusal.specs.declared.first.FirstFault.{FirstFault}
-use Rattle.refusal.specs.declared.first.FirstFault.TheVariants.{None, Of}
 use Rattle.cs_choices.specs.declared.nothing.Seen.{Seen}
 use Rattle.cs_verdict.specs.declared.Verdict.{Verdict}
 use Rattle.cs_verdict.specs.declared.Verdict.TheVariants.{DataGap, SelectGap, OutsideWindow, Fits}
@@ -28,8 +27,8 @@ refused_set OutsideWindow = 0
 refused_set (Fits score) = 0
 
 -- 7 with a refused set, if there is one
-abbrev pub refused_in : ℕ → FirstFault
-refused_in s = cond (eqb s 0) None (Of (NonContiguousSelect (record { bits = s })))
+abbrev pub refused_in : ℕ → Option Refusal
+refused_in s = cond (eqb s 0) None (Some (NonContiguousSelect (record { bits = s })))
 
 -- before the first choice
 abbrev pub none_seen : Seen

@@ -1,9 +1,13 @@
 -- `search` meets its contract. Assumes nothing.
+use Rattle.std.specs.Prelude.{Option, Some, None, Result, Ok, Err}
+use Rattle.std.specs.Option.{unwrap_or}
 use mathlib.Core.Path.{◌≡◌, ◌∙◌, ap}
 use mathlib.Core.Bool.{true}
 use Prim.Native.Nat.{ℕ, ◌≤◌}
 use native.Mathlib.Omega.{arith}
 use lib.ListN.{length}
+use Rattle.refusal.specs.declared.Refusal.{Refusal}
+use Rattle.refusal.specs.declared.Refusal.TheVariants.{NoValidLayout}
 use Rattle.slot.specs.declared.description.Chip.{Chip}
 use Rattle.slot.specs.declared.description.Description.{Description}
 use Rattle.domain.proofs.Bounds.{chip0_in}
@@ -11,7 +15,6 @@ use Rattle.listing.specs.Listing.{twos}
 use Rattle.listing.specs.Design.Packed.{list_of}
 use Rattle.listing.specs.declared.Listing.{Listing}
 use Rattle.search.specs.declared.Found.{Found}
-use Rattle.search.specs.declared.Found.TheVariants.{Nothing, At}
 use Rattle.addr_layout.specs.declared.layout.AddrLayout.{AddrLayout}
 use Rattle.cs_pins.specs.Pins.{numbered, cs_search_in}
 use Rattle.cs_pins.specs.declared.Numbering.{Numbering}
@@ -20,9 +23,8 @@ use Rattle.cs_pins.proofs.InDomain.{numbered_in}
 use Rattle.cs_choices.specs.Design.Parts.{PinsIn}
 use Rattle.cs_choices.specs.declared.choices.Fixed.{Fixed}
 use Rattle.cs_data_layout.specs.Choices.{num_data, fixed_of, cs_data_layout_of}
-use Rattle.cs_data_layout.specs.Search.{cs_best, none_fits, cs_data_answer_of}
-use Rattle.cs_data_layout.specs.declared.layout.CsDataOutcome.TheVariants.{LaidOut}
-use Rattle.cs_data_layout.specs.declared.layout.CsDataAnswer.{CsDataAnswer}
+use Rattle.cs_data_layout.specs.Search.{cs_best, or_no_layout, none_fits, cs_data_answer_of}
+use Rattle.cs_data_layout.specs.declared.layout.CsDataLayout.{CsDataLayout}
 use Rattle.cs_data_layout.proofs.Bounds.{described, few-twos, few-lines}
 use Rattle.cs_data_layout.proofs.Searched.{data-numbered, best_is, none_is, fixed_is}
 use Rattle.cs_data_layout.proofs.search.Goals as goal
@@ -37,12 +39,17 @@ listed d l n e p i =
 few : (d : Description) (l : Listing) (bits : ℕ) → cs_search_in d ≡ true → list_of l ≡ numbered d → bits ≡ twos (list_of l) → bits ≤ 16
 few d l bits e h i = let m : bits ≡ twos (numbered d) = i ∙ ap twos h in omega (arith, few-twos d e, m)
 
-nothing : (d : Description) (h : AddrLayout) (g : Found) (r : CsDataAnswer) → g ≡ cs_best d h → g ≡ Nothing → r ≡ none_fits d h → r ≡ cs_data_answer_of d h (cs_best d h)
+nothing : (d : Description) (h : AddrLayout) (g : Option Found) (r : Result CsDataLayout Refusal) → g ≡ cs_best d h → g ≡ None → r ≡ none_fits d h → r ≡ cs_data_answer_of d h (cs_best d h)
 nothing d h g r e i j = rw (← e, i) j
 
-found : (d : Description) (h : AddrLayout) (l : Listing) (g : Found) (c s : ℕ) (r : CsDataAnswer) → g ≡ cs_best d h → g ≡ At c s → list_of l ≡ numbered d
-    → r ≡ record { outcome = LaidOut; layout = cs_data_layout_of d h (list_of l) c } → r ≡ cs_data_answer_of d h (cs_best d h)
-found d h l g c s r e i j k = rw (← e, i, ← j) k
+found : (d : Description) (h : AddrLayout) (l : Listing) (g : Option Found) (f : Found) (r : Result CsDataLayout Refusal) → g ≡ cs_best d h → g ≡ Some f → list_of l ≡ numbered d
+    → r ≡ Ok (cs_data_layout_of d h (list_of l) f.choice) → r ≡ cs_data_answer_of d h (cs_best d h)
+found d h l g f r e i j k = rw (← e, i, ← j) k
+
+-- 9 where there is no other reason
+refused_by : (why : Option Refusal) (r : Refusal) → r ≡ unwrap_or why NoValidLayout → ◌≡◌ {A = Result CsDataLayout Refusal} (Err r) (or_no_layout why)
+refused_by None r e = ap Err e
+refused_by (Some w) r e = ap Err e
 
 pub best-requires : goal.best-requires
 best-requires c =
@@ -54,8 +61,8 @@ best-requires c =
 pub ignored_set-requires : goal.ignored_set-requires
 ignored_set-requires c = described c.args.d c.requires.description
 
-pub why-requires : goal.why-requires
-why-requires c =
+pub why-why-requires : goal.why-why-requires
+why-why-requires c =
     let a = c.args in
     let p = c.requires in
     let number : c.chip0-chip.result.num_data_pins ≡ num_data a.d = ap (λ (x : Chip). x.num_data_pins) c.chip0-chip.ensures in
@@ -79,8 +86,8 @@ laid_out-requires c =
       excess = c.excess_set.ensures;
     }
 
-pub returns-in-Nothing : goal.returns-in-Nothing
-returns-in-Nothing c =
+pub returns-in-None : goal.returns-in-None
+returns-in-None c =
     let a = c.args in
     let p = c.requires in
     let number : c.chip0-chip.result.num_data_pins ≡ num_data a.d = ap (λ (x : Chip). x.num_data_pins) c.chip0-chip.ensures in
@@ -88,15 +95,15 @@ returns-in-Nothing c =
     let fixed : ◌≡◌ {A = Fixed} (record { multi = c.is_multi.result; num_data = c.chip0-chip.result.num_data_pins; excess = c.excess_set.result; qualifiers = c.qualifier_set.result }) (fixed_of a.d a.h) =
     fixed_is a.d a.h _ _ _ _ c.is_multi.ensures number c.excess_set.ensures c.qualifier_set.ensures in
     let best : c.best.result ≡ cs_best a.d a.h = best_is a.d a.h (list_of a.pins.list) _ _ (p.pins.list p.description) fixed p.pins.bits _ c.best.ensures in
-    nothing a.d a.h c.best.result _ best c.in-Nothing.is
-    (none_is a.d a.h (list_of a.pins.list) _ _ (p.pins.list p.description) fixed p.pins.bits _ _ _ c.ignored_set.ensures c.why.ensures c.none_fits.ensures)
+    nothing a.d a.h c.best.result _ best c.in-None.is
+    (none_is a.d a.h (list_of a.pins.list) _ _ (p.pins.list p.description) fixed p.pins.bits _ _ _ c.ignored_set.ensures c.why-why.ensures (refused_by _ _ c.unwrap_or.ensures))
 
-pub returns-in-At : goal.returns-in-At
-returns-in-At c =
+pub returns-in-Some : goal.returns-in-Some
+returns-in-Some c =
     let a = c.args in
     let p = c.requires in
     let number : c.chip0-chip.result.num_data_pins ≡ num_data a.d = ap (λ (x : Chip). x.num_data_pins) c.chip0-chip.ensures in
     let fixed : ◌≡◌ {A = Fixed} (record { multi = c.is_multi.result; num_data = c.chip0-chip.result.num_data_pins; excess = c.excess_set.result; qualifiers = c.qualifier_set.result }) (fixed_of a.d a.h) =
     fixed_is a.d a.h _ _ _ _ c.is_multi.ensures number c.excess_set.ensures c.qualifier_set.ensures in
     let best : c.best.result ≡ cs_best a.d a.h = best_is a.d a.h (list_of a.pins.list) _ _ (p.pins.list p.description) fixed p.pins.bits _ c.best.ensures in
-    found a.d a.h a.pins.list _ _ _ _ best c.in-At.is (p.pins.list p.description) c.laid_out.ensures
+    found a.d a.h a.pins.list _ _ _ best c.in-Some.is (p.pins.list p.description) (ap Ok c.laid_out.ensures)

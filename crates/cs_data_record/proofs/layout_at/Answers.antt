@@ -4,4 +4,4 @@ use Rattle.cs_data_record.proofs.layout_at.Goals as goal
 
 pub returns : goal.returns
 unfolding cs_data_at
-returns c = rw (c.qualifiers.ensures, c.entry-8.ensures, c.commoned_lines.ensures, c.entry-7.ensures, c.select_lines.ensures, c.ignore_of.ensures, c.entry-6.ensures, c.entry-5.ensures, c.entry-4.ensures, c.sixteen_at.ensures, c.entry-3.ensures, c.entry-2.ensures, c.entry.ensures)
+returns c = rw (c.qualifiers.ensures, c.entry-8.ensures, c.lines_from-2.ensures, c.entry-7.ensures, c.lines_from.ensures, c.ignore_of.ensures, c.entry-6.ensures, c.entry-5.ensures, c.entry-4.ensures, c.bytes_at.ensures, c.entry-3.ensures, c.entry-2.ensures, c.entry.ensures)

@@ -37,7 +37,7 @@ returns c =
     let old = c.args.out.now in
     let three = three_parts (cs_data_head l) l.data_pin_gpios (pairs_of 60 l.select_lines) old _ _ _ _ 12 16 60 refl (let h : length c.args.l.data_pin_gpios ≡ 16 = search rules in h) (tab-length _ 60) (omega arith)
     c.head-head.ensures c.copy.ensures.buffer_after c.copy-2.ensures.buffer_after
-    (rw c.select_bytes-selects.ensures at c.copy-3.ensures.buffer_after) in
+    (rw c.pair_bytes-selects.ensures at c.copy-3.ensures.buffer_after) in
     stored l old _ (let h : length c.args.l.data_pin_gpios ≡ 16 = search rules in h)
     (next_part (headed l) (pairs_of 12 l.commoned_lines) old _ _ 88 12 (headed_long l (let h : length c.args.l.data_pin_gpios ≡ 16 = search rules in h)) (tab-length _ 12) c.requires three
-    (rw c.commoned_bytes-commoned.ensures at c.copy-4.ensures.buffer_after))
+    (rw c.pair_bytes-commoned.ensures at c.copy-4.ensures.buffer_after))

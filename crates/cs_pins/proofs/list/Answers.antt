@@ -22,10 +22,6 @@ without : (d : Description) (ls ms : List Listed) → is_multi d.set_type ≡ fa
 unfolding numbered commoned_listed
 without d ls ms m e f = rw (m, f, e, append-nil)
 
-pub push_commoned-requires : goal.push_commoned-requires
-push_commoned-requires c =
-    (c.list_selects-selects.ensures.1, c.requires.commoned-lines (sym c.is_multi-has_commoned.ensures ∙ c.if-has_commoned.true))
-
 pub returns-then-has_commoned : goal.returns-then-has_commoned
 returns-then-has_commoned c =
     let d = c.args.d in (

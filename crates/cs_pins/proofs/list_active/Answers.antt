@@ -6,7 +6,7 @@ use native.Mathlib.Numerals.{add-one}
 use native.Mathlib.Omega.{arith}
 use lib.ListN.{length-set}
 use Rattle.lists.proofs.Lists.{mapped_length}
-use Rattle.slot.specs.Description.{chip0, line_at}
+use Rattle.slot.specs.Description.{line_at}
 use Rattle.slot.specs.declared.description.Chip.{Chip}
 use Rattle.slot.specs.declared.description.ControlLine.{ControlLine}
 use Rattle.slot.specs.declared.description.ControlLines.{ControlLines}
@@ -26,9 +26,6 @@ turn : (d : Description) (k : ℕ) (before ls ms : List Listed) → ls ≡ befor
     → ms ≡ before ++ active_listed d (k + 1)
 unfolding active_listed
 turn d k before ls ms e h = rw (add-one, h, e, append_assoc)
-
-done : (d : Description) (k n : ℕ) (before ls : List Listed) → k ≡ n → ls ≡ before ++ active_listed d k → ls ≡ before ++ active_listed d n
-done d k n before ls e h = rw e at h
 
 pub loop-k-init : goal.loop-k-init
 loop-k-init c =
@@ -52,11 +49,3 @@ loop-k-preserved c =
       simp length-set v.invariant.6,
       turn d _ (list_of before) _ _ v.invariant.7 (stored_if (active d v.k) v.n _ _ _ v.pins (omega arith) (c.one_if.ensures.value ∙ rw c.line_active.ensures) pin),
     )
-
-pub returns : goal.returns
-returns c =
-    let v = c.loop-k in
-    let d = c.args.d in
-    let before = c.args.before in
-    let e : v.k ≡ (chip0 d).control.count = omega (arith, v.invariant.2) in
-    (done d _ _ (list_of before) _ e v.invariant.7, omega arith)

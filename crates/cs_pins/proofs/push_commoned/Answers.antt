@@ -1,10 +1,9 @@
 -- `push_commoned` meets its contract. The loop's invariant: the commoned lines passed are listed. Assumes nothing.
-use mathlib.Core.Path.{◌≡◌, refl, ◌∙◌, ap}
-use Prim.Native.Nat.{ℕ, ◌+◌}
+use mathlib.Core.Path.{refl, ◌∙◌}
 use native.Mathlib.Nat.{add-zero}
 use native.Mathlib.Omega.{arith}
 use Rattle.lists.proofs.Lists.{mapped_length}
-use Rattle.listing.proofs.Pushed.{behind-none, behind-turn, behind_to}
+use Rattle.listing.proofs.Pushed.{behind-none, behind-turn}
 use borrow.Author.Rules.{rules}
 use Rattle.cs_pins.proofs.push_commoned.Goals as goal
 
@@ -15,10 +14,3 @@ pub loop-k-preserved : goal.loop-k-preserved
 loop-k-preserved c =
     let v = c.loop-k in
     (omega arith, v.invariant.1, v.invariant.2, behind-turn _ v.invariant.3 (omega arith) (omega arith) (c.kind_listed.ensures ∙ rw c.commoned_kind.ensures))
-
-pub returns : goal.returns
-returns c =
-    let v = c.loop-k in
-    let a = c.args in
-    let e : v.k ≡ a.d.multi.num_commoned = omega arith in
-    (behind_to v.invariant.3 (ap (λ (x : ℕ). a.selects.count + x) e) e, omega arith)

@@ -4,7 +4,6 @@ use mathlib.Core.List.{List, [], ◌++◌}
 use Prim.Native.Nat.{ℕ, ◌+◌}
 use native.Mathlib.Numerals.{add-one}
 use native.Mathlib.Omega.{arith}
-use Rattle.slot.specs.Description.{chip0}
 use Rattle.slot.specs.declared.description.Chip.{Chip}
 use Rattle.slot.specs.declared.description.Description.{Description}
 use Rattle.cs_roles.specs.Roles.{if_active_kind, active_kinds}
@@ -18,9 +17,6 @@ turn : (d : Description) (k : ℕ) (ks ms : List ℕ) → ks ≡ active_kinds d 
 unfolding active_kinds
 turn d k ks ms e h = rw (add-one, h, e)
 
-done : (d : Description) (k n : ℕ) (ks : List ℕ) → k ≡ n → ks ≡ active_kinds d k → ks ≡ active_kinds d n
-done d k n ks e h = rw e at h
-
 pub loop-k-init : goal.loop-k-init
 loop-k-init c =
     let e = ap (λ (x : Chip). x.control.count) c.chip0-chip.ensures in
@@ -30,10 +26,3 @@ pub loop-k-preserved : goal.loop-k-preserved
 loop-k-preserved c =
     let v = c.loop-k in
     (omega arith, v.invariant.1, v.invariant.2, omega (arith, c.push_kind-r.ensures.1), turn _ _ _ _ v.invariant.4 c.push_kind-r.ensures.0)
-
-pub returns : goal.returns
-returns c =
-    let v = c.loop-k in
-    let d = c.args.d in
-    let e : v.k ≡ (chip0 d).control.count = omega (arith, v.invariant.2) in
-    (done d _ _ _ e v.invariant.4, omega arith)

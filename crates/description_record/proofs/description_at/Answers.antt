@@ -2,19 +2,16 @@
 use mathlib.Core.Path.{◌≡◌}
 use mathlib.Core.Bool.{true}
 use mathlib.Core.List.{List}
-use Prim.Native.Nat.{ℕ, ◌≤◌}
-use native.Mathlib.Omega.{arith}
+use Prim.Native.Nat.{ℕ}
 use lib.ListN.{length}
 use borrow.Author.Tests.{eqb-true}
 use Rattle.lists.proofs.Bools.{and_left}
 use Rattle.description_record.specs.Record.{record_size, well_formed}
 use Rattle.description_record.proofs.description_at.Goals as goal
 
-long : (b : List ℕ) → well_formed b ≡ true → record_size ≤ length b
+long : (b : List ℕ) → well_formed b ≡ true → length b ≡ record_size
 unfolding well_formed
-long b e =
-    let h : length b ≡ record_size = eqb-true (length b) record_size (and_left _ _ (and_left _ _ (and_left _ _ (and_left _ _ e)))) in
-    omega (arith, h)
+long b e = eqb-true (length b) record_size (and_left _ _ (and_left _ _ (and_left _ _ (and_left _ _ e))))
 
-pub description-requires : goal.description-requires
-description-requires c = long _ c.requires
+pub unwrap-requires : goal.unwrap-requires
+unwrap-requires c = c.try_from.ensures.0 (long _ c.requires)

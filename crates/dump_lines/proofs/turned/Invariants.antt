@@ -1,5 +1,4 @@
 -- `turned` meets its contract. The loop's invariant: the lines passed are in place. Assumes nothing.
-use Prim.Native.Nat.{◌-◌}
 use lib.ListN.{get_or}
 use Rattle.lists.proofs.Tab.{Filled}
 use Rattle.dump_lines.specs.Design.Lines.{other_byte}
@@ -7,6 +6,3 @@ use Rattle.dump_lines.proofs.turned.Given as goal
 
 abbrev pub invariant-loop-k : goal.invariant-loop-k
 invariant-loop-k l = Filled 32 (λ j. get_or l.positions (other_byte j) 0) l.out l.k
-
-abbrev pub decreases-loop-k : goal.decreases-loop-k
-decreases-loop-k l = 32 - l.k

@@ -2,7 +2,6 @@
 use mathlib.Core.Path.{◌≡◌, refl, ◌∙◌}
 use mathlib.Core.List.{List}
 use Prim.Native.Nat.{ℕ, ◌+◌, ◌^◌, ◌<◌}
-use native.Mathlib.Nat.{add-zero}
 use native.Mathlib.Omega.{arith}
 use Rattle.words.specs.Words.{word}
 use Rattle.words.proofs.Words.{word-short}
@@ -12,7 +11,7 @@ use Rattle.entry_words.proofs.Bounds.{value_few}
 use Rattle.entry_rows.specs.Design.Held.{Held, OnwardRow}
 use Rattle.entry_rows.specs.declared.Row.{Row}
 use Rattle.entry_rows.proofs.Lookups.{Looked, rom_found, value_found, low-few, lows_long, low_bytes_long, high_bytes_long, bits_in, rom_in, address_in, word_looked, value_looked, value_in}
-use Rattle.entry_rows.proofs.Held.{Entry, held_skip, held_keep, held_bad, held-done, held_same}
+use Rattle.entry_rows.proofs.Held.{Entry, held_skip, held_keep, held_bad, held_same}
 use Rattle.entry_rows.proofs.read_row.Goals.{then-f-r+else-not-keep, else-f-r}
 use Rattle.entry_rows.proofs.read_row.Goals as goal
 
@@ -35,9 +34,6 @@ module _ {r : Reading} {row : Row} {lows low-bytes high-bytes stored output mark
     says = says ∙ value_looked looked _ _ there short;
     below = below;
   }
-
-pub loop-low-init : goal.loop-low-init
-loop-low-init c = (omega arith, rw add-zero c.requires.onward.held)
 
 pub bounds-lows-low : goal.bounds-lows-low
 bounds-lows-low c = let l = looked c.requires c.loop-low-test.true in omega (arith, low-few l, lows_long l)
@@ -83,6 +79,3 @@ loop-low-preserved c =
         | else-f-r w ↦ held_same (held_skip c.loop-low.invariant.1 n _ (omega arith) for w.if-f-r.false) _ _ w.output-is w.marks-is
       ],
     )
-
-pub returns : goal.returns
-returns c = held-done c.loop-low.invariant.1 (c.args.row.start + c.args.row.count) (omega arith)

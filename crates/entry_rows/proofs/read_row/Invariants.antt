@@ -1,5 +1,5 @@
 -- `read_row` meets its contract. The loop's invariant: the entries passed are read, and none of them disagrees. Assumes nothing.
-use Prim.Native.Nat.{◌+◌, ◌-◌, ◌≤◌}
+use Prim.Native.Nat.{◌+◌, ◌≤◌}
 use Rattle.entry_words.specs.Design.Reading.{word_by, value_by}
 use Rattle.entry_rows.specs.Design.Held.{Held}
 use Rattle.entry_rows.proofs.read_row.Given as goal
@@ -7,6 +7,3 @@ use Rattle.entry_rows.proofs.read_row.Given as goal
 abbrev pub invariant-loop-low : goal.invariant-loop-low
 invariant-loop-low l =
     (l.low ≤ l.row.count) × Held l.r.word_bytes l.r.words (word_by l.r) (value_by l.r l.stored) l.initial.output l.initial.marks (l.row.start + l.low) l.output l.marks
-
-abbrev pub decreases-loop-low : goal.decreases-loop-low
-decreases-loop-low l = l.row.count - l.low

@@ -24,15 +24,15 @@ walk-requires c =
     let p = c.requires in
     record { lent = record { reading = p.reading; few = p.few; entries = p.entries; room = same-room h p.room }; held = held-own h }
 
-pub returns-in-Disagrees : goal.returns-in-Disagrees
-returns-in-Disagrees c =
+pub returns-in-Err : goal.returns-in-Err
+returns-in-Err c =
     let e = c.clear_both in
     let h = none c.args.r c.args.stored.now e.auto.output e.auto.marks e.ensures.output_after e.ensures.marks_after in
-    let again = c.clear_both-in-Disagrees.ensures in
-    collected_bad _ _ _ _ _ _ _ h c.walk.ensures _ _ _ c.in-Disagrees.is again.output_after again.marks_after
+    let again = c.clear_both-in-Err.ensures in
+    collected_bad _ _ _ _ _ _ _ h c.walk.ensures _ _ _ c.in-Err.is again.output_after again.marks_after
 
-pub returns-in-Through : goal.returns-in-Through
-returns-in-Through c =
+pub returns-in-Ok : goal.returns-in-Ok
+returns-in-Ok c =
     let e = c.clear_both in
     let h = none c.args.r c.args.stored.now e.auto.output e.auto.marks e.ensures.output_after e.ensures.marks_after in
-    collected_served _ _ _ _ _ _ _ h c.walk.ensures _ _ _ c.in-Through.is c.walk.auto.output c.walk.auto.marks c.served.ensures
+    collected_served _ _ _ _ _ _ _ h c.walk.ensures _ _ _ c.in-Ok.is c.walk.auto.output c.walk.auto.marks c.served.ensures

@@ -7,6 +7,3 @@ use Rattle.forced_bits.proofs.mask.Given as goal
 
 abbrev pub invariant-loop-p : goal.invariant-loop-p
 invariant-loop-p l = (l.p ≤ l.n) × (l.mask ≡ mask_of l.p (λ q. cond l.low_too (forced_at l.s q) (high_at l.s q)))
-
-abbrev pub decreases-loop-p : goal.decreases-loop-p
-decreases-loop-p l = l.n - l.p

@@ -5,7 +5,4 @@ use Rattle.stored_slot.specs.Stored.{names}
 use Rattle.forced_bits.proofs.names.Given as goal
 
 abbrev pub invariant-loop-k : goal.invariant-loop-k
-invariant-loop-k l = (l.k ≤ l.n) × (l.found ≡ names l.k l.overrides l.kind l.gpio)
-
-abbrev pub decreases-loop-k : goal.decreases-loop-k
-decreases-loop-k l = l.n - l.k
+invariant-loop-k l = l.found ≡ names l.k l.overrides l.kind l.gpio

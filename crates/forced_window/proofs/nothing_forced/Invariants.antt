@@ -8,7 +8,4 @@ use Rattle.premises.specs.Given.{forces}
 use Rattle.forced_window.proofs.nothing_forced.Given as goal
 
 abbrev pub invariant-loop-k : goal.invariant-loop-k
-invariant-loop-k l = (l.k ≤ l.n) × (l.ok ≡ each l.k (λ i. not (forces l.a (get_or l.overrides i 0))))
-
-abbrev pub decreases-loop-k : goal.decreases-loop-k
-decreases-loop-k l = l.n - l.k
+invariant-loop-k l = l.ok ≡ each l.k (λ i. not (forces l.a (get_or l.overrides i 0)))

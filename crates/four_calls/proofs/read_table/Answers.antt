@@ -1,10 +1,11 @@
 -- `read_table` meets its contract. Assumes nothing.
+use Rattle.std.specs.Prelude.{Result}
+use Rattle.refusal.specs.declared.Refusal.{Refusal}
 use mathlib.Core.Path.{◌≡◌, refl, ◌∙◌, ap}
 use mathlib.Core.List.{List}
 use Prim.Native.Nat.{ℕ, ◌-◌}
 use native.Mathlib.Omega.{arith}
 use lib.ListN.{take}
-use Rattle.refusal.specs.declared.Answer.{Answer}
 use Rattle.build_args.specs.declared.BuildArgs.{BuildArgs}
 use Rattle.words.specs.declared.ByteOrder.{ByteOrder}
 use Rattle.build_args.specs.Faults.{table_size}
@@ -18,7 +19,7 @@ module _ (order : ByteOrder) (b : BuildArgs) (table output marks : List ℕ) whe
   abbrev size : ℕ
   size = table_size b.description b.addr
 
-  read : (o m part : List ℕ) (r : Answer) (s : StoredSlot) (n : ℕ) → s ≡ stored_of b.description b.addr b.cs_data → n ≡ size
+  read : (o m part : List ℕ) (r : Result (Unit {0}) Refusal) (s : StoredSlot) (n : ℕ) → s ≡ stored_of b.description b.addr b.cs_data → n ≡ size
       → read_back r o m ≡ unscrambled order s part output marks → part ≡ take (n - 0) table → trip r table o m ≡ read_of order b table output marks
   read o m part r s n e h q p =
       let whole : n - 0 ≡ size = omega (arith, h) in

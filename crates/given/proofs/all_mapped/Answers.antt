@@ -7,10 +7,10 @@ use Rattle.lists.proofs.Loops.{at-count_of}
 use Rattle.given.proofs.all_mapped.Goals as goal
 
 pub loop-k-init : goal.loop-k-init
-loop-k-init c = (omega arith, each_none _)
+loop-k-init c = each_none _
 
 pub loop-k-preserved : goal.loop-k-preserved
-loop-k-preserved c = (omega arith, rw c.mapped_as-ok.ensures (each_turn _ _ _ c.loop-k.invariant.1))
+loop-k-preserved c = rw c.mapped_as-ok.ensures (each_turn _ _ _ c.loop-k.invariant)
 
 pub returns : goal.returns
-returns c = at-count_of each _ _ _ _ (omega arith) c.loop-k.invariant.1
+returns c = at-count_of each _ _ _ _ (omega arith) c.loop-k.invariant

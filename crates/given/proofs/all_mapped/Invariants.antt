@@ -6,7 +6,4 @@ use Rattle.premises.specs.Given.{mapped_as}
 use Rattle.given.proofs.all_mapped.Given as goal
 
 abbrev pub invariant-loop-k : goal.invariant-loop-k
-invariant-loop-k l = (l.k ≤ l.n) × (l.ok ≡ each l.k (λ i. mapped_as l.d l.a l.c l.s i))
-
-abbrev pub decreases-loop-k : goal.decreases-loop-k
-decreases-loop-k l = l.n - l.k
+invariant-loop-k l = l.ok ≡ each l.k (λ i. mapped_as l.d l.a l.c l.s i)

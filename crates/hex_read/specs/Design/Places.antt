@@ -1,6 +1,5 @@
 -- Where the first line of a text ends, and what the store asks of a line. Assumes nothing.
-use Rattle.std.specs.Prelude.{ℕ, zero, suc, ◌+◌, ◌<◌, ◌≤◌, ◌≡◌, cond, List, [], ◌∷◌, eqb, length, get_or, take, drop}
-use Rattle.refusal.specs.declared.first.FirstFault.TheVariants.{None}
+use Rattle.std.specs.Prelude.{ℕ, zero, suc, ◌+◌, ◌<◌, ◌≤◌, ◌≡◌, cond, List, [], ◌∷◌, eqb, length, get_or, take, drop, None}
 use Rattle.hex_record.specs.Record.{line_fault, upper_after}
 use Rattle.hex_record.specs.Design.There.{ByteThere}
 use Rattle.hex_read.specs.Lines.{lines_of}

@@ -1,9 +1,7 @@
 -- `put_chip` meets its contract. The loop's invariant: the records passed are laid over the text's bytes. Assumes nothing.
 use mathlib.Core.Path.{refl, ◌∙◌}
-use Prim.Native.Nat.{◌-◌}
 use native.Mathlib.Omega.{arith}
-use Rattle.hex_write.proofs.Chips.{chip-none, chip-turn, chip-done, chip-room}
-use Rattle.lists.proofs.Clauses.{with_text}
+use Rattle.hex_write.proofs.Chips.{chip-none, chip-turn, chip-room}
 use Rattle.hex_write.proofs.put_chip.Goals as goal
 
 pub loop-k-init : goal.loop-k-init
@@ -30,7 +28,3 @@ loop-k-preserved c =
     let k = c.put_ahead-at in
     let d = c.put_data-at in
     (omega arith, d.auto.text ∙ k.auto.text ∙ v.invariant.1, chip-turn _ _ _ _ _ _ _ _ _ v.invariant.2 k.ensures.value k.ensures.text_after d.ensures.value d.ensures.text_after)
-
-pub returns : goal.returns
-returns c = with_text (let v = c.loop-k in
-    chip-done c.args.chip.now _ v.text v.k v.at (omega arith) v.invariant.2)

@@ -18,9 +18,6 @@ shown c =
     let k = c.put-end in
     data-read _ _ _ _ _ c.chunk_end.ensures k.ensures.value k.ensures.buffer_after
 
-pub slice_bounds-put_record-end : goal.slice_bounds-put_record-end
-slice_bounds-put_record-end c = rw (shown c).0 (shown c).1
-
 pub put_record-requires : goal.put_record-requires
 put_record-requires c = record-room _ _ (ap record_text (shown c).0) _ _ (search rules)
 

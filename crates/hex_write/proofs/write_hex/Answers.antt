@@ -3,22 +3,14 @@ use mathlib.Core.Path.{◌≡◌, sym, ◌∙◌}
 use mathlib.Core.Bool.{false}
 use native.Mathlib.Omega.{arith}
 use lib.ListN.{length}
-use borrow.Author.Tests.{ltb-false}
 use Rattle.hex_base.specs.Size.{too_long}
 use Rattle.hex_write.proofs.Writes.{writes_none, writes_short, writes_all, write_room}
 use Rattle.hex_write.proofs.Length.{length_law, pieces-length}
 use Rattle.hex_write.proofs.write_hex.Goals.{Else-too_long}
 use Rattle.hex_write.proofs.write_hex.Goals as goal
 
--- past the first test the chip is not too long
-fits : (c : Else-too_long) → too_long (length c.args.chip.now) ≡ false
-fits c = sym c.too_long.ensures ∙ c.if-too_long.false
-
 pub returns-then-too_long : goal.returns-then-too_long
 returns-then-too_long c = writes_none _ _ (sym c.too_long.ensures ∙ c.if-too_long.true)
-
-pub text_length-n-requires : goal.text_length-n-requires
-text_length-n-requires c = ltb-false _ _ (fits c)
 
 pub returns-then-text-n : goal.returns-then-text-n
 returns-then-text-n c = writes_short _ c.args.text.now _ (let h : too_long (length c.args.chip.now) ≡ false = sym c.too_long.ensures ∙ c.if-too_long.false in h) c.text_length-n.ensures (omega arith)

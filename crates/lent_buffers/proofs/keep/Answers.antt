@@ -24,6 +24,3 @@ module _ (w f value : ℕ) (output marks : List ℕ) where
 pub returns-then-marks-k-eq0 : goal.returns-then-marks-k-eq0
 returns-then-marks-k-eq0 c =
     new _ _ _ _ c.args.marks.now _ (omega (arith, c.if-marks-k-eq0.true)) c.requires.mark c.put_word.ensures
-
-pub returns : goal.returns
-returns c = old _ _ _ _ c.args.marks.now _ (λ e. omega (arith, c.if-marks-k-eq0.false)) c.word_at.ensures.value

@@ -18,9 +18,6 @@ turn : (ps : List Packed) (k n m : ℕ) (l : Listed) → k < length ps → n ≡
     → n + m ≡ twos (take (k + 1) (map listed_by ps))
 turn ps k n m l h e g f = rw (taken ps k l h g, twos-append, twos-one, e, f)
 
-done : (ps : List Listed) (k m n : ℕ) → k ≡ m → n ≡ twos (take k ps) → n ≡ twos (take m ps)
-done ps k m n e h = rw e at h
-
 pub loop-k-init : goal.loop-k-init
 unfolding twos
 loop-k-init c = (omega arith, omega arith, omega arith, search (mapped_length, rules), refl)
@@ -29,8 +26,3 @@ pub loop-k-preserved : goal.loop-k-preserved
 loop-k-preserved c =
     let v = c.loop-k in
     (omega arith, omega arith, omega arith, v.invariant.3, turn c.args.l.pins v.k _ _ _ (omega arith) v.invariant.4 c.listed.ensures c.bits-sum.ensures.value)
-
-pub returns : goal.returns
-returns c =
-    let v = c.loop-k in
-    record { value = done _ v.k c.args.l.count _ (omega arith) v.invariant.4; upper_bound = omega arith }

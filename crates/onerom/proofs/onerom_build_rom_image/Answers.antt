@@ -25,18 +25,18 @@ hand_over-requires c =
     formed-long c.args.addr_layout.now
     (and_left _ _ (and_left _ _ (and_left _ _ (passed _ _ c.formed.ensures (ap not c.if-not-formed.false)))))
 
-pub returns-in-Done : goal.returns-in-Done
+pub returns-in-Ok : goal.returns-in-Ok
 unfolding build_call
-returns-in-Done c =
+returns-in-Ok c =
     c.hand_over.ensures
     ∙ ap build_result
-    (taken ((λ (d : Description). build_from (order_at c.args.order) d c.args.addr_layout.now c.args.cs_data_layout.now c.args.spans.now c.args.images.now c.args.table.now)) ((λ (why : Refusal). build_refused why c.args.table.now)) c.args.description.now _ c.decode-decoded.ensures c.in-Done.is
+    (taken ((λ (d : Description). build_from (order_at c.args.order) d c.args.addr_layout.now c.args.cs_data_layout.now c.args.spans.now c.args.images.now c.args.table.now)) ((λ (why : Refusal). build_refused why c.args.table.now)) c.args.description.now _ c.decode-decoded.ensures c.in-Ok.is
     ∙ formed _ _ _ _ c.formed.ensures (ap not c.if-not-formed.false))
 
-pub returns-in-Refused : goal.returns-in-Refused
+pub returns-in-Err : goal.returns-in-Err
 unfolding build_call
-returns-in-Refused c =
-    ap (λ (r : ℕ). returned r c.args.table.now) c.packed-in-Refused.ensures
+returns-in-Err c =
+    ap (λ (r : ℕ). returned r c.args.table.now) c.packed-in-Err.ensures
     ∙ ap build_result
-    (no_record ((λ (d : Description). build_from (order_at c.args.order) d c.args.addr_layout.now c.args.cs_data_layout.now c.args.spans.now c.args.images.now c.args.table.now)) ((λ (why : Refusal). build_refused why c.args.table.now)) c.args.description.now _ c.decode-decoded.ensures _ c.in-Refused.is
+    (no_record ((λ (d : Description). build_from (order_at c.args.order) d c.args.addr_layout.now c.args.cs_data_layout.now c.args.spans.now c.args.images.now c.args.table.now)) ((λ (why : Refusal). build_refused why c.args.table.now)) c.args.description.now _ c.decode-decoded.ensures _ c.in-Err.is
     ∙ formed _ _ _ _ c.formed.ensures (ap not c.if-not-formed.false))

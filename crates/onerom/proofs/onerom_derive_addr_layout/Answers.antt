@@ -1,21 +1,23 @@
 -- `onerom_derive_addr_layout` meets its contract. Assumes nothing.
+use Rattle.std.specs.Prelude.{Result}
 use mathlib.Core.Path.{◌≡◌, ap, ◌∙◌}
 use mathlib.Core.Bool.{Bool, false, not}
 use mathlib.Core.List.{List}
 use Prim.Native.Nat.{ℕ}
 use Rattle.description_record.specs.Record.{described, well_formed}
 use Rattle.slot.specs.declared.description.Description.{Description}
+use Rattle.refusal.specs.declared.Refusal.{Refusal}
 use Rattle.addr_layout.specs.Search.{addr_answer}
-use Rattle.addr_layout.specs.declared.layout.AddrAnswer.{AddrAnswer}
+use Rattle.addr_layout.specs.declared.layout.AddrLayout.{AddrLayout}
 use Rattle.calls.specs.Calls.{returned, search_result, call_refused, addr_found, addr_call}
 use Rattle.onerom.proofs.Records.{described_so, not-described, passed}
 use Rattle.onerom.proofs.onerom_derive_addr_layout.Goals as goal
 
-searched : (b buffer : List ℕ) (t : Bool) → t ≡ well_formed b → not t ≡ false → (d : Description) → d ≡ described b → (a : AddrAnswer) → a ≡ addr_answer d
+searched : (b buffer : List ℕ) (t : Bool) → t ≡ well_formed b → not t ≡ false → (d : Description) → d ≡ described b → (a : Result AddrLayout Refusal) → a ≡ addr_answer d
     → addr_found a buffer ≡ addr_call b buffer
 unfolding addr_call
 searched b buffer t e n d ed a q =
-    ap (λ (x : AddrAnswer). addr_found x buffer) (q ∙ ap addr_answer ed)
+    ap (λ (x : Result AddrLayout Refusal). addr_found x buffer) (q ∙ ap addr_answer ed)
     ∙ described_so (λ d. addr_found (addr_answer d) buffer) (λ why. call_refused why buffer) b t e n
 
 pub returns-then-not-formed : goal.returns-then-not-formed

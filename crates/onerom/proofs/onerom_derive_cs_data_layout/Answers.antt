@@ -1,4 +1,5 @@
 -- `onerom_derive_cs_data_layout` meets its contract. Assumes nothing.
+use Rattle.std.specs.Prelude.{Option, Result}
 use mathlib.Core.Path.{◌≡◌, ap, ◌∙◌}
 use mathlib.Core.Bool.{Bool, false, not}
 use mathlib.Core.List.{List}
@@ -6,16 +7,17 @@ use Prim.Native.Nat.{ℕ}
 use Rattle.description_record.specs.Record.{described, well_formed, decoded_of}
 use Rattle.slot.specs.declared.description.Description.{Description}
 use Rattle.refusal.specs.declared.Refusal.TheVariants.{OutOfDomain}
+use Rattle.refusal.specs.declared.Refusal.{Refusal}
+use Rattle.addr_layout.specs.declared.layout.AddrLayout.{AddrLayout}
 use Rattle.cs_data_layout.specs.Search.{cs_data_answer}
-use Rattle.cs_data_layout.specs.declared.layout.CsDataAnswer.{CsDataAnswer}
-use Rattle.cs_data_layout.specs.declared.layout.GivenLayout.{GivenLayout}
+use Rattle.cs_data_layout.specs.declared.layout.CsDataLayout.{CsDataLayout}
 use Rattle.addr_record.specs.AddrRecord.{given_at}
 use Rattle.calls.specs.Calls.{returned, search_result, call_refused, if_record, cs_data_found, cs_data_call}
 use Rattle.onerom.proofs.Records.{described_so, not-described, passed, formed, not-formed}
 use Rattle.onerom.proofs.onerom_derive_cs_data_layout.Goals as goal
 
-searched : (b l buffer : List ℕ) (t : Bool) → t ≡ well_formed b → not t ≡ false → (d : Description) → d ≡ described b → (g : GivenLayout) → g ≡ given_at l
-    → (a : CsDataAnswer) → a ≡ cs_data_answer d g
+searched : (b l buffer : List ℕ) (t : Bool) → t ≡ well_formed b → not t ≡ false → (d : Description) → d ≡ described b → (g : Option AddrLayout) → g ≡ given_at l
+    → (a : Result CsDataLayout Refusal) → a ≡ cs_data_answer d g
     → cs_data_found a buffer ≡ if_record (λ d. cs_data_found (cs_data_answer d (given_at l)) buffer) (λ why. call_refused why buffer) (decoded_of b)
 searched b l buffer t e n d ed g eg a q =
     rw (q, ed, eg) (described_so (λ d. cs_data_found (cs_data_answer d (given_at l)) buffer) (λ why. call_refused why buffer) b t e n)

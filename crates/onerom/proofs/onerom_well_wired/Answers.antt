@@ -23,16 +23,16 @@ pub tested-requires : goal.tested-requires
 tested-requires c =
     formed-long c.args.addr_layout.now (passed _ _ c.formed.ensures (ap not c.if-not-formed.false))
 
-pub returns-in-Done : goal.returns-in-Done
+pub returns-in-Ok : goal.returns-in-Ok
 unfolding wired_call
-returns-in-Done c =
+returns-in-Ok c =
     c.tested.ensures
-    ∙ taken ((λ (d : Description). wired_from d c.args.addr_layout.now)) refuse _ _ c.decode-decoded.ensures c.in-Done.is
+    ∙ taken ((λ (d : Description). wired_from d c.args.addr_layout.now)) refuse _ _ c.decode-decoded.ensures c.in-Ok.is
     ∙ formed _ _ _ _ c.formed.ensures (ap not c.if-not-formed.false)
 
-pub returns-in-Refused : goal.returns-in-Refused
+pub returns-in-Err : goal.returns-in-Err
 unfolding wired_call
-returns-in-Refused c =
-    c.packed-in-Refused.ensures
-    ∙ no_record ((λ (d : Description). wired_from d c.args.addr_layout.now)) refuse _ _ c.decode-decoded.ensures _ c.in-Refused.is
+returns-in-Err c =
+    c.packed-in-Err.ensures
+    ∙ no_record ((λ (d : Description). wired_from d c.args.addr_layout.now)) refuse _ _ c.decode-decoded.ensures _ c.in-Err.is
     ∙ formed _ _ _ _ c.formed.ensures (ap not c.if-not-formed.false)

@@ -1,8 +1,8 @@
 -- `onerom_write_page` meets its contract. Assumes nothing.
+use Rattle.std.specs.Prelude.{Err}
 use mathlib.Core.Bool.{not}
 use mathlib.Core.Path.{ap, ◌∙◌}
 use Prim.Native.Nat.{ℕ}
-use Rattle.refusal.specs.declared.WriteAnswer.TheVariants.{Refused}
 use Rattle.refusal.specs.declared.Refusal.TheVariants.{OutOfDomain}
 use Rattle.lists.proofs.Bools.{and_left}
 use Rattle.addr_record.specs.AddrRecord.{layout_formed}
@@ -19,7 +19,7 @@ pub returns-then-not-formed : goal.returns-then-not-formed
 unfolding page_call
 returns-then-not-formed c =
     ap (λ (r : ℕ). returned r c.args.page.now) c.packed.ensures
-    ∙ ap hex_write_result (not-formed _ (wrote_as (Refused OutOfDomain) c.args.page.now) _ _ c.formed.ensures (ap not c.if-not-formed.true))
+    ∙ ap hex_write_result (not-formed _ (wrote_as (Err OutOfDomain) c.args.page.now) _ _ c.formed.ensures (ap not c.if-not-formed.true))
 
 -- the address layout has the length of a record
 pub hand_over-requires : goal.hand_over-requires

@@ -10,6 +10,3 @@ use Rattle.page_rows.proofs.put_rows.Given as goal
 abbrev pub invariant-loop-gpio : goal.invariant-loop-gpio
 invariant-loop-gpio l =
     (l.gpio ≤ 48) × (length l.page ≡ length l.initial.page) × (l.page ≡ laid l.initial.page 0 (joined l.gpio (λ g. row_text g (get_or l.roles g 0))))
-
-abbrev pub decreases-loop-gpio : goal.decreases-loop-gpio
-decreases-loop-gpio l = 48 - l.gpio

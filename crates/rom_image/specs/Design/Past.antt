@@ -1,6 +1,5 @@
 -- The tests before the table are past. Assumes nothing.
-use Rattle.std.specs.Prelude.{◌≡◌, true, List, ℕ}
-use Rattle.refusal.specs.declared.first.FirstFault.TheVariants.{None}
+use Rattle.std.specs.Prelude.{◌≡◌, true, List, ℕ, None}
 use Rattle.build_args.specs.Domain.{build_in}
 use Rattle.build_args.specs.Faults.{build_fault}
 use Rattle.build_args.specs.declared.BuildArgs.{BuildArgs}

@@ -7,6 +7,3 @@ write_words-requires c = let p = c.requires in turn-first (p.1 0 p.0)
 
 pub others_same-requires : goal.others_same-requires
 others_same-requires c d l = turn-long _ (c.requires.1 d l) c.write_words.auto.output
-
-pub returns : goal.returns
-returns c = record { wrote = c.write_words.ensures; same_turn = c.others_same.ensures }

@@ -1,7 +1,5 @@
 -- `words_before` meets its contract. The invariant: `words` is those of the ROMs passed. Assumes nothing.
 use native.Mathlib.Omega.{arith}
-use Rattle.lists.proofs.Loops.{at_count}
-use Rattle.stored_slot.specs.Words.{words_before}
 use Rattle.rom_words.proofs.Counted.{words-none, words-turn}
 use Rattle.rom_words.proofs.words_before.Goals as goal
 
@@ -12,8 +10,3 @@ pub loop-k-preserved : goal.loop-k-preserved
 loop-k-preserved c =
     let v = c.loop-k in
     (omega arith, words-turn _ v.k _ _ v.invariant.1 c.rom_words-words.ensures.value, omega arith)
-
-pub returns : goal.returns
-returns c =
-    let v = c.loop-k in
-    record { value = at_count (words_before _) v.k _ _ (omega arith) v.invariant.1; upper_bound = omega arith }

@@ -6,6 +6,3 @@ use Rattle.room.proofs.all_words.Given as goal
 
 abbrev pub invariant-loop-k : goal.invariant-loop-k
 invariant-loop-k l = (l.k ≤ l.n) × (l.words ≡ words_to l.d l.a l.k) × (l.words ≤ l.k * 2 ^ 32)
-
-abbrev pub decreases-loop-k : goal.decreases-loop-k
-decreases-loop-k l = l.n - l.k

@@ -8,4 +8,4 @@ returns c =
     let words = c.word_count in
     let s = c.args in
     let all = reached-all words.result s.a.num_lines words.ensures.upper_bound in
-    record { value = rw (← words.ensures.value, ← all, ← c.reached.ensures) c.lower.ensures; upper_bound = omega (arith, c.lower.ensures, words.ensures.upper_bound) }
+    record { value = rw (← words.ensures.value, ← all, ← c.reached.ensures) c.min.ensures; upper_bound = omega (arith, c.min.ensures, words.ensures.upper_bound) }

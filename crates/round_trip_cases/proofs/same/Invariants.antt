@@ -1,6 +1,3 @@
 -- The loop ends. Assumes nothing.
 use Rattle.std.proofs.Common.{◌-◌}
 use Rattle.round_trip_cases.proofs.same.Given as goal
-
-abbrev pub decreases-loop-k : goal.decreases-loop-k
-decreases-loop-k l = l.n - l.k

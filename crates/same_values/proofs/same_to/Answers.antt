@@ -8,11 +8,11 @@ use Rattle.premises.specs.Same.{same_to}
 use Rattle.same_values.proofs.same_to.Goals as goal
 
 pub loop-k-init : goal.loop-k-init
-loop-k-init c = (omega arith, each_none _)
+loop-k-init c = each_none _
 
 pub loop-k-preserved : goal.loop-k-preserved
-loop-k-preserved c = (omega arith, rw (c.entry-y.ensures, c.entry-x.ensures) (each_turn _ _ _ c.loop-k.invariant.1))
+loop-k-preserved c = rw (c.entry-y.ensures, c.entry-x.ensures) (each_turn _ _ _ c.loop-k.invariant)
 
 pub returns : goal.returns
 unfolding same_to
-returns c = at-count_of each _ _ _ _ (omega arith) c.loop-k.invariant.1
+returns c = at-count_of each _ _ _ _ (omega arith) c.loop-k.invariant

@@ -7,7 +7,4 @@ use Rattle.lists.specs.Each.{each}
 use Rattle.same_values.proofs.same_to.Given as goal
 
 abbrev pub invariant-loop-k : goal.invariant-loop-k
-invariant-loop-k l = (l.k ≤ l.n) × (l.ok ≡ each l.k (λ i. eqb (get_or l.list i 0) (get_or l.other i 0)))
-
-abbrev pub decreases-loop-k : goal.decreases-loop-k
-decreases-loop-k l = l.n - l.k
+invariant-loop-k l = l.ok ≡ each l.k (λ i. eqb (get_or l.list i 0) (get_or l.other i 0))

@@ -2,7 +2,6 @@
 use mathlib.Core.Path.{◌≡◌}
 use Prim.Native.Nat.{ℕ, ◌+◌}
 use native.Mathlib.Numerals.{add-one}
-use native.Mathlib.Omega.{arith}
 use lib.ListN.{get_or}
 use Rattle.gpio.specs.declared.candidates.Candidates.{Candidates}
 use Rattle.gpio.specs.declared.span.Span.{Span}
@@ -15,16 +14,10 @@ turn : (d : Description) (k kind : ℕ) (s t : Span) (g : Candidates) → s ≡ 
 unfolding select_span
 turn d k kind s t g e f h i = rw (i, h, f, e, add-one)
 
-done : (d : Description) (k n : ℕ) (s : Span) → k ≡ n → s ≡ select_span d k → s ≡ select_span d n
-done d k n s e h = rw e at h
-
 pub loop-k-init : goal.loop-k-init
 unfolding select_span
-loop-k-init c = (omega arith, rw (c.widen_first-s.ensures, c.kind_candidates.ensures, c.empty.ensures))
+loop-k-init c = rw (c.widen_first-s.ensures, c.kind_candidates.ensures, c.empty.ensures)
 
 pub loop-k-preserved : goal.loop-k-preserved
 loop-k-preserved c =
-    (omega arith, turn _ _ _ _ _ _ c.loop-k.invariant.1 c.commoned_kind.ensures c.kind_candidates-in-loop-k.ensures c.widen_first-s-in-loop-k.ensures)
-
-pub returns : goal.returns
-returns c = done c.args.d c.loop-k.k c.args.d.multi.num_commoned _ (omega arith) c.loop-k.invariant.1
+    turn _ _ _ _ _ _ c.loop-k.invariant c.commoned_kind.ensures c.kind_candidates-in-loop-k.ensures c.widen_first-s-in-loop-k.ensures

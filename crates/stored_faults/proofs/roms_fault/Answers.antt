@@ -6,13 +6,13 @@ pub returns : goal.returns
 unfolding roms_fault
 returns c =
     rw (
-      c.or_else-4.ensures,
-      c.or_else-3.ensures,
-      c.or_else-2.ensures,
-      c.or_else.ensures,
+      c.or-4.ensures,
+      c.or-3.ensures,
+      c.or-2.ensures,
+      c.or.ensures,
       c.room_fault-room.ensures,
       c.pick_fault-picks.ensures,
-      c.fault_if-count.ensures,
+      c.then_some-count.ensures,
       c.chips_fit.ensures,
       c.first_fault-roms.ensures,
       c.layout_fault-layout.ensures,

@@ -1,6 +1,6 @@
 -- How a table is filled: positions of the lines, where the words of the chips stand, and an entry by them. What an entry holds is not
 -- defined by it, but by rom_image's `entry_at`, and that both say the same is proved there. Assumes nothing.
-use Rattle.std.specs.Prelude.{◌≡◌, ℕ, ◌+◌, ◌*◌, ◌/◌, ◌%◌, ◌^◌, ◌≤◌, ◌<◌, true, false, cond, List, ◌++◌, ltb, length, drop, get_or}
+use Rattle.std.specs.Prelude.{◌≡◌, ℕ, ◌+◌, ◌*◌, ◌%◌, ◌^◌, ◌≤◌, ◌<◌, true, false, cond, List, ◌++◌, ltb, length, drop, get_or}
 use Rattle.bits.specs.Bits.{gather, index_address, scatter}
 use Rattle.words.specs.Words.{chip_word_from, entries_bytes}
 use Rattle.words.specs.declared.ByteOrder.{ByteOrder}

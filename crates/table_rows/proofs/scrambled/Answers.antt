@@ -7,7 +7,6 @@ use native.Mathlib.Omega.{arith}
 use lib.Bits.{or_zero_r}
 use lib.ListN.{get_or}
 use lib.Pow.{pow_mono}
-use Rattle.words.proofs.Words.{word-short}
 use Rattle.word_rows.specs.Design.Wrote.{said_by}
 use Rattle.table_rows.specs.Design.Rows.{ByteTables}
 use Rattle.table_rows.proofs.scrambled.Goals as goal
@@ -23,13 +22,5 @@ low-only lows highs v t l =
     let high : v / 256 ≡ 0 = omega arith in
     rw (low, high, t.none, or_zero_r)
 
-pub bounds-lows-word : goal.bounds-lows-word
-bounds-lows-word c = omega (arith, (let h : c.args.word < 256 = byte-short _ _ c.if-w-lt2.true c.requires.1 in h))
-
 pub returns-then-w-lt2 : goal.returns-then-w-lt2
 returns-then-w-lt2 c = low-only _ _ _ c.requires.2 (let h : c.args.word < 256 = byte-short _ _ c.if-w-lt2.true c.requires.1 in h)
-
-pub said-requires : goal.said-requires
-said-requires c =
-    let t = c.requires.2 in
-    (word-short c.args.w c.args.word c.requires.0 c.requires.1, t.low, t.high)

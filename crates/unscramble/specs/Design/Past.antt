@@ -1,7 +1,6 @@
 -- The tests before the entries are past. Assumes nothing.
-use Rattle.std.specs.Prelude.{◌≡◌, true, List, ℕ}
+use Rattle.std.specs.Prelude.{◌≡◌, true, List, ℕ, None}
 use Rattle.slot.specs.declared.description.ChipSetType.{ChipSetType}
-use Rattle.refusal.specs.declared.first.FirstFault.TheVariants.{None}
 use Rattle.stored_slot.specs.Stored.{stored_in}
 use Rattle.stored_slot.specs.Faults.{roms_fault}
 use Rattle.stored_slot.specs.declared.stored.StoredSlot.{StoredSlot}

@@ -1,10 +1,9 @@
 -- A word counted through all ROMs by its ROM and address, as 23 and 24 name it: the code counts through, Recovered goes ROM by ROM,
 -- and that both come to the same is proved. Assumes nothing.
-use Rattle.std.specs.Prelude.{ℕ, suc, ◌-◌, leb}
+use Rattle.refusal.specs.declared.Refusal.{Refusal}
+use Rattle.std.specs.Prelude.{ℕ, suc, ◌-◌, leb, Option, Some, None}
 use Rattle.lists.specs.Each.{tally}
 use Rattle.refusal.specs.declared.Refusal.TheVariants.{Inconsistent, Unserved}
-use Rattle.refusal.specs.declared.first.FirstFault.{FirstFault}
-use Rattle.refusal.specs.declared.first.FirstFault.TheVariants.{None, Of}
 use Rattle.entry_words.specs.declared.Outcome.{Outcome}
 use Rattle.entry_words.specs.declared.Outcome.TheVariants.{Whole, Disagrees, Missing}
 use Rattle.stored_slot.specs.Words.{words_before}
@@ -19,7 +18,7 @@ word_address s f = f - words_before s (word_rom s f)
 
 -- the place is the ROM of the word that an entry disagrees on, and its address there
 -- the place is the ROM of the word that is missing, and its address there
-abbrev pub outcome_fault : StoredSlot → Outcome → FirstFault
+abbrev pub outcome_fault : StoredSlot → Outcome → Option Refusal
 outcome_fault s Whole = None
-outcome_fault s (Disagrees f) = Of (Inconsistent (word_rom s f) (word_address s f))
-outcome_fault s (Missing f) = Of (Unserved (word_rom s f) (word_address s f))
+outcome_fault s (Disagrees f) = Some (Inconsistent (word_rom s f) (word_address s f))
+outcome_fault s (Missing f) = Some (Unserved (word_rom s f) (word_address s f))

@@ -1,11 +1,9 @@
 -- What the entries are read by, of a stored slot: positions, extents, forced bits. That this comes to what Words says is proved. Assumes
 -- nothing.
-use Rattle.std.specs.Prelude.{ℕ, ◌-◌, ◌^◌, ◌≤◌, ◌<◌, cond, List, ltb, get_or, replicate}
+use Rattle.std.specs.Prelude.{ℕ, ◌-◌, ◌^◌, ◌≤◌, ◌<◌, cond, List, ltb, get_or, replicate, Option, Some, None}
 use Rattle.lists.specs.Tab.{tab}
 use Rattle.slot.specs.declared.description.ChipSetType.{ChipSetType}
 use Rattle.picks.specs.Picks.{picks_of, picked_by}
-use Rattle.picks.specs.declared.Picked.{Picked}
-use Rattle.picks.specs.declared.Picked.TheVariants.{NoChip, Chip}
 use Rattle.words.specs.declared.ByteOrder.{ByteOrder}
 use Rattle.dump_lines.specs.Design.Lines.{ordered_map}
 use Rattle.entry_words.specs.declared.Map.{Map}
@@ -48,9 +46,9 @@ abbrev pub data_map : ByteOrder → StoredSlot → ℕ → Map
 data_map order s k = ordered_map order (place_map s.num_roms k (rom_at s k).data_lines (stored_data_base s))
 
 -- the place of a ROM; the fifth for none
-abbrev pub rom_place : Picked → ℕ
-rom_place NoChip = 4
-rom_place (Chip k) = k
+abbrev pub rom_place : Option ℕ → ℕ
+rom_place None = 4
+rom_place (Some k) = k
 
 -- a ROM's words among all
 abbrev pub extent_of : StoredSlot → ℕ → Extent

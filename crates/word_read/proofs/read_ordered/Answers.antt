@@ -3,18 +3,11 @@ use mathlib.Core.Path.{sym, ◌∙◌}
 use Prim.Native.Nat.{ℕ, ◌+◌, ◌<◌}
 use native.Mathlib.Omega.{arith}
 use lib.ListN.{get_or}
-use Rattle.lists.proofs.Tab.{tab-length}
 use Rattle.word_rows.proofs.Rows.{wrote_same}
 use Rattle.rom_turns.specs.Design.Rom.{turn_start}
 use Rattle.rom_turns.proofs.Turns.{width_two}
-use Rattle.word_read.proofs.Placed.{order-turns}
 use Rattle.word_read.proofs.Values.{says_value}
 use Rattle.word_read.proofs.read_ordered.Goals as goal
-
-pub read_turns-requires : goal.read_turns-requires
-read_turns-requires c =
-    let p = c.requires in
-    (p.some, order-turns p _ _ _ c.lows_of-lows.ensures (rw c.byte_table-low_bytes.ensures (tab-length _ 256)) (rw c.byte_table-high_bytes.ensures (tab-length _ 256)))
 
 pub returns : goal.returns
 returns c =

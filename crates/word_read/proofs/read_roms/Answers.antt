@@ -3,19 +3,11 @@ use mathlib.Core.Path.{◌≡◌, refl, ◌∙◌}
 use native.Mathlib.Omega.{arith}
 use borrow.Author.Tests.{eqb-true}
 use Rattle.lists.proofs.Loops.{zero_one}
-use Rattle.word_read.proofs.Words.{read-own, read-on, read-rest, read_none, read-long, all_read}
+use Rattle.word_read.proofs.Words.{read-on, read-rest, read_none, all_read}
 use Rattle.word_read.proofs.read_roms.Goals as goal
 
 pub loop-k-init : goal.loop-k-init
 loop-k-init c = (omega arith, refl, read_none _ _ _ _)
-
-pub read_rom-requires : goal.read_rom-requires
-read_rom-requires c =
-    let l = c.loop-k.invariant in
-    record { read_in = read-long _ c.requires l.1; place = c.loop-k-test.true; before = read-own l.2 }
-
-pub shape_of-output-then-not-read_rom : goal.shape_of-output-then-not-read_rom
-shape_of-output-then-not-read_rom c = c.read_rom.auto.output ∙ c.loop-k.invariant.1
 
 pub returns-then-not-read_rom : goal.returns-then-not-read_rom
 returns-then-not-read_rom c = record { output_unchanged = c.read_rom.ensures.output_unchanged ∙ read-rest c.loop-k.invariant.2; all_read = λ z. absurd (zero_one cc) }

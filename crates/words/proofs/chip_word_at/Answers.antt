@@ -5,6 +5,3 @@ use Rattle.words.proofs.chip_word_at.Goals as goal
 
 pub returns-in-LowFirst : goal.returns-in-LowFirst
 returns-in-LowFirst c = record { value = cc (chip-low c.args.w c.args.b.now c.args.at); upper_bound = omega arith }
-
-pub returns-in-HighFirst : goal.returns-in-HighFirst
-returns-in-HighFirst c = record { value = cc; upper_bound = omega arith }

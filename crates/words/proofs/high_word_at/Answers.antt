@@ -7,9 +7,8 @@ use native.Mathlib.Omega.{arith}
 use lib.ListN.{length, get_or}
 use Rattle.words.specs.Words.{chip_word_from}
 use Rattle.words.specs.declared.ByteOrder.TheVariants.{HighFirst}
-use Rattle.words.proofs.Words.{byte_more, word-short}
+use Rattle.words.proofs.Words.{byte_more}
 use Rattle.words.proofs.Chip.{high-none, high_more}
-use Rattle.lists.proofs.Clauses.{with_bound}
 use Rattle.words.proofs.high_word_at.Invariants.{Taken}
 use Rattle.words.proofs.high_word_at.Goals.{After-wide}
 use Rattle.words.proofs.high_word_at.Goals as goal
@@ -28,22 +27,9 @@ module _ (b : List ℕ) (at w : ℕ) where
   done : (k v : ℕ) → w ≤ k → Taken b at w k v → (v ≡ chip_word_from HighFirst w b at) × (v < 2 ^ (8 * w))
   done k v h t = let e : k ≡ w = omega arith in (rw e at t.is, rw e at t.fits)
 
--- what is taken is of two bytes at most, so that one more fits a `u32`
-room : (c : After-wide) → c.loop-k.value < 2 ^ 16
-room c = let v = c.loop-k in word-short v.k v.value (omega arith) v.invariant.fits
-
 pub loop-k-init : goal.loop-k-init
 loop-k-init c = begin _ _ _
-
-pub overflow_mul-value : goal.overflow_mul-value
-overflow_mul-value c = omega (arith, room c)
-
-pub overflow_add-value : goal.overflow_add-value
-overflow_add-value c = omega (arith, room c)
 
 pub loop-k-preserved : goal.loop-k-preserved
 loop-k-preserved c =
     turn _ _ _ _ _ _ c.requires.1 c.loop-k-test.true c.wide.ensures.0 c.wide.ensures.1 c.loop-k.invariant
-
-pub returns : goal.returns
-returns c = with_bound (done _ _ _ _ _ c.loop-k-test.false c.loop-k.invariant)

@@ -1,7 +1,7 @@
 -- `high_word_at` meets its contract. The loop's invariant: the first k bytes are taken. Assumes nothing.
 use mathlib.Core.Path.{◌≡◌}
 use mathlib.Core.List.{List}
-use Prim.Native.Nat.{ℕ, ◌*◌, ◌-◌, ◌^◌, ◌≤◌, ◌<◌}
+use Prim.Native.Nat.{ℕ, ◌*◌, ◌^◌, ◌≤◌, ◌<◌}
 use Rattle.words.specs.Words.{chip_word_from}
 use Rattle.words.specs.declared.ByteOrder.TheVariants.{HighFirst}
 use Rattle.words.proofs.high_word_at.Given as goal
@@ -14,6 +14,3 @@ pub record Taken (b : List ℕ) (at w k v : ℕ) : Type 0 where
 
 abbrev pub invariant-loop-k : goal.invariant-loop-k
 invariant-loop-k l = Taken l.b l.at l.w l.k l.value
-
-abbrev pub decreases-loop-k : goal.decreases-loop-k
-decreases-loop-k l = l.w - l.k

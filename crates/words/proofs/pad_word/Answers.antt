@@ -23,10 +23,10 @@ done pad k w v p e h = rw (h, e) (refl, pad_lt w pad p)
 room : (c : In-loop-k) → c.loop-k.whole < 2 ^ 16
 room c =
     let v = c.loop-k in
-    word-short v.k v.whole (omega arith) (rw v.invariant.1 (pad_lt v.k c.args.pad (omega arith)))
+    word-short v.k v.whole (omega arith) (rw v.invariant (pad_lt v.k c.args.pad (omega arith)))
 
 pub loop-k-init : goal.loop-k-init
-loop-k-init c = (omega arith, begin _)
+loop-k-init c = begin _
 
 pub overflow_mul-whole : goal.overflow_mul-whole
 overflow_mul-whole c = omega (arith, room c)
@@ -35,7 +35,7 @@ pub overflow_add-whole : goal.overflow_add-whole
 overflow_add-whole c = omega (arith, room c)
 
 pub loop-k-preserved : goal.loop-k-preserved
-loop-k-preserved c = (omega arith, turn _ _ _ _ c.wide-byte.ensures.0 c.loop-k.invariant.1)
+loop-k-preserved c = turn _ _ _ _ c.wide-byte.ensures.0 c.loop-k.invariant
 
 pub returns : goal.returns
-returns c = with_bound (done _ _ _ _ (omega arith) (omega arith) c.loop-k.invariant.1)
+returns c = with_bound (done _ _ _ _ (omega arith) (omega arith) c.loop-k.invariant)

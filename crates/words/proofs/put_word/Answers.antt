@@ -35,9 +35,6 @@ module _ (old : List ℕ) (at w x : ℕ) where
       let none : w - w ≡ 0 = omega arith in
       rw (e, none, append-nil, take-append-drop) at i.left
 
-pub loop-k-init : goal.loop-k-init
-loop-k-init c = begin _ _ _ _
-
 pub loop-k-preserved : goal.loop-k-preserved
 loop-k-preserved c =
     turn _ _ _ _ _ _ _ _ c.requires c.loop-k-test.true c.low.ensures c.loop-k.invariant

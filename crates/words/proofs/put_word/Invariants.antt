@@ -14,6 +14,3 @@ pub record Written (old : List ℕ) (at w x : ℕ) (out : List ℕ) (rest k : �
 
 abbrev pub invariant-loop-k : goal.invariant-loop-k
 invariant-loop-k l = Written l.initial.out l.at l.w l.x l.out l.rest l.k
-
-abbrev pub decreases-loop-k : goal.decreases-loop-k
-decreases-loop-k l = l.w - l.k

@@ -5,10 +5,8 @@ use Prim.Native.Nat.{ℕ, suc, ◌+◌, ◌*◌, ◌-◌, ◌^◌, ◌≤◌, �
 use native.Mathlib.Omega.{arith}
 use lib.ListN.{get_or}
 use Rattle.words.specs.Words.{word_from}
-use Rattle.words.proofs.Words.{byte_more, word-short}
-use Rattle.lists.proofs.Clauses.{with_bound}
+use Rattle.words.proofs.Words.{byte_more}
 use Rattle.words.proofs.word_at.Invariants.{Taken}
-use Rattle.words.proofs.word_at.Goals.{After-wide}
 use Rattle.words.proofs.word_at.Goals as goal
 
 module _ (b : List ℕ) (at w : ℕ) where
@@ -29,23 +27,8 @@ module _ (b : List ℕ) (at w : ℕ) where
       let a : at + k ≡ at = omega arith in
       (rw (n, a) at t.is, rw n at t.fits)
 
--- what is taken is of two bytes at most, so that one more fits a `u32`
-room : (c : After-wide) → c.loop-k.whole < 2 ^ 16
-room c =
-    let v = c.loop-k in
-    word-short (c.args.w - v.k) v.whole (omega arith) v.invariant.fits
-
 pub loop-k-init : goal.loop-k-init
 loop-k-init c = begin _ _ _
 
-pub overflow_mul-whole : goal.overflow_mul-whole
-overflow_mul-whole c = omega (arith, room c)
-
-pub overflow_add-whole : goal.overflow_add-whole
-overflow_add-whole c = omega (arith, room c)
-
 pub loop-k-preserved : goal.loop-k-preserved
 loop-k-preserved c = turn _ _ _ _ _ _ c.loop-k-test.true c.wide.ensures.0 c.wide.ensures.1 c.loop-k.invariant
-
-pub returns : goal.returns
-returns c = with_bound (done _ _ _ _ _ c.loop-k-test.false c.loop-k.invariant)

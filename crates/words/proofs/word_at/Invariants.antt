@@ -13,6 +13,3 @@ pub record Taken (b : List ℕ) (at w k v : ℕ) : Type 0 where
 
 abbrev pub invariant-loop-k : goal.invariant-loop-k
 invariant-loop-k l = Taken l.b l.at l.w l.k l.whole
-
-abbrev pub decreases-loop-k : goal.decreases-loop-k
-decreases-loop-k l = l.k

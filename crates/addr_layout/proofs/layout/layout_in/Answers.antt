@@ -4,4 +4,4 @@ use Rattle.addr_layout.proofs.layout.layout_in.Goals as goal
 
 pub returns : goal.returns
 unfolding layout_in
-returns c = rw (c.in_domain.ensures, c.in_domain-2.ensures, c.lines_in.ensures)
+returns c = rw (c.line_gpio_in.ensures, c.line_gpio_in-2.ensures, c.lines_in.ensures)

@@ -1,4 +1,5 @@
 -- `laid_out` meets its contract. Assumes nothing.
+use Rattle.std.specs.Prelude.{Option, Some, None}
 use mathlib.Core.Path.{◌≡◌, refl, ap, ◌∙◌}
 use mathlib.Core.Bool.{Bool, true, false, cond, not, ◌&&◌}
 use mathlib.Core.List.{List}
@@ -13,15 +14,12 @@ use Rattle.gpio.specs.declared.span.Span.{Span}
 use Rattle.gpio.proofs.Fits.{fits-within}
 use Rattle.lists.proofs.Tab.{get_or-tab, tab_cong}
 use Rattle.lists.proofs.Loops.{zero_one}
-use Rattle.search.specs.declared.Trial.{Trial}
-use Rattle.search.specs.declared.Trial.TheVariants.{Misfit, Score}
 use Rattle.addr_lines.specs.Range.{reach, in_range}
 use Rattle.addr_choices.specs.Choices.{spanning_of, choice_span, padded_pins, span_trial}
 use Rattle.addr_choices.specs.declared.Spanning.{Spanning}
 use Rattle.addr_layout.specs.Layouts.{addr_layout_of}
 use Rattle.slot.specs.Description.{is_single}
 use Rattle.listing.specs.Choice.{gpio_at}
-use Rattle.addr_layout.specs.declared.layout.AddrOutcome.TheVariants.{LaidOut}
 use Rattle.addr_lines.specs.Lines.{lines}
 use Rattle.slot.specs.declared.description.Description.{Description}
 use Rattle.listing.specs.Design.Packed.{list_of}
@@ -30,9 +28,9 @@ use Rattle.addr_layout.specs.declared.layout.AddrLayout.{AddrLayout}
 use Rattle.addr_layout.specs.Design.Laying.{laid_from, Laying}
 use Rattle.addr_layout.proofs.layouts.laid_out.Goals as goal
 
-abbrev score_of : Trial → ℕ
-score_of (Score s) = s
-score_of Misfit = 0
+abbrev score_of : Option ℕ → ℕ
+score_of (Some s) = s
+score_of None = 0
 
 -- a score means that the window holds the pins, and is made of them and the base
 record Scored (base n score : ℕ) : Type 0 where
@@ -41,14 +39,14 @@ record Scored (base n score : ℕ) : Type 0 where
   pub pins : score / 1000 ≡ n
   pub low : score % 1000 ≡ base
 
-scored_so : (base n s : ℕ) (f : Bool) → fits base n ≡ f → cond f (Score (n * 1000 + base)) Misfit ≡ Score s → Scored base n s
+scored_so : (base n s : ℕ) (f : Bool) → fits base n ≡ f → cond f (Some (n * 1000 + base)) None ≡ Some s → Scored base n s
 scored_so base n s true e h =
     let w = fits-within base n e in
     let q : n * 1000 + base ≡ s = ap score_of h in
     record { few = omega arith; within = omega arith; pins = omega arith; low = omega arith }
 scored_so base n s false e h = absurd (zero_one cc)
 
-scored : (s : Span) (score : ℕ) → span_trial s ≡ Score score → Scored s.low (padded_pins s) score
+scored : (s : Span) (score : ℕ) → span_trial s ≡ Some score → Scored s.low (padded_pins s) score
 unfolding span_trial
 scored s score e = scored_so s.low (padded_pins s) score (fits s.low (padded_pins s)) refl e
 
@@ -92,27 +90,18 @@ module _ (d : Description) (l : Listing) (choice score : ℕ) (every : Spanning)
       e ∙ rw eg (from_tab (score % 1000) (score / 1000) f (not single) (not single && leb 3 d.num_chips) every.lines every.in_range few-lines) in
       rw (scored_is.low, scored_is.pins, ei, used_is, lines_are) at filled
 
-pub overflow_cast-used : goal.overflow_cast-used
-overflow_cast-used c =
-    let a = c.args in
-    omega (arith, used_some a.d a.l a.choice a.score a.every c.requires, few-lines a.d a.l a.choice a.score a.every c.requires)
-
-pub overflow_cast-all : goal.overflow_cast-all
-overflow_cast-all c = let a = c.args in omega (arith, few-lines a.d a.l a.choice a.score a.every c.requires)
-
-pub layout-layout-requires : goal.layout-layout-requires
-layout-layout-requires c =
+pub layout-requires : goal.layout-requires
+layout-requires c =
     let a = c.args in
     let p = c.requires in
-    let q = scored_is a.d a.l a.choice a.score a.every p in (
+    let q = scored_is a.d a.l a.found.choice a.found.score a.every p in (
       omega (arith, q.few, q.pins),
       omega (arith, q.within, q.low),
-      used_some a.d a.l a.choice a.score a.every p,
-      few-lines a.d a.l a.choice a.score a.every p,
+      used_some a.d a.l a.found.choice a.found.score a.every p,
+      few-lines a.d a.l a.found.choice a.found.score a.every p,
     )
 
 pub returns : goal.returns
 returns c =
     let a = c.args in
-    ap (λ (x : AddrLayout). record { outcome = LaidOut; layout = x })
-    (laid a.d a.l a.choice a.score a.every c.requires _ _ _ c.resolve-gpios.ensures c.is_single-one.ensures c.layout-layout.ensures)
+    laid a.d a.l a.found.choice a.found.score a.every c.requires _ _ _ c.resolve-gpios.ensures c.is_single-one.ensures c.layout.ensures

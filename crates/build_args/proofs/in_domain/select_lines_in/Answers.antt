@@ -7,12 +7,12 @@ use Rattle.build_args.specs.Domain.{select_lines_in}
 use Rattle.build_args.proofs.in_domain.select_lines_in.Goals as goal
 
 pub loop-k-init : goal.loop-k-init
-loop-k-init c = (omega arith, each_none _)
+loop-k-init c = each_none _
 
 pub loop-k-preserved : goal.loop-k-preserved
 loop-k-preserved c =
-    (omega arith, rw (c.select_line_in-ok.ensures, c.line_of.ensures) (each_turn _ _ _ c.loop-k.invariant.1))
+    rw (c.select_line_in-ok.ensures, c.line_of.ensures) (each_turn _ _ _ c.loop-k.invariant)
 
 pub returns : goal.returns
 unfolding select_lines_in
-returns c = at-count_of each _ _ _ _ (omega arith) c.loop-k.invariant.1
+returns c = at-count_of each _ _ _ _ (omega arith) c.loop-k.invariant

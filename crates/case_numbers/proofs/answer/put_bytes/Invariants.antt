@@ -4,7 +4,4 @@ use Rattle.case_numbers.specs.Answer.{written, put_all}
 use Rattle.case_numbers.proofs.answer.put_bytes.Given as goal
 
 abbrev pub invariant-loop-k : goal.invariant-loop-k
-invariant-loop-k l = (l.k ≤ length l.bytes) × (written l.ours l.end ≡ put_all l.k (written l.fn.ours l.at) l.bytes)
-
-abbrev pub decreases-loop-k : goal.decreases-loop-k
-decreases-loop-k l = length l.bytes - l.k
+invariant-loop-k l = written l.ours l.end ≡ put_all l.k (written l.fn.ours l.at) l.bytes

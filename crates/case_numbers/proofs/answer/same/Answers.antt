@@ -5,8 +5,8 @@ use Rattle.case_numbers.proofs.Turns.{tested_none, tested_turn}
 use Rattle.case_numbers.proofs.answer.same.Goals as goal
 
 pub loop-k-init : goal.loop-k-init
-loop-k-init c = (omega arith, tested_none _ _)
+loop-k-init c = tested_none _ _
 
 pub loop-k-preserved : goal.loop-k-preserved
 loop-k-preserved c =
-    (omega arith, rw (c.number_at.ensures, c.number_at-in-loop-k.ensures) (tested_turn (eqb (length c.args.theirs.now) c.args.n) _ _ _ c.loop-k.invariant.1))
+    rw (c.number_at.ensures, c.number_at-in-loop-k.ensures) (tested_turn (eqb (length c.args.theirs.now) c.args.n) _ _ _ c.loop-k.invariant)

@@ -5,7 +5,4 @@ use Rattle.lists.specs.Each.{each}
 use Rattle.case_numbers.proofs.answer.same.Given as goal
 
 abbrev pub invariant-loop-k : goal.invariant-loop-k
-invariant-loop-k l = (l.k ≤ l.n) × (l.ok ≡ eqb (length l.theirs) l.n && each l.k (λ j. eqb (get_or l.theirs j 0) (get_or l.ours j 0)))
-
-abbrev pub decreases-loop-k : goal.decreases-loop-k
-decreases-loop-k l = l.n - l.k
+invariant-loop-k l = l.ok ≡ eqb (length l.theirs) l.n && each l.k (λ j. eqb (get_or l.theirs j 0) (get_or l.ours j 0))

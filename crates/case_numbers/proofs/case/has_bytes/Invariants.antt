@@ -5,7 +5,4 @@ use Rattle.lists.specs.Each.{each}
 use Rattle.case_numbers.proofs.case.has_bytes.Given as goal
 
 abbrev pub invariant-loop-k : goal.invariant-loop-k
-invariant-loop-k l = (l.k ≤ l.n) × (l.ok ≡ eqb (length l.case) l.n && each l.k (λ j. ltb (get_or l.case j 0) 256))
-
-abbrev pub decreases-loop-k : goal.decreases-loop-k
-decreases-loop-k l = l.n - l.k
+invariant-loop-k l = l.ok ≡ eqb (length l.case) l.n && each l.k (λ j. ltb (get_or l.case j 0) 256)

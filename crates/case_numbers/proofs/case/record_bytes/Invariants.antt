@@ -6,6 +6,3 @@ use Rattle.case_numbers.proofs.case.record_bytes.Given as goal
 
 abbrev pub invariant-loop-k : goal.invariant-loop-k
 invariant-loop-k l = Filled 424 (λ j. byte_at l.case (l.at + j)) l.out l.k
-
-abbrev pub decreases-loop-k : goal.decreases-loop-k
-decreases-loop-k l = 424 - l.k

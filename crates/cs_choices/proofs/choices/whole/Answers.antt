@@ -11,7 +11,7 @@ use Rattle.listing.specs.Design.Packed.{list_of}
 use Rattle.listing.specs.declared.Listed.{Listed}
 use Rattle.cs_choices.specs.Design.Parts.{parts_of, sets_of}
 use Rattle.cs_choices.specs.declared.choices.Sets.{Sets}
-use Rattle.cs_choices.proofs.Parts.{data-whole, select-whole}
+use Rattle.cs_choices.specs.Design.Laws.{data-whole, select-whole}
 use borrow.Author.Rules.{rules}
 use Rattle.cs_choices.proofs.choices.whole.Goals as goal
 

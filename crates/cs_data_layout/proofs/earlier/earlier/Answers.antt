@@ -20,8 +20,8 @@ pub returns : goal.returns
 unfolding earlier
 returns c =
     rw (
-      c.or_else-2.ensures,
-      c.or_else.ensures,
+      c.or-2.ensures,
+      c.or.ensures,
       c.pins_fault.ensures,
       c.too_large.ensures,
       c.handed.ensures,

@@ -3,7 +3,7 @@ use mathlib.Core.Path.{◌≡◌, refl, ◌∙◌}
 use mathlib.Core.List.{List}
 use Prim.Native.Nat.{ℕ, ◌+◌}
 use lib.ListN.{get_or}
-use Rattle.lists.proofs.Tab.{filled_none, filled_turn, filled}
+use Rattle.lists.proofs.Tab.{filled_none, filled_turn}
 use Rattle.slot.specs.declared.description.Description.{Description}
 use Rattle.cs_data_layout.specs.Choices.{commoned_line}
 use Rattle.cs_data_layout.specs.declared.layout.SelectLine.{SelectLine}
@@ -22,6 +22,3 @@ loop-k-preserved c =
     let i = c.loop-k.invariant in
     let a = c.args in
     (filled_turn i.0 c.loop-k-test.true (of_entry a.d a.gpios a.at c.loop-k.k _ _ c.commoned_line.ensures c.entry.ensures), i.1)
-
-pub returns : goal.returns
-returns c = filled c.loop-k.invariant.0 c.loop-k-test.false

@@ -1,5 +1,5 @@
 -- `laid_out` meets its contract. Assumes nothing.
-use mathlib.Core.Path.{◌≡◌, refl, sym, ◌∙◌, ap}
+use mathlib.Core.Path.{◌≡◌, refl, sym, ◌∙◌}
 use mathlib.Core.Bool.{Bool, true, false, cond}
 use mathlib.Core.List.{List}
 use Prim.Native.Nat.{ℕ, ◌+◌, ◌≤◌}
@@ -21,7 +21,6 @@ use Rattle.cs_verdict.specs.Verdict.{all_of, base_of}
 use Rattle.cs_choices.specs.declared.choices.Sets.{Sets}
 use Rattle.cs_data_layout.specs.Choices.{num_data, excess_set, qualifier_set, select_line, commoned_line, cs_data_layout_from, cs_data_layout_of}
 use Rattle.cs_data_layout.specs.declared.layout.CsDataLayout.{CsDataLayout}
-use Rattle.cs_data_layout.specs.declared.layout.CsDataOutcome.TheVariants.{LaidOut}
 use Rattle.cs_data_layout.proofs.layouts.laid_out.Goals as goal
 
 module _ (ls : List Listed) (c : ℕ) where
@@ -55,5 +54,4 @@ returns c =
     let a = c.args in
     let p = c.requires in
     let few : length (list_of a.l) ≤ 30 = simp (length-take, length-map) (omega arith) in
-    ap (λ (x : CsDataLayout). record { outcome = LaidOut; layout = x })
-    (laid a.d a.h (list_of a.l) a.choice _ _ _ _ _ _ few p.data_number p.excess p.lines.qualifiers c.resolve.ensures c.whole.ensures c.layout.ensures)
+    laid a.d a.h (list_of a.l) a.choice _ _ _ _ _ _ few p.data_number p.excess p.lines.qualifiers c.resolve.ensures c.whole.ensures c.layout.ensures

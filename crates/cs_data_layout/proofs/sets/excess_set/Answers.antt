@@ -3,7 +3,6 @@ use mathlib.Core.Path.{◌≡◌, refl}
 use mathlib.Core.Bool.{true}
 use Prim.Native.Nat.{ℕ, ◌<◌}
 use native.Mathlib.Omega.{arith}
-use Rattle.lists.proofs.Loops.{at-count_of}
 use Rattle.gpio.specs.Set.{set_of}
 use Rattle.gpio.proofs.Sets.{set-turn}
 use Rattle.addr_layout.specs.Layout.{layout_in}
@@ -26,6 +25,3 @@ pub loop-k-preserved : goal.loop-k-preserved
 loop-k-preserved c =
     let i = c.loop-k.invariant in
     (omega arith, i.1, i.2, i.3, set-turn _ _ _ _ _ i.4 c.excess_gpio.ensures c.with-s.ensures)
-
-pub returns : goal.returns
-returns c = let i = c.loop-k.invariant in at-count_of set_of _ _ _ _ (omega arith) i.4

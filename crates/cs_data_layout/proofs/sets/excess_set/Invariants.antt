@@ -1,7 +1,7 @@
 -- `excess_set` meets its contract. The loop's invariant: `s` has the GPIOs of the lines passed. Assumes nothing.
 use mathlib.Core.Path.{◌≡◌}
 use mathlib.Core.Bool.{true}
-use Prim.Native.Nat.{◌≤◌, ◌-◌}
+use Prim.Native.Nat.{◌≤◌}
 use Rattle.gpio.specs.Set.{set_of}
 use Rattle.addr_layout.specs.Layout.{layout_in}
 use Rattle.cs_data_layout.specs.Choices.{excess_gpio}
@@ -9,6 +9,3 @@ use Rattle.cs_data_layout.proofs.sets.excess_set.Given as goal
 
 abbrev pub invariant-loop-k : goal.invariant-loop-k
 invariant-loop-k l = (l.k ≤ l.count) × (l.count ≡ l.h.num_excess) × (l.count ≤ 24) × (layout_in l.h ≡ true) × (l.s ≡ set_of l.k (λ j. excess_gpio l.h j))
-
-abbrev pub decreases-loop-k : goal.decreases-loop-k
-decreases-loop-k l = l.count - l.k

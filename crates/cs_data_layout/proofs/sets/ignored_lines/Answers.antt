@@ -22,9 +22,6 @@ turn : (d : Description) (k kind s t : ℕ) (l : Listed) → s ≡ ignored_at d 
 unfolding ignored_at
 turn d k kind s t l e h i j = rw (j, i, h, e, add-one)
 
-done : (d : Description) (k n s : ℕ) → k ≡ n → s ≡ ignored_at d k → s ≡ ignored_at d n
-done d k n s e h = rw e at h
-
 pub loop-k-init : goal.loop-k-init
 unfolding ignored_at
 loop-k-init c = (omega arith, refl, c.requires, refl)
@@ -36,6 +33,3 @@ pub loop-k-preserved : goal.loop-k-preserved
 loop-k-preserved c =
     let i = c.loop-k.invariant in
     (omega arith, i.1, i.2, turn _ _ _ _ _ _ i.3 c.ignored_kind.ensures (c.listed-pin.ensures ∙ c.kind_listed-packed.ensures) c.with_candidates-s.ensures)
-
-pub returns : goal.returns
-returns c = let i = c.loop-k.invariant in done _ _ _ _ (omega arith) i.3

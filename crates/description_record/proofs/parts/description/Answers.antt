@@ -23,6 +23,6 @@ returns c = rw (
   c.cs_config.ensures,
   c.entry-6.ensures,
   c.multi.ensures,
-  c.eight_at.ensures,
+  c.bytes_at.ensures,
   c.entry-7.ensures,
 )

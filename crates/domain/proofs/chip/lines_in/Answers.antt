@@ -7,11 +7,11 @@ use Rattle.domain.specs.Domain.{lines_in}
 use Rattle.domain.proofs.chip.lines_in.Goals as goal
 
 pub loop-k-init : goal.loop-k-init
-loop-k-init c = (omega arith, each_none _)
+loop-k-init c = each_none _
 
 pub loop-k-preserved : goal.loop-k-preserved
-loop-k-preserved c = (omega arith, rw c.line_in-ok.ensures (each_turn _ _ _ c.loop-k.invariant.1))
+loop-k-preserved c = rw c.line_in-ok.ensures (each_turn _ _ _ c.loop-k.invariant)
 
 pub returns : goal.returns
 unfolding lines_in
-returns c = at-count_of each _ _ _ _ (omega arith) c.loop-k.invariant.1
+returns c = at-count_of each _ _ _ _ (omega arith) c.loop-k.invariant

@@ -1,7 +1,6 @@
 -- `no_candidate_above` meets its contract. The loop's invariant: `ok` says whether the pins passed have no candidate above `last`.
 -- Assumes nothing.
 use mathlib.Core.Path.{◌≡◌}
-use Prim.Native.Nat.{◌≤◌, ◌-◌}
 use Rattle.lists.specs.Each.{each}
 use lib.ListN.{get_or}
 use Rattle.gpio.specs.Candidates.{none_above}
@@ -9,7 +8,4 @@ use Rattle.slot.specs.Description.{no_pin}
 use Rattle.domain.proofs.description.no_candidate_above.Given as goal
 
 abbrev pub invariant-loop-k : goal.invariant-loop-k
-invariant-loop-k l = (l.k ≤ 40) × (l.ok ≡ each l.k (λ j. none_above l.last (get_or l.socket j no_pin).gpios))
-
-abbrev pub decreases-loop-k : goal.decreases-loop-k
-decreases-loop-k l = 40 - l.k
+invariant-loop-k l = l.ok ≡ each l.k (λ j. none_above l.last (get_or l.socket j no_pin).gpios)

@@ -1,6 +1,5 @@
 -- `socket_in` meets its contract. The loop's invariant: `ok` says whether the pins passed are in the domain. Assumes nothing.
 use mathlib.Core.Path.{◌≡◌}
-use Prim.Native.Nat.{◌≤◌, ◌-◌}
 use Rattle.lists.specs.Each.{each}
 use lib.ListN.{get_or}
 use Rattle.gpio.specs.Candidates.{candidates_in}
@@ -8,7 +7,4 @@ use Rattle.slot.specs.Description.{no_pin}
 use Rattle.domain.proofs.description.socket_in.Given as goal
 
 abbrev pub invariant-loop-k : goal.invariant-loop-k
-invariant-loop-k l = (l.k ≤ 40) × (l.ok ≡ each l.k (λ j. candidates_in (get_or l.socket j no_pin).gpios))
-
-abbrev pub decreases-loop-k : goal.decreases-loop-k
-decreases-loop-k l = 40 - l.k
+invariant-loop-k l = l.ok ≡ each l.k (λ j. candidates_in (get_or l.socket j no_pin).gpios)

@@ -1,12 +1,8 @@
 -- `each_in` meets its contract. The loop's invariant: `ok` says whether the qualifiers passed are in the domain. Assumes nothing.
 use mathlib.Core.Path.{◌≡◌}
-use Prim.Native.Nat.{◌≤◌, ◌-◌}
 use Rattle.lists.specs.Each.{each}
 use Rattle.domain.specs.Domain.{qualifier_in}
 use Rattle.domain.proofs.qualifiers.each_in.Given as goal
 
 abbrev pub invariant-loop-k : goal.invariant-loop-k
-invariant-loop-k l = (l.k ≤ l.n) × (l.ok ≡ each l.k (λ j. qualifier_in l.qualifiers l.count l.gpios l.lines j))
-
-abbrev pub decreases-loop-k : goal.decreases-loop-k
-decreases-loop-k l = l.n - l.k
+invariant-loop-k l = l.ok ≡ each l.k (λ j. qualifier_in l.qualifiers l.count l.gpios l.lines j)

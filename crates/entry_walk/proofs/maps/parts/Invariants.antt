@@ -1,7 +1,7 @@
 -- `parts` meets its contract. The loop's invariant: the tables of the maps passed stand one behind the other. Assumes nothing.
 use mathlib.Core.Path.{◌≡◌}
 use mathlib.Core.List.{List}
-use Prim.Native.Nat.{ℕ, ◌-◌, ◌*◌, ◌/◌, ◌%◌, ◌^◌, ◌≤◌, ◌<◌}
+use Prim.Native.Nat.{ℕ, ◌*◌, ◌/◌, ◌%◌, ◌^◌, ◌≤◌, ◌<◌}
 use lib.ListN.{length, get_or}
 use Rattle.entry_words.specs.Design.Reading.{part_by}
 use Rattle.entry_words.specs.declared.Map.{Map}
@@ -14,6 +14,3 @@ pub record Standing (maps : List Map) (unit : ℕ) (out : List ℕ) (k : ℕ) : 
 
 abbrev pub invariant-loop-k : goal.invariant-loop-k
 invariant-loop-k l = Standing l.maps (2 ^ l.up) l.out l.k
-
-abbrev pub decreases-loop-k : goal.decreases-loop-k
-decreases-loop-k l = 5 - l.k

@@ -8,6 +8,3 @@ use Rattle.four_calls.proofs.stored.map_of.Given as goal
 
 abbrev pub invariant-loop-k : goal.invariant-loop-k
 invariant-loop-k l = Filled 32 (λ j. cond (ltb j l.n) (get_or l.gpios j 0) 255) l.out l.k
-
-abbrev pub decreases-loop-k : goal.decreases-loop-k
-decreases-loop-k l = 32 - l.k

@@ -6,6 +6,3 @@ use Rattle.four_calls.proofs.stored.roms.Given as goal
 
 abbrev pub invariant-loop-k : goal.invariant-loop-k
 invariant-loop-k l = Filled 4 (stored_rom l.d l.a l.c) l.out l.k
-
-abbrev pub decreases-loop-k : goal.decreases-loop-k
-decreases-loop-k l = 4 - l.k

@@ -1,19 +1,13 @@
 -- `gap` meets its contract. Assumes nothing.
-use mathlib.Core.Path.{◌≡◌, sym}
+use mathlib.Core.Path.{◌≡◌}
 use Prim.Native.Nat.{ℕ, ◌+◌, ◌-◌, ◌*◌, ◌/◌, ◌%◌, ◌^◌, ◌≤◌}
 use mathlib.Core.Logic.{inl, inr}
-use native.Mathlib.Nat.{zero-mul, eq-zero-or-pos}
+use native.Mathlib.Nat.{eq-zero-or-pos}
 use native.Mathlib.Omega.{arith}
-use lib.Bits.{bit_xor, xor_zero_l}
-use Rattle.gpio.specs.Set.{lowest, end, width, gap}
+use lib.Bits.{bit_xor}
+use Rattle.gpio.specs.Set.{lowest, width, gap}
 use Rattle.gpio.proofs.Sets.{ones_shifted, run_fits}
 use Rattle.gpio.proofs.set.gap.Goals as goal
-
--- nothing from the lowest to the highest
-gap-none : (s w : ℕ) → w ≡ width s → w ≡ 0 → s ≡ gap s
-gap-none s w p q =
-    let e : end s - lowest s ≡ 0 = omega (arith, p, q) in
-    sym (rw (e, zero-mul, xor_zero_l))
 
 some : (w : ℕ) → (w ≡ 0 → ⊥) → 1 ≤ w
 some w n = elim (eq-zero-or-pos w) [ inl e ↦ absurd (n e) | inr l ↦ l ]
@@ -24,17 +18,6 @@ width-within s w low p q n = omega (arith, p, q, some w n)
 
 gap-some : (s w low : ℕ) → w ≤ 64 → w ≡ width s → low ≡ lowest s → (w ≡ 0 → ⊥) → bit_xor ((2 ^ 64 - 1) / 2 ^ (64 - w) * 2 ^ low % 2 ^ 64) s ≡ gap s
 gap-some s w low h p q n = rw (ones_shifted w h, run_fits w low (width-within s w low p q n), p, q)
-
-pub returns-then-w-eq0 : goal.returns-then-w-eq0
-returns-then-w-eq0 c = gap-none _ _ c.width-w.ensures.value c.if-w-eq0.true
-
-pub overflow_shr-all : goal.overflow_shr-all
-overflow_shr-all c = omega (arith, some _ c.if-w-eq0.false)
-
-pub overflow_shl-result : goal.overflow_shl-result
-overflow_shl-result c =
-    let n = c.if-w-eq0.false in
-    omega (arith, some _ n, width-within _ _ _ c.width-w.ensures.value c.lowest.ensures.value n)
 
 pub returns : goal.returns
 returns c = gap-some _ _ _ c.width-w.ensures.upper_bound c.width-w.ensures.value c.lowest.ensures.value c.if-w-eq0.false

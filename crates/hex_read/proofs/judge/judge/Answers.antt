@@ -2,28 +2,15 @@
 -- are counted as there are bytes passed, at most. Assumes nothing.
 use mathlib.Core.Path.{refl, sym, ◌∙◌}
 use native.Mathlib.Omega.{arith}
-use lib.Seq.{length-take-le}
-use Rattle.hex_read.proofs.Verdicts.{shorter, counted, line_faulty, line-ends, line-sound, no_line}
+use Rattle.hex_read.proofs.Verdicts.{left_none, counted, line_faulty, line-ends, line-sound, no_line}
 use Rattle.hex_read.proofs.judge.judge.Goals as goal
 
-pub loop-rest-init : goal.loop-rest-init
-loop-rest-init c = (omega arith, refl)
-
-pub slice_bounds-record-end : goal.slice_bounds-record-end
-slice_bounds-record-end c = sym (length-take-le _ _ c.first_line-first.ensures.ends)
-
 -- a line at fault
-pub returns-in-Of : goal.returns-in-Of
-returns-in-Of c =
+pub returns-in-Some : goal.returns-in-Some
+returns-in-Some c =
     let m = c.before.before.before in
     let v = m.loop-rest in
-    line_faulty _ _ _ _ _ _ _ _ m.first_line-first.ensures (sym c.line_fault.ensures ∙ c.in-Of.is) v.invariant.1
-
-pub loop-rest-smaller : goal.loop-rest-smaller
-loop-rest-smaller c =
-    let m = c.before.before.before.before.before.before in
-    let f = m.first_line-first.ensures in
-    shorter m.loop-rest.rest.now _ f.forward f.inside
+    line_faulty _ _ _ _ _ _ _ _ m.first_line-first.ensures (sym c.line_fault.ensures ∙ c.in-Some.is) v.invariant.1
 
 pub returns : goal.returns
 returns c = no_line c.loop-rest.rest.now _ _ _ _ (omega arith) c.loop-rest.invariant.1
@@ -35,7 +22,7 @@ returns-then-is_end c =
     let m = t.before.before in
     let v = m.loop-rest in
     c.behind_end.ensures
-    ∙ line-ends _ _ _ _ _ _ _ _ m.first_line-first.ensures refl (sym t.line_fault.ensures ∙ c.in-None.is)
+    ∙ line-ends _ _ _ _ _ _ _ _ m.first_line-first.ensures refl ((sym t.line_fault.ensures ∙ left_none _ c.in_default.not-Some))
     (sym c.is_end.ensures ∙ c.if-is_end.true) v.invariant.1
 
 pub loop-rest-preserved : goal.loop-rest-preserved
@@ -45,6 +32,6 @@ loop-rest-preserved c =
     let f = m.first_line-first.ensures in
     let v = m.loop-rest in (
       counted v.rest.now _ _ _ f.forward f.inside v.invariant.0,
-      line-sound _ _ _ _ _ _ _ _ _ f refl c.upper_after-upper.ensures (sym t.line_fault.ensures ∙ c.in-None.is)
+      line-sound _ _ _ _ _ _ _ _ _ f refl c.upper_after-upper.ensures ((sym t.line_fault.ensures ∙ left_none _ c.in_default.not-Some))
           (sym c.is_end.ensures ∙ c.if-is_end.false) v.invariant.1,
     )

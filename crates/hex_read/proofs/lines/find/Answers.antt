@@ -1,5 +1,5 @@
 -- `find` meets its contract. Assumes nothing.
-use Rattle.std.proofs.Common.{◌≡◌, ◌<◌, length, arith}
+use Rattle.std.proofs.Common.{arith}
 use Rattle.hex_read.proofs.Found.{found_at, found_nowhere}
 use Rattle.hex_read.proofs.lines.find.Goals as goal
 

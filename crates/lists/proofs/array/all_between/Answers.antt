@@ -1,15 +1,9 @@
 -- `all_between` meets its contract. The loop's invariant: `ok` says whether each entry passed is in range. Assumes nothing.
-use native.Mathlib.Omega.{arith}
-use Rattle.lists.specs.Each.{each}
 use Rattle.lists.proofs.Each.{each_none, each_turn}
-use Rattle.lists.proofs.Loops.{at-count_of}
 use Rattle.lists.proofs.array.all_between.Goals as goal
 
 pub loop-k-init : goal.loop-k-init
-loop-k-init c = (omega arith, each_none _)
+loop-k-init c = each_none _
 
 pub loop-k-preserved : goal.loop-k-preserved
-loop-k-preserved c = (omega arith, rw c.entry-x.ensures (each_turn _ _ _ c.loop-k.invariant.1))
-
-pub returns : goal.returns
-returns c = at-count_of each _ _ _ _ (omega arith) c.loop-k.invariant.1
+loop-k-preserved c = rw c.entry-x.ensures (each_turn _ _ _ c.loop-k.invariant)

@@ -10,6 +10,3 @@ use Rattle.pin_page.proofs.roles.mark_excess.Given as goal
 abbrev pub invariant-loop-k : goal.invariant-loop-k
 invariant-loop-k l =
     (l.k ≤ l.n) × (length l.roles ≡ length l.initial.roles) × (l.roles ≡ marked_all l.initial.roles (tab l.k (λ j. page_line role_half (get_or l.gpios (l.first + j) 0))))
-
-abbrev pub decreases-loop-k : goal.decreases-loop-k
-decreases-loop-k l = l.n - l.k

@@ -9,6 +9,3 @@ use Rattle.pin_page.proofs.roles.mark_lines.Given as goal
 abbrev pub invariant-loop-k : goal.invariant-loop-k
 invariant-loop-k l =
     (l.k ≤ l.count) × (length l.roles ≡ length l.initial.roles) × (l.roles ≡ marked_all l.initial.roles (select_lines l.c l.commoned l.k))
-
-abbrev pub decreases-loop-k : goal.decreases-loop-k
-decreases-loop-k l = l.count - l.k

@@ -1,8 +1,8 @@
 -- `hand_over` meets its contract. Assumes nothing.
 use Rattle.search_calls.proofs.cs_data.hand_over.Goals as goal
 
-pub returns-in-LaidOut : goal.returns-in-LaidOut
-returns-in-LaidOut c = rw c.in-LaidOut.is c.write.ensures
+pub returns-in-Ok : goal.returns-in-Ok
+returns-in-Ok c = rw c.in-Ok.is c.write.ensures
 
-pub returns-in-Refused : goal.returns-in-Refused
-returns-in-Refused c = rw (c.packed.ensures, c.in-Refused.is)
+pub returns-in-Err : goal.returns-in-Err
+returns-in-Err c = rw (c.packed.ensures, c.in-Err.is)

@@ -1,7 +1,5 @@
 -- `first_fault` meets its contract. The invariant: `fault` is that of the ROMs passed. Assumes nothing.
 use native.Mathlib.Omega.{arith}
-use Rattle.lists.proofs.Loops.{at-count_of}
-use Rattle.refusal.specs.First.{first_of}
 use Rattle.refusal.proofs.Firsts.{first-none, first-turn}
 use Rattle.stored_slot.proofs.roms.first_fault.Goals as goal
 
@@ -11,7 +9,4 @@ loop-k-init c = (omega arith, first-none _)
 pub loop-k-preserved : goal.loop-k-preserved
 loop-k-preserved c =
     let v = c.loop-k in
-    (omega arith, first-turn _ v.k _ _ _ v.invariant.1 c.rom_fault.ensures c.or_else-fault.ensures)
-
-pub returns : goal.returns
-returns c = at-count_of first_of _ _ _ _ (omega arith) c.loop-k.invariant.1
+    (omega arith, first-turn _ v.k _ _ _ v.invariant.1 c.rom_fault.ensures c.or-fault.ensures)

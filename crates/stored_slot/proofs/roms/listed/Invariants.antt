@@ -1,11 +1,8 @@
 -- `listed` meets its contract. The invariant: `n` is how many of the entries passed are listed. Assumes nothing.
 use mathlib.Core.Path.{◌≡◌}
-use Prim.Native.Nat.{◌≤◌, ◌-◌}
+use Prim.Native.Nat.{◌≤◌}
 use Rattle.stored_slot.specs.Stored.{map_lines}
 use Rattle.stored_slot.proofs.roms.listed.Given as goal
 
 abbrev pub invariant-loop-k : goal.invariant-loop-k
 invariant-loop-k l = (l.k ≤ 32) × (l.n ≡ map_lines l.k l.map)
-
-abbrev pub decreases-loop-k : goal.decreases-loop-k
-decreases-loop-k l = 32 - l.k

@@ -1,13 +1,9 @@
 -- `map_within` meets its contract. The invariant: `ok` says whether the GPIOs passed are in. Assumes nothing.
 use mathlib.Core.Path.{◌≡◌}
-use Prim.Native.Nat.{◌≤◌, ◌-◌}
 use lib.ListN.{get_or}
 use Rattle.lists.specs.Each.{each}
 use Rattle.stored_slot.specs.Stored.{within}
 use Rattle.stored_slot.proofs.roms.map_within.Given as goal
 
 abbrev pub invariant-loop-k : goal.invariant-loop-k
-invariant-loop-k l = (l.k ≤ l.count) × (l.ok ≡ each l.k (λ j. within l.base l.n (get_or l.map j 0)))
-
-abbrev pub decreases-loop-k : goal.decreases-loop-k
-decreases-loop-k l = l.count - l.k
+invariant-loop-k l = l.ok ≡ each l.k (λ j. within l.base l.n (get_or l.map j 0))

@@ -6,18 +6,18 @@ pub returns : goal.returns
 unfolding rom_fault
 returns c =
     rw (
-      c.or_else-3.ensures,
-      c.or_else-2.ensures,
-      c.or_else.ensures,
-      c.fault_if-count.ensures,
+      c.or-3.ensures,
+      c.or-2.ensures,
+      c.or.ensures,
+      c.then_some-count.ensures,
       c.listed.ensures.value,
-      c.fault_if-data.ensures,
+      c.then_some-data.ensures,
       c.map_within-2.ensures,
       c.data_base.ensures,
-      c.fault_if-lines.ensures,
+      c.then_some-lines.ensures,
       c.map_within.ensures,
       c.addr_base.ensures,
-      c.fault_if-missing.ensures,
+      c.then_some-missing.ensures,
       c.word_bytes-width.ensures,
       c.rom_at-rom.ensures,
     )

@@ -1,6 +1,6 @@
 -- `each_entry` meets its contract. The loop's invariant: what the next index says, and the entries passed. Assumes nothing.
 use mathlib.Core.Path.{refl, ◌∙◌}
-use Prim.Native.Nat.{◌+◌, ◌-◌, ◌*◌, ◌^◌, ◌≤◌, ◌<◌}
+use Prim.Native.Nat.{◌+◌, ◌*◌, ◌^◌, ◌≤◌, ◌<◌}
 use native.Mathlib.Omega.{arith}
 use lib.ListN.{length}
 use Rattle.word_rows.proofs.Rows.{wrote_done}
@@ -27,9 +27,6 @@ overflow_cast-source c = record { fits = omega (arith, picks c) }
 
 pub bounds-sources-picks : goal.bounds-sources-picks
 bounds-sources-picks c = picks c
-
-pub loop-q-smaller : goal.loop-q-smaller
-loop-q-smaller c = omega (arith, c.loop-q-test.true)
 
 pub shape_of-table : goal.shape_of-table
 shape_of-table c = c.loop-q.invariant.1
@@ -64,9 +61,6 @@ overflow_add-row-in-loop-q-2 c = record { fits = omega (arith, (let h : c.args.r
 
 pub next_address-picks-requires : goal.next_address-picks-requires
 next_address-picks-requires c = (c.requires.tables.picking_are.long, omega (arith, (let h : c.args.row.first + c.loop-q.q + 1 ≤ 2 ^ 20 = omega (arith, c.loop-q-test.true, c.requires.few) in h)))
-
-pub overflow_add-q : goal.overflow_add-q
-overflow_add-q c = record { fits = omega (arith, (let h : c.args.row.first + c.loop-q.q + 1 ≤ 2 ^ 20 = omega (arith, c.loop-q-test.true, c.requires.few) in h)) }
 
 pub loop-q-preserved : goal.loop-q-preserved
 loop-q-preserved c =

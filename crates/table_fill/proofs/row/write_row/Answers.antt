@@ -28,15 +28,15 @@ pub slice_bounds-write_words-end : goal.slice_bounds-write_words-end
 slice_bounds-write_words-end c = sym (let h : length c.args.w.address ≡ 24 = search rules in h)
 
 pub write_words-requires : goal.write_words-requires
-write_words-requires c = chip_row_in _ _ _ _ _ _ _ _ _ _ _ c.requires (let h : get_or c.args.picking.now 7 0 ≡ 0 = eqb-true _ _ (both _ _ c.if-one_chip-all_stand.true).0 in h) _ (let h : (n : ℕ) → n ≤ c.args.row.part.address + get_or c.args.moves.now 7 0 → bit_and n c.mask_of-mask.result < (get_or c.args.from.sources c.args.row.part.picks no_source).count = c.all_stand.ensures (both (eqb (get_or c.args.picking.now 7 0) 0) _ c.if-one_chip-all_stand.true).1 in h)
+write_words-requires c = chip_row_in _ _ _ _ _ _ _ _ _ _ _ c.requires (let h : get_or c.args.picking.now 7 0 ≡ 0 = eqb-true _ _ (both _ _ c.if-one_chip-all_stand.true).0 in h) _ (let h : (n : ℕ) → n ≤ c.args.row.part.address + get_or c.args.tables.moves.now 7 0 → bit_and n c.mask_of-mask.result < (get_or c.args.from.sources c.args.row.part.picks no_source).count = c.all_stand.ensures (both (eqb (get_or c.args.picking.now 7 0) 0) _ c.if-one_chip-all_stand.true).1 in h)
 
 pub scrambled-entry-requires : goal.scrambled-entry-requires
 scrambled-entry-requires c = (c.requires.wiring_in.bytes, c.requires.pad_short, byte-tables _ _ _ _ _ c.requires.tables)
 
 pub returns-then-one_chip-all_stand : goal.returns-then-one_chip-all_stand
 returns-then-one_chip-all_stand c =
-    chip_wrote _ _ _ _ _ _ _ _ _ _ _ c.requires (let h : get_or c.args.picking.now 7 0 ≡ 0 = eqb-true _ _ (both _ _ c.if-one_chip-all_stand.true).0 in h) _ (let h : (n : ℕ) → n ≤ c.args.row.part.address + get_or c.args.moves.now 7 0 → bit_and n c.mask_of-mask.result < (get_or c.args.from.sources c.args.row.part.picks no_source).count = c.all_stand.ensures (both (eqb (get_or c.args.picking.now 7 0) 0) _ c.if-one_chip-all_stand.true).1 in h) _ _ c.mask_of-mask.ensures
-    (λ k. omega (arith, c.shared_slice_known-5-1.given k)) c.write_words.ensures
+    chip_wrote _ _ _ _ _ _ _ _ _ _ _ c.requires (let h : get_or c.args.picking.now 7 0 ≡ 0 = eqb-true _ _ (both _ _ c.if-one_chip-all_stand.true).0 in h) _ (let h : (n : ℕ) → n ≤ c.args.row.part.address + get_or c.args.tables.moves.now 7 0 → bit_and n c.mask_of-mask.result < (get_or c.args.from.sources c.args.row.part.picks no_source).count = c.all_stand.ensures (both (eqb (get_or c.args.picking.now 7 0) 0) _ c.if-one_chip-all_stand.true).1 in h) _ _ c.mask_of-mask.ensures
+    (λ k. omega (arith, c.type_inv.images k)) c.write_words.ensures
 
 pub returns-then-one_chip-none_stand : goal.returns-then-one_chip-none_stand
 returns-then-one_chip-none_stand c =

@@ -8,6 +8,3 @@ use Rattle.unscramble.proofs.place.rom_of.Given as goal
 
 abbrev pub invariant-loop-k : goal.invariant-loop-k
 invariant-loop-k l = (l.k ≤ l.n) × (l.rom ≡ tally l.k (λ j. leb (words_before l.s (suc j)) l.f)) × (l.rom ≤ l.k)
-
-abbrev pub decreases-loop-k : goal.decreases-loop-k
-decreases-loop-k l = l.n - l.k

@@ -8,6 +8,3 @@ use Rattle.unscramble.proofs.reading.pick_positions.Given as goal
 
 abbrev pub invariant-loop-k : goal.invariant-loop-k
 invariant-loop-k l = Filled 32 (λ j. cond (ltb j 3) (stored_pick_position l.s l.set_type j) 0) l.out l.k
-
-abbrev pub decreases-loop-k : goal.decreases-loop-k
-decreases-loop-k l = 32 - l.k

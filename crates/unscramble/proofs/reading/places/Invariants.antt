@@ -7,6 +7,3 @@ use Rattle.unscramble.proofs.reading.places.Given as goal
 
 abbrev pub invariant-loop-bits : goal.invariant-loop-bits
 invariant-loop-bits l = Filled 8 (λ b. rom_place (picked_by l.set_type l.roms b)) l.out l.bits
-
-abbrev pub decreases-loop-bits : goal.decreases-loop-bits
-decreases-loop-bits l = 8 - l.bits

@@ -8,11 +8,11 @@ use Rattle.premises.specs.Wired.{apart}
 use Rattle.wired.proofs.apart.apart.Goals as goal
 
 pub loop-j-init : goal.loop-j-init
-loop-j-init c = (omega arith, each_none _)
+loop-j-init c = each_none _
 
 pub loop-j-preserved : goal.loop-j-preserved
-loop-j-preserved c = (omega arith, rw c.apart_from-ok.ensures (each_turn _ _ _ c.loop-j.invariant.1))
+loop-j-preserved c = rw c.apart_from-ok.ensures (each_turn _ _ _ c.loop-j.invariant)
 
 pub returns : goal.returns
 unfolding apart
-returns c = at-count_of each _ _ _ _ (omega arith) c.loop-j.invariant.1
+returns c = at-count_of each _ _ _ _ (omega arith) c.loop-j.invariant

@@ -7,7 +7,4 @@ use Rattle.premises.specs.Wired.{apart_from}
 use Rattle.wired.proofs.apart.apart.Given as goal
 
 abbrev pub invariant-loop-j : goal.invariant-loop-j
-invariant-loop-j l = (l.j ≤ l.n) × (l.ok ≡ each l.j (λ i. apart_from l.n (λ k. get_or l.pins (l.first + k) 0) i))
-
-abbrev pub decreases-loop-j : goal.decreases-loop-j
-decreases-loop-j l = l.n - l.j
+invariant-loop-j l = l.ok ≡ each l.j (λ i. apart_from l.n (λ k. get_or l.pins (l.first + k) 0) i)

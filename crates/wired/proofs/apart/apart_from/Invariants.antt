@@ -8,7 +8,4 @@ use Rattle.lists.specs.Each.{each}
 use Rattle.wired.proofs.apart.apart_from.Given as goal
 
 abbrev pub invariant-loop-k : goal.invariant-loop-k
-invariant-loop-k l = (l.k ≤ l.n) × (l.ok ≡ each l.k (λ i. eqb l.j i || not (eqb l.pin (get_or l.pins (l.first + i) 0))))
-
-abbrev pub decreases-loop-k : goal.decreases-loop-k
-decreases-loop-k l = l.n - l.k
+invariant-loop-k l = l.ok ≡ each l.k (λ i. eqb l.j i || not (eqb l.pin (get_or l.pins (l.first + i) 0)))

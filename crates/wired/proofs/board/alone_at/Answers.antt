@@ -8,11 +8,11 @@ use Rattle.premises.specs.Wired.{disjoint, alone_at}
 use Rattle.wired.proofs.board.alone_at.Goals as goal
 
 pub loop-j-init : goal.loop-j-init
-loop-j-init c = (omega arith, each_none _)
+loop-j-init c = each_none _
 
 pub loop-j-preserved : goal.loop-j-preserved
-loop-j-preserved c = (omega arith, rw (c.disjoint.ensures, c.board_pin-other.ensures) (each_turn _ _ _ c.loop-j.invariant.1))
+loop-j-preserved c = rw (c.disjoint.ensures, c.board_pin-other.ensures) (each_turn _ _ _ c.loop-j.invariant)
 
 pub returns : goal.returns
 unfolding alone_at
-returns c = rw (← c.board_pin-pin.ensures) (at-count_of each _ _ _ _ (omega arith) c.loop-j.invariant.1)
+returns c = rw (← c.board_pin-pin.ensures) (at-count_of each _ _ _ _ (omega arith) c.loop-j.invariant)

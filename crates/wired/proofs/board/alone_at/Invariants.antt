@@ -8,7 +8,4 @@ use Rattle.premises.specs.Wired.{board_pin, disjoint}
 use Rattle.wired.proofs.board.alone_at.Given as goal
 
 abbrev pub invariant-loop-j : goal.invariant-loop-j
-invariant-loop-j l = (l.j ≤ l.count) × (l.ok ≡ each l.j (λ k. eqb l.i k || disjoint l.pin (board_pin l.n l.b k)))
-
-abbrev pub decreases-loop-j : goal.decreases-loop-j
-decreases-loop-j l = l.count - l.j
+invariant-loop-j l = l.ok ≡ each l.j (λ k. eqb l.i k || disjoint l.pin (board_pin l.n l.b k))

@@ -8,11 +8,11 @@ use Rattle.premises.specs.Wired.{unshared_among}
 use Rattle.wired.proofs.board.unshared.Goals as goal
 
 pub loop-i-init : goal.loop-i-init
-loop-i-init c = (omega arith, each_none _)
+loop-i-init c = each_none _
 
 pub loop-i-preserved : goal.loop-i-preserved
-loop-i-preserved c = (omega arith, rw c.alone_at-ok.ensures (each_turn _ _ _ c.loop-i.invariant.1))
+loop-i-preserved c = rw c.alone_at-ok.ensures (each_turn _ _ _ c.loop-i.invariant)
 
 pub returns : goal.returns
 unfolding unshared_among
-returns c = at-count_of each _ _ _ _ (omega arith) c.loop-i.invariant.1
+returns c = at-count_of each _ _ _ _ (omega arith) c.loop-i.invariant

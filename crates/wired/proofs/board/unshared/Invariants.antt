@@ -6,7 +6,4 @@ use Rattle.premises.specs.Wired.{alone_at}
 use Rattle.wired.proofs.board.unshared.Given as goal
 
 abbrev pub invariant-loop-i : goal.invariant-loop-i
-invariant-loop-i l = (l.i ≤ l.all) × (l.ok ≡ each l.i (λ k. alone_at l.n l.b k))
-
-abbrev pub decreases-loop-i : goal.decreases-loop-i
-decreases-loop-i l = l.all - l.i
+invariant-loop-i l = l.ok ≡ each l.i (λ k. alone_at l.n l.b k)

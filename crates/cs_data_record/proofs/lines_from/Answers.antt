@@ -1,0 +1,11 @@
+-- `lines_from` meets its contract. Assumes nothing.
+use native.Mathlib.Omega.{arith}
+use lib.ListN.{length-replicate}
+use Rattle.lists.proofs.Tab.{filled_none, filled_turn}
+use Rattle.cs_data_record.proofs.lines_from.Goals as goal
+
+pub loop-k-init : goal.loop-k-init
+loop-k-init g c = filled_none (length-replicate g.row.N _)
+
+pub loop-k-preserved : goal.loop-k-preserved
+loop-k-preserved g c = filled_turn c.loop-k.invariant (omega arith) c.line_from.ensures

@@ -1,5 +1,0 @@
--- `pair_at` meets its contract. Assumes nothing.
-use Rattle.fields.proofs.candidates.pair_at.Goals as goal
-
-pub returns : goal.returns
-returns c = rw (c.pair_of.ensures, c.entry-h.ensures, c.entry-g.ensures)

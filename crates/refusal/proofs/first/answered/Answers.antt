@@ -1,8 +1,0 @@
--- `answered` meets its contract. Assumes nothing.
-use Rattle.refusal.proofs.first.answered.Goals as goal
-
-pub returns-in-None : goal.returns-in-None
-returns-in-None c = rw c.in-None.is
-
-pub returns-in-Of : goal.returns-in-Of
-returns-in-Of c = rw c.in-Of.is

@@ -1,8 +1,0 @@
--- `or_else` meets its contract. Assumes nothing.
-use Rattle.refusal.proofs.first.or_else.Goals as goal
-
-pub returns-in-Of : goal.returns-in-Of
-returns-in-Of c = rw c.in-Of.is
-
-pub returns-in-None : goal.returns-in-None
-returns-in-None c = rw c.in-None.is
