@@ -1,6 +1,6 @@
 -- The address layout record of docs/INTERFACE.md, place by place: the bytes of a layout, and the layout that bytes give.
 -- Assumes nothing.
-use Rattle.std.specs.Prelude.{◌≡◌, ℕ, ◌<◌, Bool, cond, not, ◌&&◌, ◌||◌, List, [], ◌∷◌, ◌++◌, eqb, length, Option, Some, None}
+use Rattle.std.specs.Prelude.{◌≡◌, ℕ, ◌<◌, Bool, cond, ◌&&◌, ◌||◌, List, [], ◌∷◌, ◌++◌, eqb, length, Option, Some, None}
 use Rattle.fields.specs.Fields.{byte_at, bytes_at, four_at, field}
 use Rattle.addr_layout.specs.declared.layout.AddrLayout.{AddrLayout}
 

@@ -3,7 +3,7 @@ use Rattle.std.specs.Prelude.{Ok, Err}
 use mathlib.Core.Path.{◌≡◌, refl}
 use mathlib.Core.Bool.{Bool, true, false, not, cond}
 use mathlib.Core.List.{List, [], ◌∷◌}
-use Prim.Native.Nat.{ℕ, suc, ◌^◌, ◌<◌, ◌≤◌}
+use Prim.Native.Nat.{ℕ, suc, ◌^◌, ◌<◌}
 use native.Mathlib.Omega.{arith}
 use lib.Dec.{eqb}
 use lib.ListN.{length}
@@ -14,12 +14,11 @@ use Rattle.refusal.specs.declared.Refusal.TheVariants.{OutOfDomain, BadRecord, B
 use Rattle.hex_base.specs.Size.{too_long}
 use Rattle.hex_record.specs.Record.{sum_of, shaped, is_end, past_chip, line_fault, upper_after}
 use Rattle.hex_read.specs.Lines.{lines_of}
-use Rattle.hex_read.specs.Read.{Verdict, of_line, behind_end, judged, blank, stored, read_as, read_by, verdict_of, read_of}
+use Rattle.hex_read.specs.Read.{Verdict, of_line, behind_end, judged, read_as, read_by, verdict_of, read_of}
 use Rattle.hex_write.specs.Text.{hex_text}
 use Rattle.hex_write.specs.Write.{wrote_as, written, write_of}
 use Rattle.hex_write.proofs.Length.{length_law}
 use Rattle.calls.specs.Hex.{HexUnpacks}
-use Rattle.calls.specs.Law.{Unpacks}
 use Rattle.calls.proofs.Law.{done_alone}
 use Rattle.calls.proofs.Unpacked.{number-back, place-back, written_small}
 

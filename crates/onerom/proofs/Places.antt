@@ -1,6 +1,5 @@
 -- Every refusal of a round trip is one of document 01's rows, with a place below 2^48, so that its result unpacks. Assumes nothing.
 use Rattle.std.specs.Prelude.{Result, Ok, Err, Some}
-use mathlib.Core.Bool.{true}
 use mathlib.Core.List.{List}
 use Prim.Native.Nat.{ℕ}
 use native.Mathlib.Omega.{arith}

@@ -6,7 +6,6 @@ use native.Mathlib.Omega.{arith}
 use lib.Count.{ones, ones_step, ones_cat}
 use lib.Pow.{pow_mono}
 use borrow.Author.Tests.{eqb-true, eq-eqb}
-use Rattle.build_wiring.specs.Counts.{power_of_two}
 use Rattle.rom_image.specs.Law.{PowerLaw}
 
 power_one : (k : ℕ) → ones (2 ^ k) ≡ 1

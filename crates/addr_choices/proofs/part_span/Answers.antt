@@ -5,7 +5,6 @@ use mathlib.Core.List.{List}
 use Prim.Native.Nat.{ℕ, ◌+◌, ◌<◌}
 use native.Mathlib.Numerals.{add-one}
 use native.Mathlib.Omega.{arith}
-use lib.ListN.{length, length-take, length-map}
 use Rattle.gpio.specs.Span.{widened}
 use Rattle.gpio.specs.declared.candidates.Candidates.{Candidates}
 use Rattle.gpio.specs.declared.span.Span.{Span}
@@ -14,7 +13,6 @@ use Rattle.listing.specs.Design.Packed.{list_of}
 use Rattle.listing.specs.Choice.{chosen, left_by, pin_at, rest_at, gpio_at, bit_of}
 use Rattle.listing.specs.Design.Parts.{in_part}
 use Rattle.lists.proofs.Each.{tally-none}
-use Rattle.lists.proofs.Loops.{at_count}
 use Rattle.listing.proofs.Walked.{pin_taken, rest_left, bit_served}
 use Rattle.listing.specs.declared.Listed.{Listed}
 use Rattle.listing.specs.declared.choice.Picked.{Picked}
@@ -50,10 +48,3 @@ loop-k-preserved c =
       bit_served (list_of l) v.k _ _ _ v.invariant.6 g c.bits-bit.ensures.value,
       wider _ _ _ _ _ _ _ _ _ _ _ _ _ v.invariant.5 v.invariant.6 g pick c.in_part.ensures v.invariant.7 c.widen_if-s.ensures,
     )
-
-pub returns : goal.returns
-returns c =
-    let a = c.args in
-    let v = c.loop-k in
-    let e : v.k ≡ length (list_of a.l) = simp (length-take, length-map) (omega arith) in
-    at_count (span_part_at (list_of a.l) a.every a.low a.split a.choice) v.k _ v.s e v.invariant.7

@@ -2,22 +2,17 @@
 use mathlib.Core.Path.{◌≡◌, refl}
 use mathlib.Core.List.{List, ◌++◌}
 use Prim.Native.Nat.{ℕ}
-use native.Mathlib.Omega.{arith}
 use lib.ListN.{length, drop}
 use borrow.Author.Rules.{rules}
 use Rattle.addr_layout.specs.declared.layout.AddrLayout.{AddrLayout}
 use Rattle.addr_record.specs.AddrRecord.{addr_size, addr_head, inverted_bytes, layout_bytes}
-use Rattle.fields.proofs.Parts.{room, three_parts, array_is}
+use Rattle.fields.proofs.Parts.{three_parts, array_is}
 use Rattle.addr_record.proofs.store.Goals as goal
 
 stored : (l : AddrLayout) (old new : List ℕ) → length l.gpios ≡ 24
     → new ≡ (addr_head l ++ l.gpios ++ inverted_bytes) ++ drop addr_size old → new ≡ layout_bytes l ++ drop addr_size old
 unfolding layout_bytes
 stored l old new n e = rw (array_is 0 l.gpios 24 n) e
-
-pub copy-requires-2 : goal.copy-requires-2
-copy-requires-2 c =
-    room c.args.l.gpios c.copy.new.buffer 8 24 (let h : length c.args.l.gpios ≡ 24 = search rules in h) (omega arith)
 
 pub returns : goal.returns
 returns c =

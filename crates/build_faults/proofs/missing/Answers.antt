@@ -1,8 +1,5 @@
 -- `missing` meets its contract. The invariant: `fault` is that of the chips passed. Assumes nothing.
-use Prim.Native.Nat.{◌-◌}
 use native.Mathlib.Omega.{arith}
-use Rattle.lists.proofs.Loops.{at-count_of}
-use Rattle.refusal.specs.First.{first_of}
 use Rattle.refusal.proofs.Firsts.{first-none, first-turn}
 use Rattle.build_faults.proofs.missing.Goals as goal
 
@@ -13,6 +10,3 @@ pub loop-k-preserved : goal.loop-k-preserved
 loop-k-preserved c =
     let v = c.loop-k in
     (omega arith, first-turn _ v.k _ _ _ v.invariant.1 (rw c.span_at-span.ensures at c.then_some.ensures) c.or-fault.ensures)
-
-pub returns : goal.returns
-returns c = at-count_of first_of _ _ _ _ (omega arith) c.loop-k.invariant.1

@@ -1,6 +1,6 @@
 -- `missing` meets its contract. The invariant: `fault` is that of the chips passed. Assumes nothing.
 use mathlib.Core.Path.{◌≡◌}
-use Prim.Native.Nat.{◌≤◌, ◌-◌}
+use Prim.Native.Nat.{◌≤◌}
 use Rattle.build_args.specs.Faults.{missing_at}
 use Rattle.refusal.specs.First.{first_of}
 use Rattle.build_faults.proofs.missing.Given as goal

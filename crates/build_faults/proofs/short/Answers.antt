@@ -1,8 +1,5 @@
 -- `short` meets its contract. The invariant: `fault` is that of the chips passed. Assumes nothing.
-use Prim.Native.Nat.{◌-◌}
 use native.Mathlib.Omega.{arith}
-use Rattle.lists.proofs.Loops.{at-count_of}
-use Rattle.refusal.specs.First.{first_of}
 use Rattle.refusal.proofs.Firsts.{first-none, first-turn}
 use Rattle.build_faults.proofs.short.Goals as goal
 
@@ -16,6 +13,3 @@ loop-k-preserved c =
       first-turn _ v.k _ _ _ v.invariant.1
           (rw (c.bytes_lent-lent.ensures, c.span_at.ensures, c.chip_size-size.ensures) at c.then_some.ensures) c.or-fault.ensures,
     )
-
-pub returns : goal.returns
-returns c = at-count_of first_of _ _ _ _ (omega arith) c.loop-k.invariant.1

@@ -17,6 +17,3 @@ pub returns-then-a-gt31 : goal.returns-then-a-gt31
 returns-then-a-gt31 c =
     let d = c.args.d in
     let a = c.args.a in record { value = rw (lt-ltb d.max_image_size (table_size d a) (wide a.num_addr_pins d.word_bytes d.max_image_size c.if-a-gt31.true c.requires.some_bytes c.requires.image_size)); num_addr_pins_bound = λ e. absurd (zero_one cc) }
-
-pub returns : goal.returns
-returns c = record { value = rw c.table_size.ensures.value; num_addr_pins_bound = λ e. omega arith }

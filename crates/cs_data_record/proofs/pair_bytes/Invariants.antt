@@ -1,6 +1,5 @@
 -- `pair_bytes` meets its contract. The invariant: the bytes of the first k lines are in place. Assumes nothing.
 use Prim.Native.Nat.{◌*◌}
-use lib.ListN.{length}
 use Rattle.lists.proofs.Tab.{Filled}
 use Rattle.cs_data_record.proofs.Pairs.{byte_of}
 use Rattle.cs_data_record.proofs.pair_bytes.Given as goal

@@ -9,7 +9,7 @@ use Rattle.lists.proofs.Tab.{tab-length}
 use Rattle.cs_data_layout.specs.declared.layout.CsDataLayout.{CsDataLayout}
 use Rattle.cs_data_record.specs.CsDataRecord.{cs_data_size, cs_data_head, cs_data_bytes}
 use Rattle.cs_data_record.specs.Design.Pairs.{pairs_of}
-use Rattle.fields.proofs.Parts.{room, next_part, three_parts, array_is}
+use Rattle.fields.proofs.Parts.{next_part, three_parts, array_is}
 use Rattle.cs_data_record.proofs.Pairs.{both_arrays}
 use Rattle.cs_data_record.proofs.store.Goals as goal
 
@@ -26,10 +26,6 @@ stored l old new n e =
     let front = cs_data_head l ++ l.data_pin_gpios in
     let grouped = append_assoc front (pairs_of 60 l.select_lines) (pairs_of 12 l.commoned_lines) ∙ ap (λ x. front ++ x) (both_arrays l) in
     rw (array_is 0 l.data_pin_gpios 16 n) (e ∙ ap (λ x. x ++ drop cs_data_size old) grouped)
-
-pub copy-requires-2 : goal.copy-requires-2
-copy-requires-2 c =
-    room c.args.l.data_pin_gpios c.copy.new.buffer 12 16 (let h : length c.args.l.data_pin_gpios ≡ 16 = search rules in h) (omega arith)
 
 pub returns : goal.returns
 returns c =

@@ -3,8 +3,6 @@ use mathlib.Core.Path.{◌∙◌, ap}
 use mathlib.Core.Bool.{Bool, cond}
 use Prim.Native.Nat.{◌^◌}
 use native.Mathlib.Omega.{arith}
-use Rattle.lists.proofs.Loops.{at-count_of}
-use Rattle.forced_bits.specs.Design.Forced.{mask_of}
 use Rattle.forced_bits.proofs.Loops.{mask_none, mask_turn, mask_fits}
 use Rattle.forced_bits.proofs.mask.Goals as goal
 
@@ -20,6 +18,3 @@ pub loop-p-preserved : goal.loop-p-preserved
 loop-p-preserved c =
     let added = c.bit_if-mask.ensures ∙ ap (λ (b : Bool). cond b (2 ^ c.loop-p.p) 0) c.forces.ensures in
     (omega arith, mask_turn _ _ _ _ c.loop-p.invariant.1 added)
-
-pub returns : goal.returns
-returns c = at-count_of mask_of _ _ _ _ (omega arith) c.loop-p.invariant.1

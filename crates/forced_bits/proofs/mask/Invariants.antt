@@ -1,7 +1,7 @@
 -- `mask` meets its contract. The loop's invariant: the mask of the positions passed. Assumes nothing.
 use mathlib.Core.Path.{◌≡◌}
 use mathlib.Core.Bool.{cond}
-use Prim.Native.Nat.{◌-◌, ◌≤◌}
+use Prim.Native.Nat.{◌≤◌}
 use Rattle.forced_bits.specs.Design.Forced.{mask_of, high_at, forced_at}
 use Rattle.forced_bits.proofs.mask.Given as goal
 

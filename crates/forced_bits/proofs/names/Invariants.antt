@@ -1,6 +1,5 @@
 -- `names` meets its contract. The loop's invariant: whether one of the entries passed names the GPIO. Assumes nothing.
 use mathlib.Core.Path.{◌≡◌}
-use Prim.Native.Nat.{◌-◌, ◌≤◌}
 use Rattle.stored_slot.specs.Stored.{names}
 use Rattle.forced_bits.proofs.names.Given as goal
 

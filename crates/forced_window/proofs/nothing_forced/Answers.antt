@@ -1,10 +1,9 @@
 -- `nothing_forced` meets its contract. The invariant: `ok` says whether none of the overrides passed forces. Assumes nothing.
-use Prim.Native.Nat.{◌-◌}
 use native.Mathlib.Omega.{arith}
 use Rattle.lists.specs.Each.{each}
 use Rattle.lists.proofs.Each.{each_none, each_turn}
 use Rattle.lists.proofs.Loops.{at-count_of}
-use Rattle.premises.specs.Given.{forces, nothing_forced}
+use Rattle.premises.specs.Given.{nothing_forced}
 use Rattle.forced_window.proofs.nothing_forced.Goals as goal
 
 pub loop-k-init : goal.loop-k-init

@@ -1,7 +1,6 @@
 -- `nothing_forced` meets its contract. The invariant: `ok` says whether none of the overrides passed forces. Assumes nothing.
 use mathlib.Core.Path.{◌≡◌}
 use mathlib.Core.Bool.{not}
-use Prim.Native.Nat.{◌≤◌, ◌-◌}
 use lib.ListN.{get_or}
 use Rattle.lists.specs.Each.{each}
 use Rattle.premises.specs.Given.{forces}

@@ -10,10 +10,6 @@ returns-in_err-a-clause-marks_after c =
     rw (passed.1, passed.2)
     (address_stops c.args.order c.args.d c.args.images.now c.args.spans c.args.table.now c.args.output.now c.args.marks.now _ c.derive_addr_layout.ensures _ c.in_err-a.was)
 
-pub returns-in_err-a-clause-as_demanded : goal.returns-in_err-a-clause-as_demanded
-returns-in_err-a-clause-as_demanded c =
-    demanded c.args.order c.args.d c.args.images.now c.args.spans c.args.table.now c.args.output.now c.args.marks.now (λ i. omega (arith, c.type_inv.images i)) _ _ _ _ (returns-in_err-a-clause-marks_after c)
-
 pub returns : goal.returns
 returns c =
     let e = address_goes c.args.order c.args.d c.args.images.now c.args.spans c.args.table.now c.args.output.now c.args.marks.now _ c.derive_addr_layout.ensures _ _ c.in_ok-a.was c.select_and_build.ensures in

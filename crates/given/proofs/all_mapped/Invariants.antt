@@ -1,6 +1,5 @@
 -- `all_mapped` meets its contract. The invariant: `ok` says whether the ROMs passed are as they should be. Assumes nothing.
 use mathlib.Core.Path.{◌≡◌}
-use Prim.Native.Nat.{◌≤◌, ◌-◌}
 use Rattle.lists.specs.Each.{each}
 use Rattle.premises.specs.Given.{mapped_as}
 use Rattle.given.proofs.all_mapped.Given as goal

@@ -7,7 +7,6 @@ use Rattle.refusal.specs.declared.Refusal.{Refusal}
 use Rattle.refusal.specs.declared.Refusal.TheVariants.{OutOfDomain}
 use Rattle.lists.proofs.Bools.{and_left}
 use Rattle.addr_record.proofs.Long.{formed-long}
-use Rattle.rom_image.specs.Build.{Built}
 use Rattle.calls.specs.Order.{order_at}
 use Rattle.calls.specs.Calls.{returned, build_from, build_refused, build_call, build_result}
 use Rattle.onerom.proofs.Records.{taken, no_record, passed, formed, not-formed}

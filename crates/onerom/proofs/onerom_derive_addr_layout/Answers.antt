@@ -10,7 +10,7 @@ use Rattle.refusal.specs.declared.Refusal.{Refusal}
 use Rattle.addr_layout.specs.Search.{addr_answer}
 use Rattle.addr_layout.specs.declared.layout.AddrLayout.{AddrLayout}
 use Rattle.calls.specs.Calls.{returned, search_result, call_refused, addr_found, addr_call}
-use Rattle.onerom.proofs.Records.{described_so, not-described, passed}
+use Rattle.onerom.proofs.Records.{described_so, not-described}
 use Rattle.onerom.proofs.onerom_derive_addr_layout.Goals as goal
 
 searched : (b buffer : List ℕ) (t : Bool) → t ≡ well_formed b → not t ≡ false → (d : Description) → d ≡ described b → (a : Result AddrLayout Refusal) → a ≡ addr_answer d
@@ -27,9 +27,6 @@ returns-then-not-formed c =
     ∙ ap search_result
     (not-described (λ d. addr_found (addr_answer d) c.args.layout.now) (λ why. call_refused why c.args.layout.now) c.args.description.now _
     c.formed.ensures (ap not c.if-not-formed.true))
-
-pub description_at-d-requires : goal.description_at-d-requires
-description_at-d-requires c = passed _ _ c.formed.ensures (ap not c.if-not-formed.false)
 
 pub returns : goal.returns
 returns c =

@@ -13,7 +13,7 @@ use Rattle.cs_data_layout.specs.Search.{cs_data_answer}
 use Rattle.cs_data_layout.specs.declared.layout.CsDataLayout.{CsDataLayout}
 use Rattle.addr_record.specs.AddrRecord.{given_at}
 use Rattle.calls.specs.Calls.{returned, search_result, call_refused, if_record, cs_data_found, cs_data_call}
-use Rattle.onerom.proofs.Records.{described_so, not-described, passed, formed, not-formed}
+use Rattle.onerom.proofs.Records.{described_so, not-described, formed, not-formed}
 use Rattle.onerom.proofs.onerom_derive_cs_data_layout.Goals as goal
 
 searched : (b l buffer : List ℕ) (t : Bool) → t ≡ well_formed b → not t ≡ false → (d : Description) → d ≡ described b → (g : Option AddrLayout) → g ≡ given_at l
@@ -35,12 +35,6 @@ returns-then-not-formed c =
     ∙ ap search_result
     (not-described (λ d. cs_data_found (cs_data_answer d (given_at c.args.addr_layout.now)) c.args.layout.now) (λ why. call_refused why c.args.layout.now) c.args.description.now _ c.formed.ensures (ap not c.if-not-formed.true)
     ∙ formed _ _ _ _ c.given_formed.ensures (ap not c.if-not-given_formed.false))
-
-pub description_at-d-requires : goal.description_at-d-requires
-description_at-d-requires c = passed _ _ c.formed.ensures (ap not c.if-not-formed.false)
-
-pub given_at-requires : goal.given_at-requires
-given_at-requires c = passed _ _ c.given_formed.ensures (ap not c.if-not-given_formed.false)
 
 pub returns : goal.returns
 unfolding cs_data_call

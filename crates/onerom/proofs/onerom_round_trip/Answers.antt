@@ -8,9 +8,9 @@ use Prim.Native.Nat.{ℕ}
 use Rattle.slot.specs.declared.description.Description.{Description}
 use Rattle.refusal.specs.declared.Refusal.{Refusal}
 use Rattle.refusal.specs.declared.Refusal.TheVariants.{OutOfDomain}
-use Rattle.round_trip.specs.Chain.{Trip, stopped}
+use Rattle.round_trip.specs.Chain.{stopped}
 use Rattle.calls.specs.Order.{order_at}
-use Rattle.onerom.specs.Trip.{TripReturned, trip_returned, trip_from, trip_call, trip_result}
+use Rattle.onerom.specs.Trip.{trip_returned, trip_from, trip_call, trip_result}
 use Rattle.onerom.proofs.Records.{taken, no_record, formed, not-formed}
 use Rattle.onerom.proofs.onerom_round_trip.Goals as goal
 

@@ -1,6 +1,6 @@
 -- `put_rows` meets its contract. The loop's invariant: the rows passed are laid over the page. Assumes nothing.
 use mathlib.Core.Path.{◌≡◌}
-use Prim.Native.Nat.{◌-◌, ◌≤◌}
+use Prim.Native.Nat.{◌≤◌}
 use lib.ListN.{length, get_or}
 use Rattle.lists.specs.Tab.{joined}
 use Rattle.laid_bytes.specs.Laid.{laid}

@@ -2,10 +2,6 @@
 use mathlib.Core.Path.{◌≡◌, sym, ◌∙◌}
 use mathlib.Core.Bool.{true}
 use native.Mathlib.Omega.{arith}
-use borrow.Author.Tests.{not-true, not-false}
-use Rattle.lists.proofs.Bools.{and_right}
-use Rattle.addr_layout.specs.Layout.{layout_in}
-use Rattle.build_args.specs.Domain.{cs_data_in}
 use Rattle.pin_page.specs.Page.{layouts_in}
 use Rattle.pin_page.proofs.Writes.{roles_in, writes_none, writes_short, writes_all}
 use Rattle.pin_page.proofs.write_page.Goals as goal
@@ -15,10 +11,6 @@ returns-then-not-layouts_in c = writes_none _ _ _ (sym c.layouts_in.ensures ∙ 
 
 pub returns-then-page-lt-SIZE : goal.returns-then-page-lt-SIZE
 returns-then-page-lt-SIZE c = writes_short c.args.addr c.args.cs_data _ (let h : layouts_in c.args.addr c.args.cs_data ≡ true = sym c.layouts_in.ensures ∙ c.if-not-layouts_in.false in h) (omega arith)
-
-pub page_roles-roles-requires : goal.page_roles-roles-requires
-page_roles-roles-requires c =
-    and_right (layout_in c.args.addr) (cs_data_in c.args.cs_data) (let h : layouts_in c.args.addr c.args.cs_data ≡ true = sym c.layouts_in.ensures ∙ c.if-not-layouts_in.false in h)
 
 pub put_rows-requires : goal.put_rows-requires
 put_rows-requires c =

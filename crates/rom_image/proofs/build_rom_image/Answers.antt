@@ -50,17 +50,6 @@ pub returns-then-not-in_domain : goal.returns-then-not-in_domain
 returns-then-not-in_domain c =
     outside c.args.order c.args.b c.args.images.now c.args.table.now _ c.in_domain.ensures (ap not c.if-not-in_domain.true)
 
-pub build_fault-requires : goal.build_fault-requires
-build_fault-requires c =
-    inside c.args.order c.args.b c.args.images.now c.args.table.now _ c.in_domain.ensures (ap not c.if-not-in_domain.false)
-
-pub fill-requires : goal.fill-requires
-fill-requires c =
-    record {
-      domain = inside c.args.order c.args.b c.args.images.now c.args.table.now _ c.in_domain.ensures (ap not c.if-not-in_domain.false);
-      no_fault = sym c.build_fault.ensures ∙ c.in-None.is;
-    }
-
 pub returns-in-Some : goal.returns-in-Some
 returns-in-Some c =
     refused-for c.args.order c.args.b c.args.images.now c.args.table.now _ c.in_domain.ensures

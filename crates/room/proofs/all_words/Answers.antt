@@ -1,8 +1,5 @@
 -- `all_words` meets its contract. The invariant: `words` is those of the chips passed. Assumes nothing.
-use Prim.Native.Nat.{◌-◌}
 use native.Mathlib.Omega.{arith}
-use Rattle.lists.proofs.Loops.{at_count}
-use Rattle.premises.specs.Room.{words_to}
 use Rattle.room.proofs.Words.{words-none, words-turn}
 use Rattle.room.proofs.all_words.Goals as goal
 
@@ -13,8 +10,3 @@ pub loop-k-preserved : goal.loop-k-preserved
 loop-k-preserved c =
     let v = c.loop-k in
     (omega arith, words-turn _ _ v.k _ _ v.invariant.1 c.chip_words-words.ensures.value, omega arith)
-
-pub returns : goal.returns
-returns c =
-    let v = c.loop-k in
-    record { value = at_count (words_to _ _) v.k _ _ (omega arith) v.invariant.1; upper_bound = omega arith }

@@ -1,6 +1,6 @@
 -- `all_words` meets its contract. The invariant: `words` is those of the chips passed. Assumes nothing.
 use mathlib.Core.Path.{◌≡◌}
-use Prim.Native.Nat.{◌≤◌, ◌-◌, ◌*◌, ◌^◌}
+use Prim.Native.Nat.{◌≤◌, ◌*◌, ◌^◌}
 use Rattle.premises.specs.Room.{words_to}
 use Rattle.room.proofs.all_words.Given as goal
 

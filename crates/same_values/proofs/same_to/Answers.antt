@@ -1,5 +1,4 @@
 -- `same_to` meets its contract. The invariant: `ok` says whether the entries passed are the same. Assumes nothing.
-use Prim.Native.Nat.{◌-◌}
 use native.Mathlib.Omega.{arith}
 use Rattle.lists.specs.Each.{each}
 use Rattle.lists.proofs.Each.{each_none, each_turn}

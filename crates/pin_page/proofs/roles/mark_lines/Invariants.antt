@@ -1,6 +1,6 @@
 -- `mark_lines` meets its contract. The loop's invariant: the lines passed are marked. Assumes nothing.
 use mathlib.Core.Path.{◌≡◌}
-use Prim.Native.Nat.{◌-◌, ◌≤◌}
+use Prim.Native.Nat.{◌≤◌}
 use lib.ListN.{length}
 use Rattle.pin_page.specs.Roles.{select_lines}
 use Rattle.pin_page.specs.Design.Marks.{marked_all}

@@ -1,6 +1,6 @@
 -- `mark_numbered` meets its contract. The loop's invariant: the lines passed are marked. Assumes nothing.
 use mathlib.Core.Path.{◌≡◌}
-use Prim.Native.Nat.{◌+◌, ◌-◌, ◌≤◌}
+use Prim.Native.Nat.{◌+◌, ◌≤◌}
 use lib.ListN.{length, get_or}
 use Rattle.lists.specs.Tab.{tab}
 use Rattle.pin_page.specs.Roles.{page_line}

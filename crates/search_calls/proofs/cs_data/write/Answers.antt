@@ -1,13 +1,10 @@
 -- `write` meets its contract. Assumes nothing.
 use native.Mathlib.Omega.{arith}
 use lib.ListN.{length}
-use borrow.Author.Tests.{lt-ltb, le-ltb}
+use borrow.Author.Tests.{le-ltb}
 use Rattle.cs_data_record.specs.CsDataRecord.{cs_data_size}
 use Rattle.calls.specs.Packed.{packed_code}
 use Rattle.search_calls.proofs.cs_data.write.Goals as goal
-
-pub returns-then-buffer-lt-SIZE : goal.returns-then-buffer-lt-SIZE
-returns-then-buffer-lt-SIZE c = rw (c.packed.ensures, lt-ltb (length c.args.buffer.now) cs_data_size (omega arith))
 
 pub returns : goal.returns
 unfolding packed_code

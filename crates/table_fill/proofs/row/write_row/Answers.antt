@@ -1,11 +1,10 @@
 -- `write_row` meets its contract. Assumes nothing.
-use mathlib.Core.Path.{◌≡◌, sym}
+use mathlib.Core.Path.{◌≡◌}
 use Prim.Native.Nat.{ℕ, ◌+◌, ◌≤◌, ◌<◌}
 use native.Mathlib.Omega.{arith}
 use lib.Bits.{bit_and}
 use lib.Dec.{eqb}
-use lib.ListN.{length, get_or}
-use borrow.Author.Rules.{rules}
+use lib.ListN.{get_or}
 use borrow.Author.Tests.{eqb-true}
 use Rattle.lists.proofs.Bools.{both}
 use Rattle.table_fill.specs.Design.Entries.{no_source}
@@ -14,18 +13,11 @@ use Rattle.table_fill.proofs.OneChip.{chip_row_in, chip_wrote, pads_wrote}
 use Rattle.table_fill.proofs.row.write_row.Goals.{Start}
 use Rattle.table_fill.proofs.row.write_row.Goals as goal
 
--- the address lines have 24 places
-places : (s : Start) → length s.args.w.address ≡ 24
-places s = search rules
-
 pub bounds-sources-row : goal.bounds-sources-row
 bounds-sources-row c = first_picks_eight _ _ _ _ _ _ _ _ _ _ _ c.requires
 
 pub overflow_add-row : goal.overflow_add-row
 overflow_add-row c = record { fits = omega (arith, highest_lt _ _ _ _ _ _ _ _ _ _ _ c.requires) }
-
-pub slice_bounds-write_words-end : goal.slice_bounds-write_words-end
-slice_bounds-write_words-end c = sym (let h : length c.args.w.address ≡ 24 = search rules in h)
 
 pub write_words-requires : goal.write_words-requires
 write_words-requires c = chip_row_in _ _ _ _ _ _ _ _ _ _ _ c.requires (let h : get_or c.args.picking.now 7 0 ≡ 0 = eqb-true _ _ (both _ _ c.if-one_chip-all_stand.true).0 in h) _ (let h : (n : ℕ) → n ≤ c.args.row.part.address + get_or c.args.tables.moves.now 7 0 → bit_and n c.mask_of-mask.result < (get_or c.args.from.sources c.args.row.part.picks no_source).count = c.all_stand.ensures (both (eqb (get_or c.args.picking.now 7 0) 0) _ c.if-one_chip-all_stand.true).1 in h)

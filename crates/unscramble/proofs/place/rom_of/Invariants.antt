@@ -1,6 +1,6 @@
 -- `rom_of` meets its contract. The invariant: `rom` is how many of the ROMs passed end before the word. Assumes nothing.
 use mathlib.Core.Path.{◌≡◌}
-use Prim.Native.Nat.{suc, ◌≤◌, ◌-◌}
+use Prim.Native.Nat.{suc, ◌≤◌}
 use lib.Dec.{leb}
 use Rattle.lists.specs.Each.{tally}
 use Rattle.stored_slot.specs.Words.{words_before}

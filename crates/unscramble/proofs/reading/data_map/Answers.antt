@@ -28,8 +28,3 @@ pub returns-in-LowFirst : goal.returns-in-LowFirst
 returns-in-LowFirst c =
     let a = c.args in
     low a.s a.k _ _ _ c.rom_at-rom.ensures c.data_base.ensures c.place_map-map.ensures _ c.in-LowFirst.is
-
-pub returns-in-HighFirst : goal.returns-in-HighFirst
-returns-in-HighFirst c =
-    let a = c.args in
-    high a.s a.k _ _ _ c.rom_at-rom.ensures c.data_base.ensures c.place_map-map.ensures _ _ c.in-HighFirst.is c.high_first.ensures

@@ -1,6 +1,5 @@
 -- `pick_positions` meets its contract. The loop's invariant: the positions of the lines passed are in place. Assumes nothing.
 use mathlib.Core.Bool.{cond}
-use Prim.Native.Nat.{◌-◌}
 use lib.Dec.{ltb}
 use Rattle.lists.proofs.Tab.{Filled}
 use Rattle.stored_slot.specs.Words.{stored_pick_position}

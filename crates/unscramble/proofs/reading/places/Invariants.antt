@@ -1,5 +1,4 @@
 -- `places` meets its contract. The loop's invariant: the places of the bits passed are in place. Assumes nothing.
-use Prim.Native.Nat.{◌-◌}
 use Rattle.lists.proofs.Tab.{Filled}
 use Rattle.picks.specs.Picks.{picked_by}
 use Rattle.unscramble.specs.Design.Reading.{rom_place}

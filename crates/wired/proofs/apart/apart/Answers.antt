@@ -1,5 +1,4 @@
 -- `apart` meets its contract. The invariant: `ok` says whether each line passed lies on a pin of its own. Assumes nothing.
-use Prim.Native.Nat.{◌-◌}
 use native.Mathlib.Omega.{arith}
 use Rattle.lists.specs.Each.{each}
 use Rattle.lists.proofs.Each.{each_none, each_turn}

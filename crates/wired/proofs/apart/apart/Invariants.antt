@@ -1,6 +1,6 @@
 -- `apart` meets its contract. The invariant: `ok` says whether each line passed lies on a pin of its own. Assumes nothing.
 use mathlib.Core.Path.{◌≡◌}
-use Prim.Native.Nat.{◌+◌, ◌≤◌, ◌-◌}
+use Prim.Native.Nat.{◌+◌}
 use lib.ListN.{get_or}
 use Rattle.lists.specs.Each.{each}
 use Rattle.premises.specs.Wired.{apart_from}

@@ -1,5 +1,4 @@
 -- `apart_from` meets its contract. The invariant: `ok` says whether the lines passed lie on other pins. Assumes nothing.
-use Prim.Native.Nat.{◌-◌}
 use native.Mathlib.Omega.{arith}
 use Rattle.lists.specs.Each.{each}
 use Rattle.lists.proofs.Each.{each_none, each_turn}

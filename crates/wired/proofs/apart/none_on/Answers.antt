@@ -1,5 +1,4 @@
 -- `none_on` meets its contract. The invariant: `ok` says whether none of the lines passed lies on the pin. Assumes nothing.
-use Prim.Native.Nat.{◌-◌}
 use native.Mathlib.Omega.{arith}
 use Rattle.lists.specs.Each.{each}
 use Rattle.lists.proofs.Each.{each_none, each_turn}

@@ -1,10 +1,9 @@
 -- `alone_at` meets its contract. The invariant: `ok` says whether the pin shares no candidate with the pins passed. Assumes nothing.
-use Prim.Native.Nat.{◌-◌}
 use native.Mathlib.Omega.{arith}
 use Rattle.lists.specs.Each.{each}
 use Rattle.lists.proofs.Each.{each_none, each_turn}
 use Rattle.lists.proofs.Loops.{at-count_of}
-use Rattle.premises.specs.Wired.{disjoint, alone_at}
+use Rattle.premises.specs.Wired.{alone_at}
 use Rattle.wired.proofs.board.alone_at.Goals as goal
 
 pub loop-j-init : goal.loop-j-init

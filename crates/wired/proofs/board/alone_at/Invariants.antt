@@ -1,7 +1,6 @@
 -- `alone_at` meets its contract. The invariant: `ok` says whether the pin shares no candidate with the pins passed. Assumes nothing.
 use mathlib.Core.Path.{◌≡◌}
 use mathlib.Core.Bool.{◌||◌}
-use Prim.Native.Nat.{◌≤◌, ◌-◌}
 use lib.Dec.{eqb}
 use Rattle.lists.specs.Each.{each}
 use Rattle.premises.specs.Wired.{board_pin, disjoint}

@@ -1,6 +1,5 @@
 -- `unshared` meets its contract. The invariant: `ok` says whether the pins passed share no candidate. Assumes nothing.
 use mathlib.Core.Path.{◌≡◌}
-use Prim.Native.Nat.{◌≤◌, ◌-◌}
 use Rattle.lists.specs.Each.{each}
 use Rattle.premises.specs.Wired.{alone_at}
 use Rattle.wired.proofs.board.unshared.Given as goal

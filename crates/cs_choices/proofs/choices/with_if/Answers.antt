@@ -1,8 +1,0 @@
--- `with_if` meets its contract. Assumes nothing.
-use Rattle.cs_choices.proofs.choices.with_if.Goals as goal
-
-pub returns-then-wanted : goal.returns-then-wanted
-returns-then-wanted c = rw c.if-wanted.true c.with.ensures
-
-pub returns-else-wanted : goal.returns-else-wanted
-returns-else-wanted c = rw c.if-wanted.false

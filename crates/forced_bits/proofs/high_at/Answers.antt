@@ -1,5 +1,0 @@
--- `high_at` meets its contract. Assumes nothing.
-use Rattle.forced_bits.proofs.high_at.Goals as goal
-
-pub returns : goal.returns
-returns c = rw c.addr_base.ensures at c.names.ensures

@@ -1,5 +1,0 @@
--- `alg_data` meets its contract. Assumes nothing.
-use Rattle.stored_record.proofs.parts.alg_data.Goals as goal
-
-pub returns : goal.returns
-returns c = rw (c.entry-3.ensures, c.entry-2.ensures, c.entry.ensures)

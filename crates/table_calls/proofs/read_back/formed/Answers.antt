@@ -1,5 +1,0 @@
--- `formed` meets its contract. Assumes nothing.
-use Rattle.table_calls.proofs.read_back.formed.Goals as goal
-
-pub returns : goal.returns
-returns c = rw (c.formed-2.ensures, c.formed.ensures)
