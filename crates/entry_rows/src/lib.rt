@@ -33,6 +33,41 @@ fn said(low_bytes: &[u32], high_bytes: &[u32], rom: u8, entry: u32) -> u32
     low_bytes[low] + high_bytes[high]
 }
 
+// Reads the entries of a row, of W bytes each, up to the first that disagrees: a width that is known costs no loop at an entry.
+fn read_row_of<const W: usize>(
+    r: Reading,
+    row: Row,
+    lows: &[u32],
+    low_bytes: &[u32],
+    high_bytes: &[u32],
+    stored: &[u8],
+    output: &mut [u8],
+    marks: &mut [u8],
+) -> Result<(), u32>
+    requires width { W ≡ r.word_bytes }
+    requires onward { OnwardRow r row lows.now low_bytes.now high_bytes.now stored.now output.old marks.old }
+    ensures { ReadBy r stored.now (row.start + row.count)
+        output.old marks.old result output.new marks.new }
+{
+    let roms = r.roms;
+    let extents = r.extents;
+    let high = row.high;
+    for low in 0..row.count {
+        let i = row.start + low;
+        let rom = roms[(lows[1024 + low as usize] + high[4]) as usize];
+        let address = lows[rom as usize * 256 + low as usize] + high[rom as usize];
+        let counts = unforced(i, r.forced, r.forced_high);
+        let f = word_for(extents[rom as usize], counts, address, r.words);
+        if f < r.words {
+            let entry = word_at(stored, i as usize * W, W);
+            if !keep(output, marks, W, f, said(low_bytes, high_bytes, rom, entry)) {
+                return Err(f);
+            }
+        }
+    }
+    Ok(())
+}
+
 // Reads the entries of a row up to the first that disagrees.
 pub fn read_row(
     r: Reading,
@@ -48,22 +83,9 @@ pub fn read_row(
     ensures { ReadBy r stored.now (row.start + row.count)
         output.old marks.old result output.new marks.new }
 {
-    let w = r.word_bytes as usize;
-    let roms = r.roms;
-    let extents = r.extents;
-    let high = row.high;
-    for low in 0..row.count {
-        let i = row.start + low;
-        let rom = roms[(lows[1024 + low as usize] + high[4]) as usize];
-        let address = lows[rom as usize * 256 + low as usize] + high[rom as usize];
-        let counts = unforced(i, r.forced, r.forced_high);
-        let f = word_for(extents[rom as usize], counts, address, r.words);
-        if f < r.words {
-            let entry = word_at(stored, i as usize * w, w);
-            if !keep(output, marks, w, f, said(low_bytes, high_bytes, rom, entry)) {
-                return Err(f);
-            }
-        }
+    match r.word_bytes {
+        1 => read_row_of::<1>(r, row, lows, low_bytes, high_bytes, stored, output, marks),
+        2 => read_row_of::<2>(r, row, lows, low_bytes, high_bytes, stored, output, marks),
+        _ => read_row_of::<0>(r, row, lows, low_bytes, high_bytes, stored, output, marks),
     }
-    Ok(())
 }

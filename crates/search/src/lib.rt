@@ -21,8 +21,8 @@ pub fn better(found: Option<Found>, choice: u32, trial: Option<u32>) -> Option<F
         None => found,
         Some(score) => match found {
             None => Some(Found { choice, score }),
-            Some(best) => {
-                if score < best.score {
+            Some(Found { score: lowest, .. }) => {
+                if score < lowest {
                     Some(Found { choice, score })
                 } else {
                     found

@@ -71,8 +71,8 @@ fn row_passed<C: InRows>(
     let count = 1u32 << split;
     let high = choices.part(false, split, first);
     let mut state = before;
-    for q in 0..count {
-        state = choices.step(state, first + q, lows[q as usize], high);
+    for choice in first..first + count {
+        state = choices.step(state, choice, lows[(choice - first) as usize], high);
     }
     state
 }

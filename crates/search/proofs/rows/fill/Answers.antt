@@ -3,7 +3,7 @@ use mathlib.Core.Path.{refl}
 use native.Mathlib.Omega.{arith}
 use Rattle.lists.proofs.Shifts.{shifted_one}
 use Rattle.lists.proofs.Tab.{filled_none, filled_turn}
-use Rattle.search.proofs.Passed.{row-short}
+use Rattle.search.proofs.Taken.{row-short}
 use Rattle.search.proofs.rows.fill.Goals as goal
 
 pub loop-q-init : goal.loop-q-init

@@ -1,4 +1,4 @@
--- `read_row` meets its contract. The loop's invariant: the entries passed are read, and none of them disagrees. Assumes nothing.
+-- `read_row_of` meets its contract. The loop's invariant: the entries passed are read, and none of them disagrees. Assumes nothing.
 use mathlib.Core.Path.{◌≡◌, refl, ◌∙◌}
 use mathlib.Core.List.{List}
 use Prim.Native.Nat.{ℕ, ◌+◌, ◌^◌, ◌<◌}
@@ -12,8 +12,8 @@ use Rattle.entry_rows.specs.Design.Held.{Held, OnwardRow}
 use Rattle.entry_rows.specs.declared.Row.{Row}
 use Rattle.entry_rows.proofs.Lookups.{Looked, rom_found, value_found, low-few, lows_long, low_bytes_long, high_bytes_long, bits_in, rom_in, address_in, word_looked, value_looked, value_in}
 use Rattle.entry_rows.proofs.Held.{Entry, held_skip, held_keep, held_bad, held_same}
-use Rattle.entry_rows.proofs.read_row.Goals.{then-f-r+else-not-keep, else-f-r}
-use Rattle.entry_rows.proofs.read_row.Goals as goal
+use Rattle.entry_rows.proofs.read_row_of.Goals.{then-f-r+else-not-keep, else-f-r}
+use Rattle.entry_rows.proofs.read_row_of.Goals as goal
 
 module _ {r : Reading} {row : Row} {lows low-bytes high-bytes stored output marks : List ℕ} {low : ℕ} (p : OnwardRow r row lows low-bytes high-bytes stored output marks) (l : low < row.count) where
   -- what is looked up of the index
@@ -36,46 +36,46 @@ module _ {r : Reading} {row : Row} {lows low-bytes high-bytes stored output mark
   }
 
 pub bounds-lows-low : goal.bounds-lows-low
-bounds-lows-low c = let l = looked c.requires c.loop-low-test.true in omega (arith, low-few l, lows_long l)
+bounds-lows-low g c = let l = looked c.requires.onward c.loop-low-test.true in omega (arith, low-few l, lows_long l)
 
 pub overflow_add-rom-in-loop-low : goal.overflow_add-rom-in-loop-low
-overflow_add-rom-in-loop-low c = record { fits = omega (arith, bits_in (looked c.requires c.loop-low-test.true)) }
+overflow_add-rom-in-loop-low g c = record { fits = omega (arith, bits_in (looked c.requires.onward c.loop-low-test.true)) }
 
 pub bounds-roms-lows : goal.bounds-roms-lows
-bounds-roms-lows c = bits_in (looked c.requires c.loop-low-test.true)
+bounds-roms-lows g c = bits_in (looked c.requires.onward c.loop-low-test.true)
 
 pub bounds-lows-rom : goal.bounds-lows-rom
-bounds-lows-rom c = let l = looked c.requires c.loop-low-test.true in omega (arith, rom_in l, low-few l, lows_long l)
+bounds-lows-rom g c = let l = looked c.requires.onward c.loop-low-test.true in omega (arith, rom_in l, low-few l, lows_long l)
 
 pub overflow_add-address-in-loop-low : goal.overflow_add-address-in-loop-low
-overflow_add-address-in-loop-low c = record { fits = omega (arith, address_in (looked c.requires c.loop-low-test.true)) }
+overflow_add-address-in-loop-low g c = record { fits = omega (arith, address_in (looked c.requires.onward c.loop-low-test.true)) }
 
 pub said-requires : goal.said-requires
-said-requires c =
-    let l = looked c.requires c.loop-low-test.true in
-    let short = word-short _ _ l.reading.bytes c.word_at-entry.ensures.upper_bound in
-    record { rom_bound = (rom_in l, short, low_bytes_long l, high_bytes_long l); bound = value_in l _ _ c.word_at-entry.ensures.value short }
+said-requires g c =
+    let l = looked c.requires.onward c.loop-low-test.true in
+    let short = word-short _ _ l.reading.bytes (rw c.requires.width at c.word_at-entry.ensures.upper_bound) in
+    record { rom_bound = (rom_in l, short, low_bytes_long l, high_bytes_long l); bound = value_in l _ _ (rw c.requires.width at c.word_at-entry.ensures.value) short }
 
 pub returns-then-not-keep : goal.returns-then-not-keep
-returns-then-not-keep c =
-    let l = looked c.requires c.loop-low-test.true in
-    let short = word-short _ _ l.reading.bytes c.word_at-entry.ensures.upper_bound in
+returns-then-not-keep g c =
+    let l = looked c.requires.onward c.loop-low-test.true in
+    let short = word-short _ _ l.reading.bytes (rw c.requires.width at c.word_at-entry.ensures.upper_bound) in
     let for = rw c.unforced-counts.ensures at c.word_for-f.ensures ∙ word_looked l _ _ refl refl in
-    let e = entry c.requires c.loop-low-test.true c.loop-low.invariant.1 for c.word_at-entry.ensures.value short c.said.ensures c.if-f-r.true in
-    held_bad e _ _ (c.args.row.start + c.args.row.count) (omega arith) (rw c.if-not-keep.true at c.keep.ensures)
+    let e = entry c.requires.onward c.loop-low-test.true c.loop-low.invariant.1 for (rw c.requires.width at c.word_at-entry.ensures.value) short c.said.ensures c.if-f-r.true in
+    held_bad e _ _ (c.args.row.start + c.args.row.count) (omega arith) (rw (c.if-not-keep.true, c.requires.width) at c.keep.ensures)
 
 -- an entry that is for a word and agrees, and one that is for none
 pub loop-low-preserved : goal.loop-low-preserved
-loop-low-preserved c =
-    let l = looked c.requires c.loop-low-test.true in
+loop-low-preserved g c =
+    let l = looked c.requires.onward c.loop-low-test.true in
     let n = c.args.row.start + (c.loop-low.low + 1) in
     let for = rw c.unforced-counts.ensures at c.word_for-f.ensures ∙ word_looked l _ _ refl refl in (
       omega arith,
       elim c.if-f-r.branch [
         | then-f-r+else-not-keep w ↦
-            let short = word-short _ _ l.reading.bytes w.word_at-entry.ensures.upper_bound in
-            let e = entry c.requires c.loop-low-test.true c.loop-low.invariant.1 for w.word_at-entry.ensures.value short w.said.ensures w.if-f-r.true in
-            held_same (held_keep e _ _ n (omega arith) w.keep.auto.output w.keep.auto.marks (rw w.if-not-keep.false at w.keep.ensures)) _ _ w.output-is w.marks-is
+            let short = word-short _ _ l.reading.bytes (rw c.requires.width at w.word_at-entry.ensures.upper_bound) in
+            let e = entry c.requires.onward c.loop-low-test.true c.loop-low.invariant.1 for (rw c.requires.width at w.word_at-entry.ensures.value) short w.said.ensures w.if-f-r.true in
+            held_same (held_keep e _ _ n (omega arith) w.keep.auto.output w.keep.auto.marks (rw (w.if-not-keep.false, c.requires.width) at w.keep.ensures)) _ _ w.output-is w.marks-is
         | else-f-r w ↦ held_same (held_skip c.loop-low.invariant.1 n _ (omega arith) for w.if-f-r.false) _ _ w.output-is w.marks-is
       ],
     )
